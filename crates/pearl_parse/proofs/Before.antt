@@ -1,5 +1,6 @@
 -- A list that may be missing, and the word behind it.
-use Rattle.std.proofs.Common.{◌≡◌, ℕ, ◌+◌, ◌≤◌, Bool, true, false, List, [], ◌∷◌, Option, Some, ◌⊎◌, refl, sym, ap, subst, ◌∙◌, arith}
+use Rattle.std.proofs.Common.{◌≡◌, ℕ, ◌+◌, ◌≤◌, Bool, true, false, List, [], ◌∷◌, Option, Some, ◌⊎◌, refl, sym, ap}
+use Rattle.std.proofs.Common.{subst, ◌∙◌, arith}
 use Rattle.pearl_tree.specs.declared.token.What.{What}
 use Rattle.pearl_tree.specs.declared.token.What.TheVariants as what
 use Rattle.pearl_tree.specs.declared.token.Token.{Token}
@@ -18,17 +19,21 @@ module _ {X : Type 0} (spells : List Token → Spelling X) (extends : Option Wha
     (apart : (others : List Token) (at : ℕ) (x : X) (to : ℕ) → HasWord others at word → spells others at x to → ⊥)
     (stops : extends (Some (what.Word word)) ≡ false) where
   -- where the word stands, the list is empty
-  pub at_once : (tokens : List Token) (from new : ℕ) → HasWord tokens from word → from ≤ new → IsOnly (SpellsBefore word spells) tokens from (from + 1) new
+  pub at_once : (tokens : List Token) (from new : ℕ) → HasWord tokens from word → from ≤ new →
+      IsOnly (SpellsBefore word spells) tokens from (from + 1) new
   at_once tokens from new here near = λ others agree xs to h. by others (sym (agree from near) ∙ here) xs to h
     where
-      by : (others : List Token) → HasWord others from word → (xs : List X) (to : ℕ) → SpellsBefore word spells others from xs to → to ≡ from + 1
+      by : (others : List Token) → HasWord others from word → (xs : List X) (to : ℕ) →
+          SpellsBefore word spells others from xs to → to ≡ from + 1
       by others here [] to h = omega (arith, h.1, h.3)
       by others here (x ∷ xs) to h = absurd (apart others from x h.1.0 here h.1.1)
 
   -- elsewhere it ends before the word
   as_list : (others : List Token) (from end : ℕ) → is_word word (what_at others from) ≡ false →
-      ((xs : List X) (to : ℕ) → SpellsList others (spells others) from xs to → (to ≡ end) ⊎ EndsEarly (by_comma extends) others end to) →
-      (xs : List X) (to : ℕ) → SpellsBefore word spells others from xs to → is_word word (Some (what.Word word)) ≡ true → HasWord others end word × (to ≡ end + 1)
+      ((xs : List X) (to : ℕ) → SpellsList others (spells others) from xs to → (to ≡ end) ⊎
+      EndsEarly (by_comma extends) others end to) →
+      (xs : List X) (to : ℕ) → SpellsBefore word spells others from xs to →
+      is_word word (Some (what.Word word)) ≡ true → HasWord others end word × (to ≡ end + 1)
   as_list others from end other longest [] to h itself =
       absurd (clash _ (ap (is_word word) (subst (λ k. HasWord others k word) h.1 h.2) ∙ itself) other)
   as_list others from end other longest (x ∷ xs) to h itself =
@@ -36,24 +41,34 @@ module _ {X : Type 0} (spells : List Token → Spelling X) (extends : Option Wha
       let same = settled (by_comma extends) others end h.0 (longest (x ∷ xs) h.0 h.1) none in
       (subst (λ k. HasWord others k word) same h.2, omega (arith, same, h.3))
 
-  pub behind_list : (tokens : List Token) (from end stop new : ℕ) → is_word word (Some (what.Word word)) ≡ true → is_word word (what_at tokens from) ≡ false → from ≤ new → stop ≤ new →
-      IsLongest (λ tokens. SpellsList tokens (spells tokens)) (by_comma extends) tokens from end stop → IsOnly (SpellsBefore word spells) tokens from (end + 1) new
+  pub behind_list : (tokens : List Token) (from end stop new : ℕ) → is_word word (Some (what.Word word)) ≡ true →
+      is_word word (what_at tokens from) ≡ false → from ≤ new → stop ≤ new →
+      IsLongest (λ tokens. SpellsList tokens (spells tokens)) (by_comma extends) tokens from end stop →
+      IsOnly (SpellsBefore word spells) tokens from (end + 1) new
   behind_list tokens from end stop new itself other near below longest = λ others agree xs to h.
       (as_list others from end (ap (is_word word) (sym (agree from near)) ∙ other)
       (λ xs to h. longest others (shorter tokens others stop new below agree) xs to h) xs to h itself).1
 
-  pub no_word_behind : (tokens : List Token) (from end stop : ℕ) → is_word word (Some (what.Word word)) ≡ true → is_word word (what_at tokens from) ≡ false → from ≤ stop → end ≤ stop →
-      IsLongest (λ tokens. SpellsList tokens (spells tokens)) (by_comma extends) tokens from end stop → is_word word (what_at tokens end) ≡ false →
-      (others : List Token) → BeginAlike tokens others stop → (xs : List X) (to : ℕ) → SpellsBefore word spells others from xs to → ⊥
+  pub no_word_behind : (tokens : List Token) (from end stop : ℕ) → is_word word (Some (what.Word word)) ≡ true →
+      is_word word (what_at tokens from) ≡ false → from ≤ stop → end ≤ stop →
+      IsLongest (λ tokens. SpellsList tokens (spells tokens)) (by_comma extends) tokens from end stop →
+      is_word word (what_at tokens end) ≡ false →
+      (others : List Token) → BeginAlike tokens others stop → (xs : List X) (to : ℕ) →
+      SpellsBefore word spells others from xs to → ⊥
   no_word_behind tokens from end stop itself other near below longest missing others agree xs to h =
-      let read = as_list others from end (ap (is_word word) (sym (agree from near)) ∙ other) (λ xs to h. longest others agree xs to h) xs to h itself in
+      let read = as_list others from end (ap (is_word word) (sym (agree from near)) ∙ other)
+      (λ xs to h. longest others agree xs to h) xs to h itself in
       clash _ (ap (is_word word) read.0 ∙ itself) (ap (is_word word) (sym (agree end below)) ∙ missing)
 
-  pub no_list : (tokens : List Token) (from : ℕ) (halt : Halt) → is_word word (Some (what.Word word)) ≡ true → is_word word (what_at tokens from) ≡ false →
-      IsHalted (λ tokens. SpellsList tokens (spells tokens)) tokens from halt → IsHalted (SpellsBefore word spells) tokens from halt
+  pub no_list : (tokens : List Token) (from : ℕ) (halt : Halt) → is_word word (Some (what.Word word)) ≡ true →
+      is_word word (what_at tokens from) ≡ false →
+      IsHalted (λ tokens. SpellsList tokens (spells tokens)) tokens from halt →
+      IsHalted (SpellsBefore word spells) tokens from halt
   no_list tokens from NoMemory itself other h = tt
   no_list tokens from (Refused stop) itself other h = (λ others agree xs to g. by others agree xs to g, h.1, h.2)
     where
-      by : (others : List Token) → BeginAlike tokens others stop → (xs : List X) (to : ℕ) → SpellsBefore word spells others from xs to → ⊥
-      by others agree [] to g = clash _ (ap (is_word word) (subst (λ k. HasWord others k word) g.1 g.2) ∙ itself) (ap (is_word word) (sym (agree from h.1)) ∙ other)
+      by : (others : List Token) → BeginAlike tokens others stop → (xs : List X) (to : ℕ) →
+          SpellsBefore word spells others from xs to → ⊥
+      by others agree [] to g = clash _ (ap (is_word word) (subst (λ k. HasWord others k word) g.1 g.2) ∙ itself)
+          (ap (is_word word) (sym (agree from h.1)) ∙ other)
       by others agree (x ∷ xs) to g = h.0 others agree (x ∷ xs) g.0 g.1

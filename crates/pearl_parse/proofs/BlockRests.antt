@@ -63,9 +63,11 @@ pub params_stop : Avoids by_bracket returns_rest
 params_stop others at to (None, m, h, rest) = ap by_bracket (subst (λ k. HasSymbol others k s.SEMICOLON) h rest.2.1)
 params_stop others at to (Some x, m, h, rest) = ap by_bracket h.1
 
-pub longest_later : {Y : Type 0} (spells : List Token → Spelling Y) (extends : Option What → Bool) (tokens : List Token) (from end stop new : ℕ) → stop ≤ new →
+pub longest_later : {Y : Type 0} (spells : List Token → Spelling Y) (extends : Option What → Bool) (tokens : List Token)
+    (from end stop new : ℕ) → stop ≤ new →
     IsLongest spells extends tokens from end stop → IsLongest spells extends tokens from end new
-longest_later spells extends tokens from end stop new below longest = λ others agree x to h. longest others (shorter tokens others stop new below agree) x to h
+longest_later spells extends tokens from end stop new below longest = λ others agree x to h. longest others
+    (shorter tokens others stop new below agree) x to h
 
 module _ (tokens : List Token) (from least_stop : ℕ) where
   pub opened_goes : Goes SpellsBlock tokens from opened_rest from least_stop
@@ -74,13 +76,15 @@ module _ (tokens : List Token) (from least_stop : ℕ) where
   pub body_goes : Goes SpellsBlock tokens from body_rest (from + 1) least_stop
   body_goes = λ others agree x to h. (x, h.0, h.2, (h.3, h.4, h.5))
 
-  pub end_goes : (end stop new : ℕ) → least_stop ≤ new → stop ≤ new → IsLongest SpellsWholeBody extends_body tokens (from + 1) end stop → Goes SpellsBlock tokens from end_rest end new
+  pub end_goes : (end stop new : ℕ) → least_stop ≤ new → stop ≤ new →
+      IsLongest SpellsWholeBody extends_body tokens (from + 1) end stop → Goes SpellsBlock tokens from end_rest end new
   end_goes end stop new below reach longest =
       past SpellsBlock tokens from SpellsWholeBody extends_body end_rest (from + 1) least_stop end new body_goes below
       (longest_later SpellsWholeBody extends_body tokens (from + 1) end stop new reach longest) end_stops
 
 -- a part is stopped no earlier than the part before it
-pub behind_is_stopped : {Y : Type 0} (spells : List Token → Spelling Y) (tokens : List Token) (from least_stop : ℕ) (halt : Halt) → least_stop ≤ length tokens →
+pub behind_is_stopped : {Y : Type 0} (spells : List Token → Spelling Y) (tokens : List Token) (from least_stop : ℕ)
+    (halt : Halt) → least_stop ≤ length tokens →
     IsHalted spells tokens from halt → IsStopped spells tokens from least_stop (readings.behind halt least_stop)
 behind_is_stopped spells tokens from least_stop NoMemory within h = tt
 behind_is_stopped spells tokens from least_stop (Refused stop) within h = (

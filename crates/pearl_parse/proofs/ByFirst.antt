@@ -13,14 +13,17 @@ use Rattle.pearl_tree.specs.declared.statement.SemaWord.{SemaWord}
 use Rattle.pearl_tree.specs.declared.statement.SemaWord.TheVariants.{Request, Release}
 use Rattle.pearl_tree.specs.declared.statement.InterruptWord.{InterruptWord}
 use Rattle.pearl_tree.specs.declared.statement.InterruptWord.TheVariants.{Enable, Disable, Trigger}
-use Rattle.pearl_tree.specs.declared.statement.Stmt.{Stmt, Empty, Assign, Call, If', Case', Repeat', Exit, Begin', Return, Activate, Continue, Resume, OnTask, OnSemas, OnInterrupt, Put, Get, Send, Take}
+use Rattle.pearl_tree.specs.declared.statement.Stmt.{Stmt, Empty, Assign, Call, If', Case', Repeat', Exit, Begin'}
+use Rattle.pearl_tree.specs.declared.statement.Stmt.{Return, Activate, Continue, Resume, OnTask, OnSemas, OnInterrupt}
+use Rattle.pearl_tree.specs.declared.statement.Stmt.{Put, Get, Send, Take}
 use Rattle.pearl_tree.specs.declared.statement.If as if_
 use Rattle.pearl_tree.specs.declared.statement.Case as case_
 use Rattle.pearl_tree.specs.declared.token.What.{What}
 use Rattle.pearl_tree.specs.declared.token.What.TheVariants as what
 use Rattle.pearl_tree.specs.declared.token.Token.{Token}
 use Rattle.pearl_tree.specs.Standing.{HasWord, IsName, SpellsFlag, SpellsMaybe, what_at}
-use Rattle.pearl_tree.specs.Statements.{SpellsAfter, SpellsFor, SpellsStart, SpellsOnce, SpellsStmt, task_word, sema_word, interrupt_word}
+use Rattle.pearl_tree.specs.Statements.{SpellsAfter, SpellsFor, SpellsStart, SpellsOnce, SpellsStmt, task_word}
+use Rattle.pearl_tree.specs.Statements.{sema_word, interrupt_word}
 use Rattle.pearl_tree.specs.declared.symbol.TheConstants as s
 use Rattle.pearl_tree.specs.declared.word_code.TheConstants as w
 use Rattle.pearl_tree.proofs.OneStatement.{group_of}
@@ -55,10 +58,12 @@ module _ (tokens : List Token) where
     pub kind : group_of first ≡ Some n
     pub begins : begins_statement (Some first) ≡ true
 
-  leads : (k : ℕ) (first : What) (n : ℕ) → what_at tokens k ≡ Some first → group_of first ≡ Some n → begins_statement (Some first) ≡ true → Leads k n
+  leads : (k : ℕ) (first : What) (n : ℕ) → what_at tokens k ≡ Some first → group_of first ≡ Some n →
+      begins_statement (Some first) ≡ true → Leads k n
   leads k first n here kind begins = record { first = first; here = here; kind = kind; begins = begins }
 
-  lead_after : (word : ℕ) (o : Option Expr) (m n : ℕ) → SpellsMaybe (SpellsAfter tokens word) m o n → group_of (what.Word word) ≡ Some 5 → begins_statement (Some (what.Word word)) ≡ true → Leads n 5 → Leads m 5
+  lead_after : (word : ℕ) (o : Option Expr) (m n : ℕ) → SpellsMaybe (SpellsAfter tokens word) m o n →
+      group_of (what.Word word) ≡ Some 5 → begins_statement (Some (what.Word word)) ≡ true → Leads n 5 → Leads m 5
   lead_after word None m n h e b i = subst (λ k. Leads k 5) h i
   lead_after word (Some x) m n h e b i = leads m (what.Word word) 5 h.0 e b
 
@@ -78,16 +83,21 @@ module _ (tokens : List Token) where
   lead_once from (once.When n p) to h = leads from (what.Word w.WHEN) 9 h.1 refl refl
 
   -- [ CALL ] id
-  lead_call : (from : ℕ) (call : Bool) (name : Name) (a : ℕ) → SpellsFlag tokens w.CALL from call a → IsName tokens a name → Leads from 1
+  lead_call : (from : ℕ) (call : Bool) (name : Name) (a : ℕ) → SpellsFlag tokens w.CALL from call a →
+      IsName tokens a name → Leads from 1
   lead_call from false name a h i = leads from (what.Id name.text) 1 (subst (λ k. IsName tokens k name) h i).0 refl refl
   lead_call from true name a h i = leads from (what.Word w.CALL) 1 h.0 refl refl
 
-  lead_activate : (from : ℕ) (start : Option Start) (a : ℕ) → SpellsMaybe (SpellsStart tokens) from start a → HasWord tokens a w.ACTIVATE → Leads from 9
-  lead_activate from None a h i = leads from (what.Word w.ACTIVATE) 9 (subst (λ k. HasWord tokens k w.ACTIVATE) h i) refl refl
+  lead_activate : (from : ℕ) (start : Option Start) (a : ℕ) → SpellsMaybe (SpellsStart tokens) from start a →
+      HasWord tokens a w.ACTIVATE → Leads from 9
+  lead_activate from None a h i = leads from (what.Word w.ACTIVATE) 9 (subst (λ k. HasWord tokens k w.ACTIVATE) h i)
+      refl refl
   lead_activate from (Some x) a h i = lead_start from x a h
 
-  lead_continue : (from : ℕ) (once : Option Once) (a : ℕ) → SpellsMaybe (SpellsOnce tokens) from once a → HasWord tokens a w.CONTINUE → Leads from 9
-  lead_continue from None a h i = leads from (what.Word w.CONTINUE) 9 (subst (λ k. HasWord tokens k w.CONTINUE) h i) refl refl
+  lead_continue : (from : ℕ) (once : Option Once) (a : ℕ) → SpellsMaybe (SpellsOnce tokens) from once a →
+      HasWord tokens a w.CONTINUE → Leads from 9
+  lead_continue from None a h i = leads from (what.Word w.CONTINUE) 9 (subst (λ k. HasWord tokens k w.CONTINUE) h i)
+      refl refl
   lead_continue from (Some x) a h i = lead_once from x a h
 
   lead_task : (from : ℕ) (word : TaskWord) → HasWord tokens from (task_word word) → Leads from 10
@@ -111,7 +121,8 @@ module _ (tokens : List Token) where
   stmt_leads depth from (If' _ (if_.If' x _ r o p)) to h = leads from (what.Word w.IF) 3 h.5.0 refl refl
   stmt_leads depth from (Case' _ (case_.Case' x _ r o p)) to h = leads from (what.Word w.CASE) 4 h.5.0 refl refl
   stmt_leads depth from (Repeat' _ a b c d e ds _ r q p) to h =
-      lead_for a from h.0 h.8 (lead_after w.FROM b h.0 h.1 h.9 refl refl (lead_after w.BY c h.1 h.2 h.10 refl refl (lead_after w.TO d h.2 h.3 h.11 refl refl
+      lead_for a from h.0 h.8 (lead_after w.FROM b h.0 h.1 h.9 refl refl
+      (lead_after w.BY c h.1 h.2 h.10 refl refl (lead_after w.TO d h.2 h.3 h.11 refl refl
       (lead_after w.WHILE e h.3 h.4 h.12 refl refl (leads h.4 (what.Word w.REPEAT) 5 h.13 refl refl)))))
   stmt_leads depth from (Exit p) to h = leads from (what.Word w.EXIT) 6 h.1 refl refl
   stmt_leads depth from (Begin' _ ds _ r q p) to h = leads from (what.Word w.BEGIN) 7 h.3 refl refl
@@ -127,7 +138,8 @@ module _ (tokens : List Token) where
   stmt_leads depth from (Send part) to h = leads from (what.Word w.SEND) 15 h.2.0 refl refl
   stmt_leads depth from (Take part) to h = leads from (what.Word w.TAKE) 16 h.2 refl refl
 
-  pub stmt_begins : (depth from : ℕ) (a : Stmt) (to : ℕ) → SpellsStmt tokens depth from a to → begins_statement (what_at tokens from) ≡ true
+  pub stmt_begins : (depth from : ℕ) (a : Stmt) (to : ℕ) → SpellsStmt tokens depth from a to →
+      begins_statement (what_at tokens from) ≡ true
   stmt_begins depth from a to h = let lead = stmt_leads depth from a to h in ap begins_statement lead.here ∙ lead.begins
 
   -- a statement that begins with this token is of its kind

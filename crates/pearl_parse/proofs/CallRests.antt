@@ -1,5 +1,6 @@
 -- What is left of an assignment, a call or a return behind its first tokens.
-use Rattle.std.proofs.Common.{◌≡◌, ℕ, ◌+◌, ◌≤◌, Bool, true, false, List, [], ◌∷◌, Option, Some, None, ◌⊎◌, inl, inr, T, eqb, option_map, slice_get, refl, sym, ap, subst, ◌∙◌, arith, true≢false}
+use Rattle.std.proofs.Common.{◌≡◌, ℕ, ◌+◌, ◌≤◌, Bool, true, false, List, [], ◌∷◌, Option, Some, None, ◌⊎◌, inl, inr, T}
+use Rattle.std.proofs.Common.{eqb, option_map, slice_get, refl, sym, ap, subst, ◌∙◌, arith, true≢false}
 use Rattle.pearl_tree.specs.declared.name.Name.{Name}
 use Rattle.pearl_tree.specs.declared.parts.Parts.{Parts}
 use Rattle.pearl_tree.specs.declared.expression.Expr.{Expr}
@@ -8,7 +9,8 @@ use Rattle.pearl_tree.specs.declared.statement.Stmt.{Stmt, Assign, Call, Return}
 use Rattle.pearl_tree.specs.declared.token.What.{What}
 use Rattle.pearl_tree.specs.declared.token.What.TheVariants as what
 use Rattle.pearl_tree.specs.declared.token.Token.{Token}
-use Rattle.pearl_tree.specs.Standing.{IsAt, HasWord, HasSymbol, IsName, SpellsFlag, SpellsMaybe, SpellsEach, SpellsList, SpellsMaybeBracketed, what_at}
+use Rattle.pearl_tree.specs.Standing.{IsAt, HasWord, HasSymbol, IsName, SpellsFlag, SpellsMaybe, SpellsEach, SpellsList}
+use Rattle.pearl_tree.specs.Standing.{SpellsMaybeBracketed, what_at}
 use Rattle.pearl_tree.specs.Expressions.{SpellsWhole, SpellsSelector}
 use Rattle.pearl_tree.specs.Statements.{SpellsStmt, SpellsValue}
 use Rattle.pearl_tree.specs.declared.symbol.TheConstants as s
@@ -17,7 +19,8 @@ use Rattle.pearl_tree.proofs.ExpressionLists.{spells_subscripts}
 use Rattle.pearl_tree.proofs.OneStatement.{group_of}
 use Rattle.pearl_parse_expr.specs.declared.reading.Halt.{Halt}
 use Rattle.pearl_parse_expr.specs.declared.reading.Halt.TheVariants.{Refused, NoMemory}
-use Rattle.pearl_parse_expr.specs.Stops.{IsLongest, Stuck, EndsEarly, IsHalted, extends_expression, extends_operand, is_name, is_symbol}
+use Rattle.pearl_parse_expr.specs.Stops.{IsLongest, Stuck, EndsEarly, IsHalted, extends_expression, extends_operand}
+use Rattle.pearl_parse_expr.specs.Stops.{is_name, is_symbol}
 use Rattle.pearl_parse_expr.proofs.Primaries.{clash}
 use Rattle.pearl_parse_expr.proofs.Parts.{shorter}
 use Rattle.pearl_parse_decl.specs.Readings.{by_comma}
@@ -26,7 +29,7 @@ use Rattle.pearl_parse.specs.Stops.{SpellsOwnNamed}
 use Rattle.pearl_parse.specs.Calls.{SpellsOptionalValue, SpellsArguments, is_becomes}
 use Rattle.pearl_parse.proofs.ByFirst.{group, of_kind}
 use Rattle.pearl_parse.proofs.Steps.{Rest, Ends, Then, Goes}
-use Rattle.pearl_parse.proofs.LeafRests.{Spelled, exit_rest, behind_word}
+use Rattle.pearl_parse.proofs.StatementRests.{Spelled, exit_rest, behind_word}
 
 abbrev pub return_rest : Rest
 return_rest = Then SpellsOptionalValue exit_rest
@@ -48,13 +51,16 @@ closed_rest others at to = HasSymbol others at s.RIGHT_ROUND × HasSymbol others
 
 module _ (others : List Token) (from : ℕ) where
   pub bracketed_end : (end : ℕ) → HasSymbol others from s.LEFT_ROUND →
-      ((xs : List Expr) (to : ℕ) → SpellsList others (SpellsWhole others) (from + 1) xs to → (to ≡ end) ⊎ EndsEarly (by_comma extends_expression) others end to) →
+      ((xs : List Expr) (to : ℕ) → SpellsList others (SpellsWhole others) (from + 1) xs to → (to ≡ end) ⊎
+      EndsEarly (by_comma extends_expression) others end to) →
       (xs : List Expr) (to : ℕ) → SpellsArguments others from xs to → closed_rest others end to
   bracketed_end end bracket longest [] to h =
-      absurd (clash _ (ap (is_symbol s.SEMICOLON) (subst (λ k. HasSymbol others k s.SEMICOLON) h.1 h.2)) (ap (is_symbol s.SEMICOLON) bracket))
+      absurd (clash _ (ap (is_symbol s.SEMICOLON) (subst (λ k. HasSymbol others k s.SEMICOLON) h.1 h.2))
+      (ap (is_symbol s.SEMICOLON) bracket))
   bracketed_end end bracket longest (x ∷ xs) to h =
       let inner = h.1 in
-      let same : inner.0 ≡ end = settled (by_comma extends_expression) others end inner.0 (longest (x ∷ xs) inner.0 inner.2) (ap (by_comma extends_expression) inner.3) in (
+      let same : inner.0 ≡ end = settled (by_comma extends_expression) others end inner.0
+      (longest (x ∷ xs) inner.0 inner.2) (ap (by_comma extends_expression) inner.3) in (
         subst (λ k. HasSymbol others k s.RIGHT_ROUND) same inner.3,
         subst (λ k. HasSymbol others k s.SEMICOLON) (inner.4 ∙ ap (λ k. k + 1) same) h.2,
         omega (arith, same, inner.4, h.3),
@@ -62,20 +68,26 @@ module _ (others : List Token) (from : ℕ) where
 
 module _ (tokens : List Token) (from : ℕ) where
   pub arguments_go : (end stop new : ℕ) → HasSymbol tokens from s.LEFT_ROUND → from ≤ new → stop ≤ new →
-      IsLongest (λ tokens. SpellsList tokens (SpellsWhole tokens)) (by_comma extends_expression) tokens (from + 1) end stop →
+      IsLongest (λ tokens. SpellsList tokens (SpellsWhole tokens)) (by_comma extends_expression) tokens (from + 1) end
+      stop →
       Goes SpellsArguments tokens from closed_rest end new
   arguments_go end stop new bracket near below longest = λ others agree xs to h.
-      bracketed_end others from end (sym (agree from near) ∙ bracket) (λ xs to h. longest others (shorter tokens others stop new below agree) xs to h) xs to h
+      bracketed_end others from end (sym (agree from near) ∙ bracket)
+      (λ xs to h. longest others (shorter tokens others stop new below agree) xs to h) xs to h
 
   pub arguments_stuck : (stop new : ℕ) → HasSymbol tokens from s.LEFT_ROUND → from ≤ new → stop ≤ new →
-      Stuck (λ tokens. SpellsList tokens (SpellsWhole tokens)) tokens (from + 1) stop → Stuck SpellsArguments tokens from new
+      Stuck (λ tokens. SpellsList tokens (SpellsWhole tokens)) tokens (from + 1) stop →
+      Stuck SpellsArguments tokens from new
   arguments_stuck stop new bracket near below stuck = λ others agree xs to h.
-      by others (sym (agree from near) ∙ bracket) (λ xs to h. stuck others (shorter tokens others stop new below agree) xs to h) xs to h
+      by others (sym (agree from near) ∙ bracket) (λ xs to h. stuck others (shorter tokens others stop new below agree)
+      xs to h) xs to h
     where
-      by : (others : List Token) → HasSymbol others from s.LEFT_ROUND → ((xs : List Expr) (to : ℕ) → SpellsList others (SpellsWhole others) (from + 1) xs to → ⊥) →
+      by : (others : List Token) → HasSymbol others from s.LEFT_ROUND →
+          ((xs : List Expr) (to : ℕ) → SpellsList others (SpellsWhole others) (from + 1) xs to → ⊥) →
           (xs : List Expr) (to : ℕ) → SpellsArguments others from xs to → ⊥
       by others bracket stuck [] to h =
-          clash _ (ap (is_symbol s.SEMICOLON) (subst (λ k. HasSymbol others k s.SEMICOLON) h.1 h.2)) (ap (is_symbol s.SEMICOLON) bracket)
+          clash _ (ap (is_symbol s.SEMICOLON) (subst (λ k. HasSymbol others k s.SEMICOLON) h.1 h.2))
+          (ap (is_symbol s.SEMICOLON) bracket)
       by others bracket stuck (x ∷ xs) to h = stuck (x ∷ xs) h.1.0 h.1.2
 
 -- ---- the name and the arguments of a call, as a reference
@@ -89,7 +101,8 @@ module _ (tokens : List Token) where
       by None e = absurd (let e = e in cc e)
       by (Some token) e = (token.place, refl)
 
-  as_selectors : (from : ℕ) (arguments : Parts Expr) (to : ℕ) → SpellsMaybeBracketed tokens (SpellsWhole tokens) from arguments.items.items to →
+  as_selectors : (from : ℕ) (arguments : Parts Expr) (to : ℕ) →
+      SpellsMaybeBracketed tokens (SpellsWhole tokens) from arguments.items.items to →
       (xs : List Selector) × SpellsEach (SpellsSelector tokens 33) from xs to
   as_selectors from arguments to h = by arguments.items.items refl h
     where
@@ -99,18 +112,22 @@ module _ (tokens : List Token) where
       by (y ∷ ys) e h =
           let place = place_of from s.LEFT_ROUND h.1 in
           let list = subst (λ zs. SpellsList tokens (SpellsWhole tokens) (from + 1) zs h.0) (sym e) h.2 in
-          let selector = subst (λ X. X) (sym (spells_subscripts tokens 33 from arguments place.0 to)) (h.0, place.1, h.1, omega arith, list, h.3, h.4) in
+          let selector = subst (λ X. X) (sym (spells_subscripts tokens 33 from arguments place.0 to))
+          (h.0, place.1, h.1, omega arith, list, h.3, h.4) in
           (Subscripts arguments place.0 ∷ [], (to, selector, refl))
 
-becomes_here : (token : Option What) → (token ≡ Some (what.Symbol s.BECOMES)) ⊎ (token ≡ Some (what.Symbol s.EQUALS_SIGN)) → is_becomes token ≡ true
+becomes_here : (token : Option What) → (token ≡ Some (what.Symbol s.BECOMES)) ⊎
+    (token ≡ Some (what.Symbol s.EQUALS_SIGN)) → is_becomes token ≡ true
 becomes_here token (inl h) = ap is_becomes h
 becomes_here token (inr h) = ap is_becomes h
 
-becomes_stops : (token : Option What) → (token ≡ Some (what.Symbol s.BECOMES)) ⊎ (token ≡ Some (what.Symbol s.EQUALS_SIGN)) → extends_operand token ≡ false
+becomes_stops : (token : Option What) → (token ≡ Some (what.Symbol s.BECOMES)) ⊎
+    (token ≡ Some (what.Symbol s.EQUALS_SIGN)) → extends_operand token ≡ false
 becomes_stops token (inl h) = ap extends_operand h
 becomes_stops token (inr h) = ap extends_operand h
 
-name_here : (token : Option What) → is_name token ≡ true → (first : What) × (token ≡ Some first) × (group_of first ≡ Some 1)
+name_here : (token : Option What) → is_name token ≡ true → (first : What) × (token ≡ Some first) ×
+    (group_of first ≡ Some 1)
 name_here (Some (what.Id text)) h = (what.Id text, refl, refl)
 name_here (Some (what.Word code)) h = absurd (true≢false (sym h))
 name_here (Some (what.Number value)) h = absurd (true≢false (sym h))
@@ -123,11 +140,15 @@ name_here None h = absurd (true≢false (sym h))
 
 -- a statement that begins with a name, by the token behind its reference
 module _ (others : List Token) (depth from end : ℕ) (named : is_name (what_at others from) ≡ true)
-    (longest : (xs : List Selector) (to : ℕ) → SpellsOwnNamed others from xs to → (to ≡ end) ⊎ EndsEarly extends_operand others end to) where
+    (longest : (xs : List Selector) (to : ℕ) → SpellsOwnNamed others from xs to → (to ≡ end) ⊎
+    EndsEarly extends_operand others end to) where
   kind_one : (a : Stmt) (to : ℕ) → SpellsStmt others depth from a to → T (eqb (group a) 1)
-  kind_one a to h = let first = name_here (what_at others from) named in of_kind others depth from 1 first.0 first.1 first.2 a to h
+  kind_one a to h = let first = name_here (what_at others from) named in
+      of_kind others depth from 1 first.0 first.1 first.2 a to h
 
-  call_end : (arguments : Parts Expr) (b : ℕ) → SpellsMaybeBracketed others (SpellsWhole others) (from + 1) arguments.items.items b → HasSymbol others b s.SEMICOLON →
+  call_end : (arguments : Parts Expr) (b : ℕ) →
+      SpellsMaybeBracketed others (SpellsWhole others) (from + 1) arguments.items.items b →
+      HasSymbol others b s.SEMICOLON →
       HasSymbol others end s.SEMICOLON
   call_end arguments b h i =
       let list = as_selectors others (from + 1) arguments b h in
@@ -139,47 +160,64 @@ module _ (others : List Token) (depth from end : ℕ) (named : is_name (what_at 
   without_call false a h = h
   without_call true a h = absurd (clash _ named (ap is_name h.0))
 
-  pub an_assignment : is_becomes (what_at others end) ≡ true → (a : Stmt) (to : ℕ) → SpellsStmt others depth from a to → value_rest others (end + 1) to
+  pub an_assignment : is_becomes (what_at others end) ≡ true → (a : Stmt) (to : ℕ) → SpellsStmt others depth from a to →
+      value_rest others (end + 1) to
   an_assignment here a to h = by a (kind_one a to h) h
     where
       by : (a : Stmt) → T (eqb (group a) 1) → SpellsStmt others depth from a to → value_rest others (end + 1) to
       by (Assign part) e h =
-          let same = settled extends_operand others end h.0 (longest part.value.target.selectors.items.items h.0 (named, h.3.2)) (becomes_stops (what_at others h.0) h.4) in
+          let same = settled extends_operand others end h.0 (longest part.value.target.selectors.items.items h.0
+          (named, h.3.2)) (becomes_stops (what_at others h.0) h.4) in
           (part.value.value, h.1, subst (λ k. SpellsWhole others (k + 1) part.value.value h.1) same h.5, (h.6, h.7))
       by (Call part) e h =
           let arguments = part.value.arguments in
-          let behind = subst (λ k. SpellsMaybeBracketed others (SpellsWhole others) (k + 1) arguments.items.items h.1) (without_call part.value.call h.0 h.3) h.5 in
+          let behind = subst (λ k. SpellsMaybeBracketed others (SpellsWhole others) (k + 1) arguments.items.items h.1)
+          (without_call part.value.call h.0 h.3) h.5 in
           absurd (clash _ here (ap is_becomes (call_end arguments h.1 behind h.6)))
       by a e h = absurd e
 
-  pub a_call : is_becomes (what_at others end) ≡ false → (a : Stmt) (to : ℕ) → SpellsStmt others depth from a to → arguments_rest others (from + 1) to
+  pub a_call : is_becomes (what_at others end) ≡ false → (a : Stmt) (to : ℕ) → SpellsStmt others depth from a to →
+      arguments_rest others (from + 1) to
   a_call other a to h = by a (kind_one a to h) h
     where
       by : (a : Stmt) → T (eqb (group a) 1) → SpellsStmt others depth from a to → arguments_rest others (from + 1) to
       by (Assign part) e h =
-          let same = settled extends_operand others end h.0 (longest part.value.target.selectors.items.items h.0 (named, h.3.2)) (becomes_stops (what_at others h.0) h.4) in
-          absurd (clash _ (subst (λ k. is_becomes (what_at others k) ≡ true) same (becomes_here (what_at others h.0) h.4)) other)
+          let same = settled extends_operand others end h.0 (longest part.value.target.selectors.items.items h.0
+          (named, h.3.2)) (becomes_stops (what_at others h.0) h.4) in
+          absurd (clash _ (subst (λ k. is_becomes (what_at others k) ≡ true) same
+          (becomes_here (what_at others h.0) h.4)) other)
       by (Call part) e h =
           let arguments = part.value.arguments.items.items in
-          let behind = subst (λ k. SpellsMaybeBracketed others (SpellsWhole others) (k + 1) arguments h.1) (without_call part.value.call h.0 h.3) h.5 in
+          let behind = subst (λ k. SpellsMaybeBracketed others (SpellsWhole others) (k + 1) arguments h.1)
+          (without_call part.value.call h.0 h.3) h.5 in
           (arguments, to, (h.1, behind, h.6, h.7), refl)
       by a e h = absurd e
 
 module _ (others : List Token) (from : ℕ) where
-  optional_value : (x : Option Expr) (a : ℕ) → SpellsMaybe (SpellsValue others) from x a → HasSymbol others a s.SEMICOLON → SpellsOptionalValue others from x a
+  optional_value : (x : Option Expr) (a : ℕ) → SpellsMaybe (SpellsValue others) from x a →
+      HasSymbol others a s.SEMICOLON → SpellsOptionalValue others from x a
   optional_value None a h i = (h, ap (is_symbol s.LEFT_ROUND) (subst (λ k. HasSymbol others k s.SEMICOLON) h i))
   optional_value (Some x) a h i = h
 
-  behind_call : (call : Bool) (name : Name) (a : ℕ) → HasWord others from w.CALL → SpellsFlag others w.CALL from call a → IsName others a name → a ≡ from + 1
-  behind_call false name a word h i = absurd (clash _ (ap is_name (subst (λ k. IsName others k name) h i).0) (ap is_name word))
+  behind_call : (call : Bool) (name : Name) (a : ℕ) → HasWord others from w.CALL →
+      SpellsFlag others w.CALL from call a → IsName others a name → a ≡ from + 1
+  behind_call false name a word h i = absurd (clash _ (ap is_name (subst (λ k. IsName others k name) h i).0)
+      (ap is_name word))
   behind_call true name a word h i = h.1
 
 module _ (tokens : List Token) (depth from : ℕ) where
   pub return_goes : HasWord tokens from w.RETURN → Goes (Spelled depth) tokens from return_rest (from + 1) from
   return_goes here = behind_word tokens depth from w.RETURN 8 return_rest here refl by
     where
-      by : (others : List Token) (a : Stmt) (to : ℕ) → T (eqb (group a) 8) → SpellsStmt others depth from a to → return_rest others (from + 1) to
-      by others (Return part) to e h = (part.value.value, h.0, optional_value others (from + 1) part.value.value h.0 h.3 h.4, (h.4, h.5))
+      by : (others : List Token) (a : Stmt) (to : ℕ) → T (eqb (group a) 8) → SpellsStmt others depth from a to →
+          return_rest others (from + 1) to
+      by others (Return part) to e h = (
+        part.value.value,
+        h.0,
+        optional_value others (from + 1) part.value.value h.0 h.3
+            h.4,
+        (h.4, h.5),
+      )
       by others a to e h = absurd e
 
   pub call_goes : HasWord tokens from w.CALL → Goes (Spelled depth) tokens from call_rest (from + 1) from
@@ -187,13 +225,25 @@ module _ (tokens : List Token) (depth from : ℕ) where
       let word = sym (agree from (omega arith)) ∙ here in
       by others a to word (of_kind others depth from 1 (what.Word w.CALL) word refl a to h) h
     where
-      by : (others : List Token) (a : Stmt) (to : ℕ) → HasWord others from w.CALL → T (eqb (group a) 1) → SpellsStmt others depth from a to → call_rest others (from + 1) to
+      by : (others : List Token) (a : Stmt) (to : ℕ) → HasWord others from w.CALL → T (eqb (group a) 1) →
+          SpellsStmt others depth from a to → call_rest others (from + 1) to
       by others (Assign part) to word e h = absurd (clash _ (ap is_name h.3.1.0) (ap is_name word))
       by others (Call part) to word e h =
           let behind = behind_call others from part.value.call part.value.name h.0 word h.3 h.4 in
           let arguments = part.value.arguments.items.items in (
             ap is_name (subst (λ k. IsName others k part.value.name) behind h.4).0,
-            (arguments, to, (h.1, subst (λ k. SpellsMaybeBracketed others (SpellsWhole others) (k + 1) arguments h.1) behind h.5, h.6, h.7), refl),
+            (
+              arguments,
+              to,
+              (
+                h.1,
+                subst (λ k. SpellsMaybeBracketed others (SpellsWhole others) (k + 1) arguments h.1)
+                    behind h.5,
+                h.6,
+                h.7,
+              ),
+              refl,
+            ),
           )
       by others a to word e h = absurd e
 
@@ -202,18 +252,22 @@ module _ (tokens : List Token) (depth from : ℕ) where
       let two : from + 1 + 1 ≡ from + 2 = omega arith in
       subst (λ k. arguments_rest others k to) two (call_goes here others agree a to h).1
 
-  pub assign_goes : (end stop : ℕ) → is_name (what_at tokens from) ≡ true → from ≤ stop → end ≤ stop → IsLongest SpellsOwnNamed extends_operand tokens from end stop →
+  pub assign_goes : (end stop : ℕ) → is_name (what_at tokens from) ≡ true → from ≤ stop → end ≤ stop →
+      IsLongest SpellsOwnNamed extends_operand tokens from end stop →
       is_becomes (what_at tokens end) ≡ true → Goes (Spelled depth) tokens from value_rest (end + 1) stop
   assign_goes end stop name near below longest here = λ others agree a to h.
-      an_assignment others depth from end (ap is_name (sym (agree from near)) ∙ name) (λ xs to h. longest others agree xs to h)
+      an_assignment others depth from end (ap is_name (sym (agree from near)) ∙ name)
+      (λ xs to h. longest others agree xs to h)
       (ap is_becomes (sym (agree end below)) ∙ here) a to h
 
-  pub named_call_goes : (end stop : ℕ) → is_name (what_at tokens from) ≡ true → from ≤ stop → end ≤ stop → IsLongest SpellsOwnNamed extends_operand tokens from end stop →
+  pub named_call_goes : (end stop : ℕ) → is_name (what_at tokens from) ≡ true → from ≤ stop → end ≤ stop →
+      IsLongest SpellsOwnNamed extends_operand tokens from end stop →
       is_becomes (what_at tokens end) ≡ false → Goes (Spelled depth) tokens from arguments_rest (from + 1) stop
   named_call_goes end stop name near below longest other = λ others agree a to h.
       a_call others depth from end (ap is_name (sym (agree from near)) ∙ name) (λ xs to h. longest others agree xs to h)
       (ap is_becomes (sym (agree end below)) ∙ other) a to h
 
-  pub no_named : (halt : Halt) → is_name (what_at tokens from) ≡ true → IsHalted SpellsOwnNamed tokens from halt → IsHalted (Spelled depth) tokens from halt
+  pub no_named : (halt : Halt) → is_name (what_at tokens from) ≡ true → IsHalted SpellsOwnNamed tokens from halt →
+      IsHalted (Spelled depth) tokens from halt
   no_named NoMemory name h = tt
   no_named (Refused stop) name h = absurd (h.0 tokens (λ k below. refl) [] (from + 1) (name, refl))

@@ -1,6 +1,7 @@
 -- Which statement a first token begins, by the table of first words.
 use Rattle.std.specs.Option.{option_map}
-use Rattle.std.proofs.Common.{if◌then◌else◌, ◌≡◌, ℕ, ◌==◌, ◌||◌, Bool, true, false, List, [], ◌∷◌, Option, Some, None, IfSome, ◌<◌, length, map, get_or, refl, sym, ap, subst, ◌∙◌}
+use Rattle.std.proofs.Common.{if◌then◌else◌, ◌≡◌, ℕ, ◌==◌, ◌||◌, Bool, true, false, List, [], ◌∷◌, Option, Some, None}
+use Rattle.std.proofs.Common.{IfSome, ◌<◌, length, map, get_or, refl, sym, ap, subst, ◌∙◌}
 use Rattle.std.proofs.lemmas.Bool.{eqb-true}
 use Rattle.std.proofs.lemmas.Option.{slice_get_read}
 use Rattle.pearl_tree.specs.declared.token.What.{What}
@@ -10,9 +11,9 @@ use Rattle.pearl_tree.specs.Standing.{what_at, HasWord}
 use Rattle.pearl_tree.specs.declared.symbol.TheConstants as s
 use Rattle.pearl_tree.specs.declared.word_code.TheConstants as w
 use Rattle.pearl_parse_expr.specs.Stops.{is_name}
-use Rattle.pearl_parse.specs.declared.first.Simple.TheVariants as simple
-use Rattle.pearl_parse.specs.declared.first.First.{First}
-use Rattle.pearl_parse.specs.declared.first.First.TheVariants as first
+use Rattle.pearl_parse.specs.declared.statement.Simple.TheVariants as simple
+use Rattle.pearl_parse.specs.declared.statement.First.{First}
+use Rattle.pearl_parse.specs.declared.statement.First.TheVariants as first
 use Rattle.pearl_parse.specs.Stops.{is_among, begins_statement}
 use Rattle.pearl_parse.specs.Bodies.{is_one, loop_words}
 use Rattle.pearl_parse.specs.FirstWords.{first_words}
@@ -45,23 +46,99 @@ some_in tokens k (row ∷ rows) code kind right here h =
         (first_in rows code ≡ Some kind → BeginsAs tokens k kind) → BeginsAs tokens k kind
     by true is h rest =
         let e : row.1 ≡ kind = let e = h in cc e in
-        subst (λ kind. BeginsAs tokens k kind) e (right.0 (subst (λ code. HasWord tokens k code) (eqb-true code row.0 is) here))
+        subst (λ kind. BeginsAs tokens k kind) e
+        (right.0 (subst (λ code. HasWord tokens k code) (eqb-true code row.0 is) here))
     by false is h rest = rest h
 
 are_right : (tokens : List Token) (k : ℕ) → AreRight tokens k first_words
 are_right tokens k =
-    let loop : (word : ℕ) → is_among loop_words word ≡ true → HasWord tokens k word → is_one loop_words (what_at tokens k) ≡ true =
-    λ word known h. ap (is_one loop_words) h ∙ known in
-    (λ h. h, (λ h. h, (λ h. h, (loop w.FOR refl, (loop w.FROM refl, (loop w.BY refl, (loop w.TO refl, (loop w.WHILE refl, (loop w.REPEAT refl, (λ h. h, (λ h. h, (λ h. h, (λ h. h, (λ h. h, (λ h. h, (λ h. h, (λ h. h, (λ h. h, (λ h. h, (λ h. h, (λ h. h, (λ h. h, (λ h. h, (λ h. h, (λ h. h, (λ h. h, (λ h. h, (λ h. h, (λ h. h, (λ h. h, tt))))))))))))))))))))))))))))))
+    let loop : (word : ℕ) → is_among loop_words word ≡ true → HasWord tokens k word →
+    is_one loop_words (what_at tokens k) ≡ true =
+    λ word known h. ap (is_one loop_words) h ∙ known in (
+      λ h. h,
+      (
+        λ h. h,
+        (
+          λ h. h,
+          (
+            loop w.FOR refl,
+            (
+              loop w.FROM refl,
+              (
+                loop w.BY refl,
+                (
+                  loop w.TO refl,
+                  (
+                    loop w.WHILE refl,
+                    (
+                      loop w.REPEAT refl,
+                      (
+                        λ h. h,
+                        (
+                          λ h. h,
+                          (
+                            λ h. h,
+                            (
+                              λ h. h,
+                              (
+                                λ h. h,
+                                (
+                                  λ h. h,
+                                  (
+                                    λ h. h,
+                                    (
+                                      λ h. h,
+                                      (
+                                        λ h. h,
+                                        (
+                                          λ h. h,
+                                          (
+                                            λ h. h,
+                                            (
+                                              λ h. h,
+                                              (
+                                                λ h. h,
+                                                (
+                                                  λ h. h,
+                                                  (
+                                                    λ h. h,
+                                                    (λ h. h, (λ h. h, (λ h. h, (λ h. h, (λ h. h, (λ h. h, tt)))))),
+                                                  ),
+                                                ),
+                                              ),
+                                            ),
+                                          ),
+                                        ),
+                                      ),
+                                    ),
+                                  ),
+                                ),
+                              ),
+                            ),
+                          ),
+                        ),
+                      ),
+                    ),
+                  ),
+                ),
+              ),
+            ),
+          ),
+        ),
+      ),
+    )
 
 module _ (tokens : List Token) (k : ℕ) where
-  begins_as : (token : What) (kind : First) → what_at tokens k ≡ Some token → first_of token ≡ Some kind → BeginsAs tokens k kind
+  begins_as : (token : What) (kind : First) → what_at tokens k ≡ Some token → first_of token ≡ Some kind →
+      BeginsAs tokens k kind
   begins_as (what.Symbol symbol) kind here h = by (symbol == s.SEMICOLON) refl h
     where
-      by : (same : Bool) → (symbol == s.SEMICOLON) ≡ same → (if same then Some (first.Simple simple.Empty) else None) ≡ Some kind → BeginsAs tokens k kind
+      by : (same : Bool) → (symbol == s.SEMICOLON) ≡ same → (if same then Some (first.Simple simple.Empty) else
+          None) ≡ Some kind → BeginsAs tokens k kind
       by true is h =
           let e : first.Simple simple.Empty ≡ kind = let e = h in cc e in
-          subst (λ kind. BeginsAs tokens k kind) e (subst (λ symbol. what_at tokens k ≡ Some (what.Symbol symbol)) (eqb-true symbol s.SEMICOLON is) here)
+          subst (λ kind. BeginsAs tokens k kind) e (subst (λ symbol. what_at tokens k ≡ Some (what.Symbol symbol))
+          (eqb-true symbol s.SEMICOLON is) here)
       by false is h = absurd (let e = h in cc e)
   begins_as (what.Id text) kind here h =
       let e : first.Simple simple.Named ≡ kind = let e = h in cc e in
@@ -73,12 +150,15 @@ module _ (tokens : List Token) (k : ℕ) where
   begins_as (what.Bits len value) kind here h = absurd (let e = h in cc e)
   begins_as (what.Text text) kind here h = absurd (let e = h in cc e)
 
-  pub begins_some : (token : What) (result : Option First) → what_at tokens k ≡ Some token → result ≡ first_of token → IfSome result (λ kind. BeginsAs tokens k kind)
+  pub begins_some : (token : What) (result : Option First) → what_at tokens k ≡ Some token → result ≡ first_of token →
+      IfSome result (λ kind. BeginsAs tokens k kind)
   begins_some token None here is = tt
   begins_some token (Some kind) here is = begins_as token kind here (sym is)
 
-pub token_here : (tokens : List Token) (at : ℕ) (token : Token) → at < length tokens → token ≡ get_or tokens at token → what_at tokens at ≡ Some token.what
-token_here tokens at token inside same = ap (option_map (λ (t : Token). t.what)) (slice_get_read tokens (length tokens) at token refl inside same)
+pub token_here : (tokens : List Token) (at : ℕ) (token : Token) → at < length tokens → token ≡ get_or tokens at token →
+    what_at tokens at ≡ Some token.what
+token_here tokens at token inside same = ap (option_map (λ (t : Token). t.what))
+    (slice_get_read tokens (length tokens) at token refl inside same)
 
 pub begins_none : (token : What) → first_of token ≡ None → begins_statement (Some token) ≡ false
 begins_none (what.Symbol symbol) h = by (symbol == s.SEMICOLON) h

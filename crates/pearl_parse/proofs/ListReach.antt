@@ -10,9 +10,11 @@ use Rattle.pearl_parse_decl.proofs.LocalLists.{Kept}
 use Rattle.pearl_parse_decl.proofs.LocalLists as lists
 
 -- a whole that ends with a part, and has no more room in front of it
-pub ends_as : {X Y : Type 0} (room inner : ℕ) (spells : List Token → Spelling X) (whole : List Token → Spelling Y) (tokens : List Token) (from at stop : ℕ) →
+pub ends_as : {X Y : Type 0} (room inner : ℕ) (spells : List Token → Spelling X) (whole : List Token → Spelling Y)
+    (tokens : List Token) (from at stop : ℕ) →
     inner + 8 * from ≤ room + 8 * at →
-    ((others : List Token) → AlikeBefore tokens others stop → (x : X) → spells others at x (length others) → (y : Y) × whole others from y (length others)) →
+    ((others : List Token) → AlikeBefore tokens others stop → (x : X) → spells others at x (length others) → (y : Y) ×
+    whole others from y (length others)) →
     ReachesIn inner spells tokens at stop → ReachesIn room whole tokens from stop
 ends_as room inner spells whole tokens from at stop fits makes r =
     let made = makes r.others r.alike r.part r.spelled in
@@ -26,11 +28,14 @@ ends_as room inner spells whole tokens from at stop fits makes r =
       spelled = made.1;
     }
 
-module _ {X : Type 0} (n room : ℕ) (spells : List Token → Spelling X) (kept : Kept n spells) (tokens : List Token) (from stop : ℕ) where
-  pub each_goes_on : (xs : List X) (end : ℕ) → SpellsEach (spells tokens) from xs end → end ≤ stop → ReachesIn room spells tokens end stop →
+module _ {X : Type 0} (n room : ℕ) (spells : List Token → Spelling X) (kept : Kept n spells) (tokens : List Token)
+    (from stop : ℕ) where
+  pub each_goes_on : (xs : List X) (end : ℕ) → SpellsEach (spells tokens) from xs end → end ≤ stop →
+      ReachesIn room spells tokens end stop →
       ReachesIn room (λ tokens. SpellsEach (spells tokens)) tokens from stop
   each_goes_on xs end h near r =
-      let before = lists.each_keeps tokens tokens end (λ j below. refl) n spells (kept tokens tokens end (λ j below. refl)) from xs end h (omega arith) in
+      let before = lists.each_keeps tokens tokens end (λ j below. refl) n spells
+      (kept tokens tokens end (λ j below. refl)) from xs end h (omega arith) in
       let ahead : from ≤ end = omega (arith, before.0) in
       ends_as room room spells (λ tokens. SpellsEach (spells tokens)) tokens from end stop (omega arith)
       (λ others alike x g. (
@@ -40,26 +45,32 @@ module _ {X : Type 0} (n room : ℕ) (spells : List Token → Spelling X) (kept 
       )) r
 
   -- the first part of a list
-  pub list_goes : ReachesIn room spells tokens from stop → ReachesIn room (λ tokens. SpellsList tokens (spells tokens)) tokens from stop
+  pub list_goes : ReachesIn room spells tokens from stop →
+      ReachesIn room (λ tokens. SpellsList tokens (spells tokens)) tokens from stop
   list_goes r =
       ends_as room room spells (λ tokens. SpellsList tokens (spells tokens)) tokens from from stop (omega arith)
       (λ others alike x g. (x ∷ [], (length others, g, refl))) r
 
-  pub some_goes : ReachesIn room spells tokens from stop → ReachesIn room (λ tokens. SpellsSome (spells tokens)) tokens from stop
+  pub some_goes : ReachesIn room spells tokens from stop →
+      ReachesIn room (λ tokens. SpellsSome (spells tokens)) tokens from stop
   some_goes r =
       ends_as room room spells (λ tokens. SpellsSome (spells tokens)) tokens from from stop (omega arith)
       (λ others alike x g. (x ∷ [], (length others, g, refl))) r
 
   -- a part behind a comma
-  pub list_goes_on : (xs : List X) (end : ℕ) → SpellsList tokens (spells tokens) from xs end → HasSymbol tokens end s.COMMA → end < stop →
-      ReachesIn room spells tokens (end + 1) stop → ReachesIn room (λ tokens. SpellsList tokens (spells tokens)) tokens from stop
+  pub list_goes_on : (xs : List X) (end : ℕ) → SpellsList tokens (spells tokens) from xs end →
+      HasSymbol tokens end s.COMMA → end < stop →
+      ReachesIn room spells tokens (end + 1) stop →
+      ReachesIn room (λ tokens. SpellsList tokens (spells tokens)) tokens from stop
   list_goes_on xs end h comma near r =
-      let before = lists.list_keeps tokens tokens end (λ j below. refl) n spells (kept tokens tokens end (λ j below. refl)) from xs end h (omega arith) in
+      let before = lists.list_keeps tokens tokens end (λ j below. refl) n spells
+      (kept tokens tokens end (λ j below. refl)) from xs end h (omega arith) in
       let ahead : from ≤ end = omega (arith, before.0) in
       ends_as room room spells (λ tokens. SpellsList tokens (spells tokens)) tokens from (end + 1) stop (omega arith)
       (λ others alike x g. (
         xs ++ x ∷ [],
         list_one_more others (spells others) xs from end (length others) x
-            (lists.list_keeps tokens others stop alike n spells (kept tokens others stop alike) from xs end h (omega arith)).1
+            (lists.list_keeps tokens others stop alike n spells (kept tokens others stop alike) from xs end h
+            (omega arith)).1
             (local.what tokens others stop alike end near ∙ comma) g,
       )) r

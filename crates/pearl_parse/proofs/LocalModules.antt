@@ -34,8 +34,17 @@ module _ (tokens others : List Token) (k : ℕ) (alike : AlikeBefore tokens othe
   block_keeps from x to h near =
       let below : h.0 + 1 < k = omega (arith, h.5) in
       let inner = whole_body_keeps tokens others k alike (from + 1) x h.0 h.2 (omega arith) in
-      let behind : from < h.0 = omega (arith, inner.0) in
-      (omega (arith, h.5), (h.0, what from (omega arith) ∙ h.1, inner.1, what h.0 (omega arith) ∙ h.3, what (h.0 + 1) below ∙ h.4, h.5))
+      let behind : from < h.0 = omega (arith, inner.0) in (
+        omega (arith, h.5),
+        (
+          h.0,
+          what from (omega arith) ∙ h.1,
+          inner.1,
+          what h.0 (omega arith) ∙ h.3,
+          what (h.0 + 1) below ∙ h.4,
+          h.5,
+        ),
+      )
 
   pub decl_keeps : Keeps tokens others k 4 SpellsDecl
   decl_keeps from (decl.Length sort size at) to h near =
@@ -57,18 +66,48 @@ module _ (tokens others : List Token) (k : ℕ) (alike : AlikeBefore tokens othe
       let part = declarations.whole_typing_keeps tokens others k alike (from + 2) typing h.0 h.4 (omega arith) in
       let behind : from + 2 < h.0 = omega (arith, part.0) in (
         omega (arith, h.6),
-        (h.0, place from (omega arith) ∙ h.1, what from (omega arith) ∙ h.2, name (from + 1) x (omega arith) h.3, part.1, what h.0 below ∙ h.5, h.6),
+        (
+          h.0,
+          place from (omega arith) ∙ h.1,
+          what from (omega arith) ∙ h.2,
+          name (from + 1) x (omega arith) h.3,
+          part.1,
+          what h.0 below ∙ h.5,
+          h.6,
+        ),
       )
   decl_keeps from (decl.Declare declared at) to h near =
       let below : h.0 < k = omega (arith, h.5) in
-      let list = lists.list_keeps tokens others k alike 2 SpellsDeclared (declarations.declared_keeps tokens others k alike) (from + 1) declared.items.items h.0 h.3 (omega arith) in
-      let behind : from + 2 < h.0 = omega (arith, list.0) in
-      (omega (arith, h.5), (h.0, place from (omega arith) ∙ h.1, what from (omega arith) ∙ h.2, list.1, what h.0 below ∙ h.4, h.5))
+      let list = lists.list_keeps tokens others k alike 2 SpellsDeclared
+      (declarations.declared_keeps tokens others k alike) (from + 1) declared.items.items h.0 h.3 (omega arith) in
+      let behind : from + 2 < h.0 = omega (arith, list.0) in (
+        omega (arith, h.5),
+        (
+          h.0,
+          place from (omega arith) ∙ h.1,
+          what from (omega arith) ∙ h.2,
+          list.1,
+          what h.0 below ∙
+              h.4,
+          h.5,
+        ),
+      )
   decl_keeps from (decl.Specify specs at) to h near =
       let below : h.0 < k = omega (arith, h.5) in
-      let list = lists.list_keeps tokens others k alike 2 SpellsSpec (declarations.spec_keeps tokens others k alike) (from + 1) specs.items.items h.0 h.3 (omega arith) in
-      let behind : from + 2 < h.0 = omega (arith, list.0) in
-      (omega (arith, h.5), (h.0, place from (omega arith) ∙ h.1, what from (omega arith) ∙ h.2, list.1, what h.0 below ∙ h.4, h.5))
+      let list = lists.list_keeps tokens others k alike 2 SpellsSpec (declarations.spec_keeps tokens others k alike)
+      (from + 1) specs.items.items h.0 h.3 (omega arith) in
+      let behind : from + 2 < h.0 = omega (arith, list.0) in (
+        omega (arith, h.5),
+        (
+          h.0,
+          place from (omega arith) ∙ h.1,
+          what from (omega arith) ∙ h.2,
+          list.1,
+          what h.0 below ∙
+              h.4,
+          h.5,
+        ),
+      )
   decl_keeps from (decl.Task x head body at) to h near =
       let last = block_keeps h.0 body to h.6 near in
       let first = declarations.task_head_keeps tokens others k alike (from + 3) head h.0 h.5 (omega (arith, last.0)) in
@@ -87,8 +126,11 @@ module _ (tokens others : List Token) (k : ℕ) (alike : AlikeBefore tokens othe
       )
   decl_keeps from (decl.Proc x params returns body at) to h near =
       let last = block_keeps h.1 body to h.8 near in
-      let second = lists.maybe_keeps tokens others k alike 4 SpellsReturns (declarations.returns_keep tokens others k alike) h.0 returns h.1 h.7 (omega (arith, last.0)) in
-      let first = lists.maybe_bracketed_keeps tokens others k alike 2 SpellsParam (declarations.param_keeps tokens others k alike) (from + 3) params.items.items h.0 h.6 (omega (arith, last.0, second.0)) in
+      let second = lists.maybe_keeps tokens others k alike 4 SpellsReturns
+      (declarations.returns_keep tokens others k alike) h.0 returns h.1 h.7 (omega (arith, last.0)) in
+      let first = lists.maybe_bracketed_keeps tokens others k alike 2 SpellsParam
+      (declarations.param_keeps tokens others k alike) (from + 3) params.items.items h.0 h.6
+      (omega (arith, last.0, second.0)) in
       let behind : from + 2 < h.1 = omega (arith, first.0, second.0) in
       let below : h.1 < k = omega (arith, last.0) in (
         omega (arith, last.0),
@@ -107,23 +149,36 @@ module _ (tokens others : List Token) (k : ℕ) (alike : AlikeBefore tokens othe
 
   pub module_name_keeps : Keeps tokens others k 1 SpellsModuleName
   module_name_keeps from (Bracketed x) to h near =
-      let below : from + 2 < k = omega (arith, h.3) in
-      (omega (arith, h.3), (what from (omega arith) ∙ h.0, name (from + 1) x (omega arith) h.1, what (from + 2) below ∙ h.2, h.3))
+      let below : from + 2 < k = omega (arith, h.3) in (
+        omega (arith, h.3),
+        (
+          what from (omega arith) ∙ h.0,
+          name (from + 1) x (omega arith) h.1,
+          what (from + 2) below ∙
+              h.2,
+          h.3,
+        ),
+      )
   module_name_keeps from (Bare x) to h near = lists.name_keeps tokens others k alike from x to h near
 
   pub system_keeps : Keeps tokens others k 2 SpellsSystem
   system_keeps from x to h near =
-      let list = lists.each_keeps tokens others k alike 7 SpellsDevice (declarations.device_keeps tokens others k alike) (from + 2) x.items.items to h.2 near in
+      let list = lists.each_keeps tokens others k alike 7 SpellsDevice (declarations.device_keeps tokens others k alike)
+      (from + 2) x.items.items to h.2 near in
       let below : from + 1 < k = omega (arith, list.0) in
       (omega (arith, list.0), (what from (omega arith) ∙ h.0, what (from + 1) below ∙ h.1, list.1))
 
   pub tree_keeps : Keeps tokens others k 5 SpellsTree
   tree_keeps from x to h near =
       let last = lists.symbol_flag_keeps tokens others k alike s.SEMICOLON (h.2 + 1) x.semicolon to h.13 near in
-      let list = lists.each_keeps tokens others k alike 4 SpellsDecl decl_keeps (h.1 + 2) x.declarations.items.items h.2 h.10 (omega (arith, last.0)) in
-      let system = lists.maybe_keeps tokens others k alike 2 SpellsSystem system_keeps (h.0 + 1) x.system h.1 h.7 (omega (arith, last.0, list.0)) in
-      let first = lists.maybe_keeps tokens others k alike 1 SpellsModuleName module_name_keeps (from + 1) x.name h.0 h.5 (omega (arith, last.0, list.0, system.0)) in
-      let order : (from < h.0) × ((h.0 < h.1) × (h.1 + 1 < h.2)) = (omega (arith, first.0), (omega (arith, system.0), omega (arith, list.0))) in
+      let list = lists.each_keeps tokens others k alike 4 SpellsDecl decl_keeps (h.1 + 2) x.declarations.items.items h.2
+      h.10 (omega (arith, last.0)) in
+      let system = lists.maybe_keeps tokens others k alike 2 SpellsSystem system_keeps (h.0 + 1) x.system h.1 h.7
+      (omega (arith, last.0, list.0)) in
+      let first = lists.maybe_keeps tokens others k alike 1 SpellsModuleName module_name_keeps (from + 1) x.name h.0 h.5
+      (omega (arith, last.0, list.0, system.0)) in
+      let order : (from < h.0) × ((h.0 < h.1) × (h.1 + 1 < h.2)) =
+      (omega (arith, first.0), (omega (arith, system.0), omega (arith, list.0))) in
       let below : h.2 < k = omega (arith, last.0) in (
         omega (arith, order, last.0),
         (

@@ -5,18 +5,24 @@ use Rattle.pearl_tree.specs.declared.statement.PeriodEnd.TheVariants.{Until, Dur
 use Rattle.pearl_tree.specs.declared.statement.Start.TheVariants as start
 use Rattle.pearl_tree.specs.declared.statement.Once.TheVariants as once
 use Rattle.pearl_tree.specs.declared.statement.Body.{Body}
-use Rattle.pearl_tree.specs.declared.statement.Stmt.{Stmt, Empty, Assign, Call, If', Case', Repeat', Exit, Begin', Return, Activate, Continue, Resume, OnTask, OnSemas, OnInterrupt, Put, Get, Send, Take, Row_of-Stmt, end_of-Stmt, more_of-Stmt}
+use Rattle.pearl_tree.specs.declared.statement.Stmt.{Stmt, Empty, Assign, Call, If', Case', Repeat', Exit, Begin'}
+use Rattle.pearl_tree.specs.declared.statement.Stmt.{Return, Activate, Continue, Resume, OnTask, OnSemas, OnInterrupt}
+use Rattle.pearl_tree.specs.declared.statement.Stmt.{Put, Get, Send, Take, Row_of-Stmt, end_of-Stmt, more_of-Stmt}
 use Rattle.pearl_tree.specs.declared.statement.If as if_
 use Rattle.pearl_tree.specs.declared.statement.If.{Held-Case-otherwise, None', Some'}
 use Rattle.pearl_tree.specs.declared.statement.Case as case_
 use Rattle.pearl_tree.specs.declared.statement.Case.{Row_of-Branch, end_of-Branch, more_of-Branch}
 use Rattle.pearl_tree.specs.declared.token.Token.{Token}
 use Rattle.pearl_tree.specs.declared.limit.TheConstants as limit
-use Rattle.pearl_tree.specs.Standing.{Spelling, what_at, place_at, IsName, SpellsName, SpellsMaybe, SpellsEach, SpellsList}
+use Rattle.pearl_tree.specs.Standing.{Spelling, what_at, place_at, IsName, SpellsName, SpellsMaybe, SpellsEach}
+use Rattle.pearl_tree.specs.Standing.{SpellsList}
 use Rattle.pearl_tree.specs.Expressions.{SpellsWhole, SpellsOwnRef}
 use Rattle.pearl_tree.specs.Formats.{SpellsFmt}
 use Rattle.pearl_tree.specs.Declarations.{SpellsItem}
-use Rattle.pearl_tree.specs.Statements.{HasBecomes, SpellsAfter, SpellsFor, SpellsValue, SpellsMaybeList, SpellsPeriodEnd, SpellsPeriod, SpellsStart, SpellsOnce, SpellsBodyDecl, SpellsStmt, SpellsStmts, SpellsAlternatives, SpellsMoreAlternatives, SpellsOtherwise, SpellsBranch, SpellsBody, SpellsWholeBody}
+use Rattle.pearl_tree.specs.Statements.{HasBecomes, SpellsAfter, SpellsFor, SpellsValue, SpellsMaybeList}
+use Rattle.pearl_tree.specs.Statements.{SpellsPeriodEnd, SpellsPeriod, SpellsStart, SpellsOnce, SpellsBodyDecl}
+use Rattle.pearl_tree.specs.Statements.{SpellsStmt, SpellsStmts, SpellsAlternatives, SpellsMoreAlternatives}
+use Rattle.pearl_tree.specs.Statements.{SpellsOtherwise, SpellsBranch, SpellsBody, SpellsWholeBody}
 use Rattle.pearl_tree.specs.declared.word_code.TheConstants as w
 use Rattle.pearl_parse_expr.specs.Least.{AlikeBefore}
 use Rattle.pearl_parse_expr.proofs.Local as local
@@ -75,7 +81,8 @@ module _ (tokens others : List Token) (k : ℕ) (alike : AlikeBefore tokens othe
       Keeps tokens others k 0 (λ tokens. SpellsMaybeList tokens (spells tokens))
   maybe_list_keeps spells keeps from [] to h near = (omega (arith, h), h)
   maybe_list_keeps spells keeps from (x ∷ xs) to h near =
-      let part = lists.list_keeps tokens others k alike 1 spells keeps from (x ∷ xs) to h near in (omega (arith, part.0), part.1)
+      let part = lists.list_keeps tokens others k alike 1 spells keeps from (x ∷ xs) to h near in
+      (omega (arith, part.0), part.1)
 
   pub period_end_keeps : Keeps tokens others k 2 SpellsPeriodEnd
   period_end_keeps from (Until x at) to h near =
@@ -106,7 +113,14 @@ module _ (tokens others : List Token) (k : ℕ) (alike : AlikeBefore tokens othe
       let part = maybe_after w.AFTER (from + 2) after h.0 h.4 (omega (arith, last.0)) in
       let below : from + 1 < k = omega (arith, part.0, last.0) in (
         omega (arith, part.0, last.0),
-        (h.0, place from (omega arith) ∙ h.1, what from (omega arith) ∙ h.2, name (from + 1) interrupt below h.3, part.1, last.1),
+        (
+          h.0,
+          place from (omega arith) ∙ h.1,
+          what from (omega arith) ∙ h.2,
+          name (from + 1) interrupt below h.3,
+          part.1,
+          last.1,
+        ),
       )
   start_keeps from (start.All period) to h near = period_keeps from period to h near
 
@@ -124,9 +138,20 @@ module _ (tokens others : List Token) (k : ℕ) (alike : AlikeBefore tokens othe
   pub body_declaration_keeps : Keeps tokens others k 2 SpellsBodyDecl
   body_declaration_keeps from x to h near =
       let below : h.0 < k = omega (arith, h.5) in
-      let list = lists.list_keeps tokens others k alike 2 SpellsItem (declarations.item_keeps tokens others k alike) (from + 1) x.items.items.items h.0 h.3 (omega arith) in
-      let behind : from < h.0 = omega (arith, list.0) in
-      (omega (arith, h.5), (h.0, place from (omega arith) ∙ h.1, what from (omega arith) ∙ h.2, list.1, what h.0 below ∙ h.4, h.5))
+      let list = lists.list_keeps tokens others k alike 2 SpellsItem (declarations.item_keeps tokens others k alike)
+      (from + 1) x.items.items.items h.0 h.3 (omega arith) in
+      let behind : from < h.0 = omega (arith, list.0) in (
+        omega (arith, h.5),
+        (
+          h.0,
+          place from (omega arith) ∙ h.1,
+          what from (omega arith) ∙ h.2,
+          list.1,
+          what h.0 below ∙
+              h.4,
+          h.5,
+        ),
+      )
 
   body_declarations : Keeps tokens others k 0 (λ tokens. SpellsEach (SpellsBodyDecl tokens))
   body_declarations = lists.each_keeps tokens others k alike 2 SpellsBodyDecl body_declaration_keeps
@@ -137,22 +162,42 @@ module _ (tokens others : List Token) (k : ℕ) (alike : AlikeBefore tokens othe
     pub stmt_keeps : (depth from : ℕ) (x : Stmt) (to : ℕ) → SpellsStmt tokens depth from x to → to ≤ k →
         (from + 1 ≤ to) × SpellsStmt others depth from x to
     stmt_keeps depth from (Empty at) to h near =
-        let below : from < k = omega (arith, h.2) in (omega (arith, h.2), (place from below ∙ h.0, what from below ∙ h.1, h.2))
+        let below : from < k = omega (arith, h.2) in
+        (omega (arith, h.2), (place from below ∙ h.0, what from below ∙ h.1, h.2))
     stmt_keeps depth from (Assign part) to h near =
         let below : h.1 < k = omega (arith, h.7) in
         let value = whole_keeps (h.0 + 1) part.value.value h.1 h.5 (omega arith) in
         let target = own_ref_keeps from part.value.target h.0 h.3 (omega (arith, value.0)) in
         let between : (from < h.0) × (h.0 < h.1) = (omega (arith, target.0), omega (arith, value.0)) in (
           omega (arith, between, h.7),
-          (h.0, h.1, place from (omega (arith, between)) ∙ h.2, target.1, becomes h.0 (omega (arith, between)) h.4, value.1, what h.1 below ∙ h.6, h.7),
+          (
+            h.0,
+            h.1,
+            place from (omega (arith, between)) ∙ h.2,
+            target.1,
+            becomes h.0 (omega (arith, between)) h.4,
+            value.1,
+            what h.1 below ∙ h.6,
+            h.7,
+          ),
         )
     stmt_keeps depth from (Call part) to h near =
         let below : h.1 < k = omega (arith, h.7) in
-        let list = lists.maybe_bracketed_keeps tokens others k alike 1 SpellsWhole whole_keeps (h.0 + 1) part.value.arguments.items.items h.1 h.5 (omega arith) in
+        let list = lists.maybe_bracketed_keeps tokens others k alike 1 SpellsWhole whole_keeps (h.0 + 1)
+        part.value.arguments.items.items h.1 h.5 (omega arith) in
         let call = lists.flag_keeps tokens others k alike w.CALL from part.value.call h.0 h.3 (omega (arith, list.0)) in
         let between : (from ≤ h.0) × (h.0 < h.1) = (omega (arith, call.0), omega (arith, list.0)) in (
           omega (arith, between, h.7),
-          (h.0, h.1, place from (omega (arith, between)) ∙ h.2, call.1, name h.0 part.value.name (omega (arith, between)) h.4, list.1, what h.1 below ∙ h.6, h.7),
+          (
+            h.0,
+            h.1,
+            place from (omega (arith, between)) ∙ h.2,
+            call.1,
+            name h.0 part.value.name (omega (arith, between)) h.4,
+            list.1,
+            what h.1 below ∙ h.6,
+            h.7,
+          ),
         )
     stmt_keeps depth from (If' _ (if_.If' condition _ statements otherwise at)) to h near =
         let below : h.2 + 1 < k = omega (arith, h.11) in
@@ -183,7 +228,19 @@ module _ (tokens others : List Token) (k : ℕ) (alike : AlikeBefore tokens othe
         let head = after_keeps w.CASE from selector h.0 h.5 (omega (arith, other.0, inner.0)) in
         let between : from < h.2 = omega (arith, head.0, inner.0, other.0) in (
           omega (arith, h.10),
-          (h.0, h.1, h.2, place from (omega arith) ∙ h.3, h.4, head.1, inner.1, other.1, what h.2 (omega arith) ∙ h.8, what (h.2 + 1) below ∙ h.9, h.10),
+          (
+            h.0,
+            h.1,
+            h.2,
+            place from (omega arith) ∙ h.3,
+            h.4,
+            head.1,
+            inner.1,
+            other.1,
+            what h.2 (omega arith) ∙ h.8,
+            what (h.2 + 1) below ∙ h.9,
+            h.10,
+          ),
         )
     stmt_keeps depth from (Repeat' _ control begin step end condition declared _ statements body_at at) to h near =
         let below : h.5 + 1 < k = omega (arith, h.17) in
@@ -194,7 +251,8 @@ module _ (tokens others : List Token) (k : ℕ) (alike : AlikeBefore tokens othe
         let d = maybe_after w.TO h.2 end h.3 h.11 (omega (arith, e.0)) in
         let c = maybe_after w.BY h.1 step h.2 h.10 (omega (arith, e.0, d.0)) in
         let b = maybe_after w.FROM h.0 begin h.1 h.9 (omega (arith, e.0, d.0, c.0)) in
-        let a = lists.maybe_keeps tokens others k alike 2 SpellsFor for_keeps from control h.0 h.8 (omega (arith, e.0, d.0, c.0, b.0)) in
+        let a = lists.maybe_keeps tokens others k alike 2 SpellsFor for_keeps from control h.0 h.8
+        (omega (arith, e.0, d.0, c.0, b.0)) in
         let behind : from ≤ h.4 = omega (arith, a.0, b.0, c.0, d.0, e.0) in (
           omega (arith, h.17),
           (
@@ -219,8 +277,16 @@ module _ (tokens others : List Token) (k : ℕ) (alike : AlikeBefore tokens othe
           ),
         )
     stmt_keeps depth from (Exit at) to h near =
-        let below : from + 1 < k = omega (arith, h.3) in
-        (omega (arith, h.3), (place from (omega arith) ∙ h.0, what from (omega arith) ∙ h.1, what (from + 1) below ∙ h.2, h.3))
+        let below : from + 1 < k = omega (arith, h.3) in (
+          omega (arith, h.3),
+          (
+            place from (omega arith) ∙ h.0,
+            what from (omega arith) ∙ h.1,
+            what (from + 1) below ∙
+                h.2,
+            h.3,
+          ),
+        )
     stmt_keeps depth from (Begin' _ declared _ statements body_at at) to h near =
         let below : h.0 + 1 < k = omega (arith, h.7) in
         let inner = stmts_keep (depth - 1) h.4.0 _ statements h.0 h.4.3 (omega arith) in
@@ -240,14 +306,25 @@ module _ (tokens others : List Token) (k : ℕ) (alike : AlikeBefore tokens othe
         )
     stmt_keeps depth from (Return part) to h near =
         let below : h.0 < k = omega (arith, h.5) in
-        let value = lists.maybe_keeps tokens others k alike 3 SpellsValue value_keeps (from + 1) part.value.value h.0 h.3 (omega arith) in
-        let behind : from < h.0 = omega (arith, value.0) in
-        (omega (arith, h.5), (h.0, place from (omega arith) ∙ h.1, what from (omega arith) ∙ h.2, value.1, what h.0 below ∙ h.4, h.5))
+        let value = lists.maybe_keeps tokens others k alike 3 SpellsValue value_keeps (from + 1) part.value.value h.0
+        h.3 (omega arith) in
+        let behind : from < h.0 = omega (arith, value.0) in (
+          omega (arith, h.5),
+          (
+            h.0,
+            place from (omega arith) ∙ h.1,
+            what from (omega arith) ∙ h.2,
+            value.1,
+            what h.0 below ∙ h.4,
+            h.5,
+          ),
+        )
     stmt_keeps depth from (Activate part) to h near =
         let below : h.1 < k = omega (arith, h.8) in
         let priority = maybe_after w.PRIO (h.0 + 2) part.value.priority h.1 h.6 (omega arith) in
         let within : h.0 + 1 < h.1 = omega (arith, priority.0) in
-        let start = lists.maybe_keeps tokens others k alike 2 SpellsStart start_keeps from part.value.start h.0 h.3 (omega arith) in
+        let start = lists.maybe_keeps tokens others k alike 2 SpellsStart start_keeps from part.value.start h.0 h.3
+        (omega arith) in
         let behind : from ≤ h.0 = omega (arith, start.0) in (
           omega (arith, h.8),
           (
@@ -264,36 +341,81 @@ module _ (tokens others : List Token) (k : ℕ) (alike : AlikeBefore tokens othe
         )
     stmt_keeps depth from (Continue part) to h near =
         let below : h.0 + 2 < k = omega (arith, h.6) in
-        let once = lists.maybe_keeps tokens others k alike 2 SpellsOnce once_keeps from part.value.once h.0 h.2 (omega arith) in
+        let once = lists.maybe_keeps tokens others k alike 2 SpellsOnce once_keeps from part.value.once h.0 h.2
+        (omega arith) in
         let behind : from ≤ h.0 = omega (arith, once.0) in (
           omega (arith, h.6),
-          (h.0, place from (omega arith) ∙ h.1, once.1, what h.0 (omega arith) ∙ h.3, name (h.0 + 1) part.value.task (omega arith) h.4, what (h.0 + 2) below ∙ h.5, h.6),
+          (
+            h.0,
+            place from (omega arith) ∙ h.1,
+            once.1,
+            what h.0 (omega arith) ∙ h.3,
+            name (h.0 + 1) part.value.task (omega arith) h.4,
+            what (h.0 + 2) below ∙ h.5,
+            h.6,
+          ),
         )
     stmt_keeps depth from (Resume part) to h near =
         let below : h.0 + 1 < k = omega (arith, h.5) in
         let once = once_keeps from part.value.once h.0 h.2 (omega arith) in
-        let behind : from ≤ h.0 = omega (arith, once.0) in
-        (omega (arith, h.5), (h.0, place from (omega arith) ∙ h.1, once.1, what h.0 (omega arith) ∙ h.3, what (h.0 + 1) below ∙ h.4, h.5))
+        let behind : from ≤ h.0 = omega (arith, once.0) in (
+          omega (arith, h.5),
+          (
+            h.0,
+            place from (omega arith) ∙ h.1,
+            once.1,
+            what h.0 (omega arith) ∙ h.3,
+            what (h.0 + 1) below ∙ h.4,
+            h.5,
+          ),
+        )
     stmt_keeps depth from (OnTask part) to h near =
         let below : h.0 < k = omega (arith, h.5) in
-        let task = lists.maybe_keeps tokens others k alike 1 SpellsName name_keeps (from + 1) part.value.task h.0 h.3 (omega arith) in
-        let behind : from < h.0 = omega (arith, task.0) in
-        (omega (arith, h.5), (h.0, place from (omega arith) ∙ h.1, what from (omega arith) ∙ h.2, task.1, what h.0 below ∙ h.4, h.5))
+        let task = lists.maybe_keeps tokens others k alike 1 SpellsName name_keeps (from + 1) part.value.task h.0 h.3
+        (omega arith) in
+        let behind : from < h.0 = omega (arith, task.0) in (
+          omega (arith, h.5),
+          (
+            h.0,
+            place from (omega arith) ∙ h.1,
+            what from (omega arith) ∙ h.2,
+            task.1,
+            what h.0 below ∙ h.4,
+            h.5,
+          ),
+        )
     stmt_keeps depth from (OnSemas part) to h near =
         let below : h.0 < k = omega (arith, h.5) in
-        let names = lists.list_keeps tokens others k alike 1 SpellsName name_keeps (from + 1) part.value.names.items.items h.0 h.3 (omega arith) in
-        let behind : from < h.0 = omega (arith, names.0) in
-        (omega (arith, h.5), (h.0, place from (omega arith) ∙ h.1, what from (omega arith) ∙ h.2, names.1, what h.0 below ∙ h.4, h.5))
+        let names = lists.list_keeps tokens others k alike 1 SpellsName name_keeps (from + 1)
+        part.value.names.items.items h.0 h.3 (omega arith) in
+        let behind : from < h.0 = omega (arith, names.0) in (
+          omega (arith, h.5),
+          (
+            h.0,
+            place from (omega arith) ∙ h.1,
+            what from (omega arith) ∙ h.2,
+            names.1,
+            what h.0 below ∙ h.4,
+            h.5,
+          ),
+        )
     stmt_keeps depth from (OnInterrupt part) to h near =
         let below : from + 2 < k = omega (arith, h.4) in (
           omega (arith, h.4),
-          (place from (omega arith) ∙ h.0, what from (omega arith) ∙ h.1, name (from + 1) part.value.name (omega arith) h.2, what (from + 2) below ∙ h.3, h.4),
+          (
+            place from (omega arith) ∙ h.0,
+            what from (omega arith) ∙ h.1,
+            name (from + 1) part.value.name (omega arith) h.2,
+            what (from + 2) below ∙ h.3,
+            h.4,
+          ),
         )
     stmt_keeps depth from (Put part) to h near =
         let below : h.1 < k = omega (arith, h.10) in
         let formats = formats_keep (h.0 + 3) part.value.formats.items.items h.1 h.8 (omega arith) in
         let within : h.0 + 3 < h.1 = omega (arith, formats.0) in
-        let values = maybe_list_keeps SpellsWhole whole_keeps (from + 1) part.value.values.items.items h.0 h.4 (omega arith) in
+        let values = maybe_list_keeps SpellsWhole whole_keeps (from + 1) part.value.values.items.items h.0 h.4
+        (omega arith) in
         let behind : from < h.0 = omega (arith, values.0) in (
           omega (arith, h.10),
           (
@@ -314,7 +436,8 @@ module _ (tokens others : List Token) (k : ℕ) (alike : AlikeBefore tokens othe
         let below : h.1 < k = omega (arith, h.10) in
         let formats = formats_keep (h.0 + 3) part.value.formats.items.items h.1 h.8 (omega arith) in
         let within : h.0 + 3 < h.1 = omega (arith, formats.0) in
-        let targets = maybe_list_keeps SpellsOwnRef own_ref_keeps (from + 1) part.value.targets.items.items h.0 h.4 (omega arith) in
+        let targets = maybe_list_keeps SpellsOwnRef own_ref_keeps (from + 1) part.value.targets.items.items h.0 h.4
+        (omega arith) in
         let behind : from < h.0 = omega (arith, targets.0) in (
           omega (arith, h.10),
           (
@@ -336,7 +459,15 @@ module _ (tokens others : List Token) (k : ℕ) (alike : AlikeBefore tokens othe
         let value = after_keeps w.SEND from part.value.value h.0 h.2 (omega arith) in
         let behind : from < h.0 = omega (arith, value.0) in (
           omega (arith, h.6),
-          (h.0, place from (omega arith) ∙ h.1, value.1, what h.0 (omega arith) ∙ h.3, name (h.0 + 1) part.value.dation (omega arith) h.4, what (h.0 + 2) below ∙ h.5, h.6),
+          (
+            h.0,
+            place from (omega arith) ∙ h.1,
+            value.1,
+            what h.0 (omega arith) ∙ h.3,
+            name (h.0 + 1) part.value.dation (omega arith) h.4,
+            what (h.0 + 2) below ∙ h.5,
+            h.6,
+          ),
         )
     stmt_keeps depth from (Take part) to h near =
         let below : h.0 + 2 < k = omega (arith, h.7) in
@@ -355,7 +486,8 @@ module _ (tokens others : List Token) (k : ℕ) (alike : AlikeBefore tokens othe
           ),
         )
 
-    stmts_keep : (depth from : ℕ) (n : _) (row : Row_of-Stmt n) (to : ℕ) → SpellsStmts tokens depth from row to → to ≤ k →
+    stmts_keep : (depth from : ℕ) (n : _) (row : Row_of-Stmt n) (to : ℕ) → SpellsStmts tokens depth from row to →
+        to ≤ k →
         (from ≤ to) × SpellsStmts others depth from row to
     stmts_keep depth from _ end_of-Stmt to h near = (omega (arith, h), h)
     stmts_keep depth from _ (more_of-Stmt statement rest) to h near =
@@ -363,7 +495,8 @@ module _ (tokens others : List Token) (k : ℕ) (alike : AlikeBefore tokens othe
         let first = stmt_keeps depth from statement h.0 h.1 (omega (arith, last.0)) in
         (omega (arith, first.0, last.0), (h.0, first.1, last.1))
 
-    alternatives_keep : (depth from : ℕ) (n : _) (row : Row_of-Branch n) (to : ℕ) → SpellsAlternatives tokens depth from row to → to ≤ k →
+    alternatives_keep : (depth from : ℕ) (n : _) (row : Row_of-Branch n) (to : ℕ) →
+        SpellsAlternatives tokens depth from row to → to ≤ k →
         (from ≤ to) × SpellsAlternatives others depth from row to
     alternatives_keep depth from _ end_of-Branch to h near = absurd h
     alternatives_keep depth from _ (more_of-Branch _ statements at rest) to h near =
@@ -372,7 +505,8 @@ module _ (tokens others : List Token) (k : ℕ) (alike : AlikeBefore tokens othe
         let below : from < k = omega (arith, last.0, inner.0) in
         (omega (arith, last.0, inner.0), (h.0, (place from below ∙ h.1.0, what from below ∙ h.1.1, inner.1), last.1))
 
-    more_alternatives_keep : (depth from : ℕ) (n : _) (row : Row_of-Branch n) (to : ℕ) → SpellsMoreAlternatives tokens depth from row to → to ≤ k →
+    more_alternatives_keep : (depth from : ℕ) (n : _) (row : Row_of-Branch n) (to : ℕ) →
+        SpellsMoreAlternatives tokens depth from row to → to ≤ k →
         (from ≤ to) × SpellsMoreAlternatives others depth from row to
     more_alternatives_keep depth from _ end_of-Branch to h near = (omega (arith, h), h)
     more_alternatives_keep depth from _ (more_of-Branch _ statements at rest) to h near =
@@ -381,7 +515,8 @@ module _ (tokens others : List Token) (k : ℕ) (alike : AlikeBefore tokens othe
         let below : from < k = omega (arith, last.0, inner.0) in
         (omega (arith, last.0, inner.0), (h.0, (place from below ∙ h.1.0, what from below ∙ h.1.1, inner.1), last.1))
 
-    otherwise_keeps : (depth word from : ℕ) (x : Held-Case-otherwise) (to : ℕ) → SpellsOtherwise tokens depth word from x to → to ≤ k →
+    otherwise_keeps : (depth word from : ℕ) (x : Held-Case-otherwise) (to : ℕ) →
+        SpellsOtherwise tokens depth word from x to → to ≤ k →
         (from ≤ to) × SpellsOtherwise others depth word from x to
     otherwise_keeps depth word from None' to h near = (omega (arith, h), h)
     otherwise_keeps depth word from (Some' _ statements at) to h near =
@@ -390,7 +525,8 @@ module _ (tokens others : List Token) (k : ℕ) (alike : AlikeBefore tokens othe
         (omega (arith, inner.0), (place from below ∙ h.0, what from below ∙ h.1, inner.1))
 
   statements_keep : (depth : ℕ) → Keeps tokens others k 0 (λ tokens. SpellsEach (SpellsStmt tokens depth))
-  statements_keep depth = lists.each_keeps tokens others k alike 1 (λ tokens. SpellsStmt tokens depth) (stmt_keeps depth)
+  statements_keep depth = lists.each_keeps tokens others k alike 1 (λ tokens. SpellsStmt tokens depth)
+      (stmt_keeps depth)
 
   pub branch_keeps : (depth word : ℕ) → Keeps tokens others k 1 (λ tokens. SpellsBranch tokens depth word)
   branch_keeps depth word from x to h near =
@@ -399,12 +535,14 @@ module _ (tokens others : List Token) (k : ℕ) (alike : AlikeBefore tokens othe
       (omega (arith, inner.0), (place from below ∙ h.0, what from below ∙ h.1, inner.1))
 
   -- a body is read behind a token, and shows where the next one stands
-  pub body_keeps : (depth from : ℕ) (x : Body) (to : ℕ) → SpellsBody tokens depth from x to → to < k → (from ≤ to) × SpellsBody others depth from x to
+  pub body_keeps : (depth from : ℕ) (x : Body) (to : ℕ) → SpellsBody tokens depth from x to → to < k → (from ≤ to) ×
+      SpellsBody others depth from x to
   body_keeps depth from x to h near =
       let inner = statements_keep depth h.0 x.statements.items.items to h.3 (omega arith) in
       let before = body_declarations from x.declarations.items.items h.0 h.2 (omega (arith, inner.0)) in
       let below : from < k = omega (arith, inner.0, before.0) in
       (omega (arith, inner.0, before.0), (h.0, place from below ∙ h.1, before.1, inner.1))
 
-  pub whole_body_keeps : (from : ℕ) (x : Body) (to : ℕ) → SpellsWholeBody tokens from x to → to < k → (from ≤ to) × SpellsWholeBody others from x to
+  pub whole_body_keeps : (from : ℕ) (x : Body) (to : ℕ) → SpellsWholeBody tokens from x to → to < k → (from ≤ to) ×
+      SpellsWholeBody others from x to
   whole_body_keeps = body_keeps limit.NESTED_MAX

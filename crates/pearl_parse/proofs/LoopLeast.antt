@@ -39,12 +39,15 @@ condition_made others from to small h = (h.0, (h.1, h.2, h.3.0, h.3.1))
 
 module _ (tokens : List Token) (from : ℕ) (inside : from ≤ length tokens) (few : length tokens < 2 ^ 55) where
   pub condition_first : State 16 SpellsCondition tokens from 0 (Then (After w.IF) then_word) from from
-  condition_first = first 16 SpellsCondition tokens from 0 (Then (After w.IF) then_word) from from condition_made (omega arith) (omega arith) (omega arith) inside few
+  condition_first = first 16 SpellsCondition tokens from 0 (Then (After w.IF) then_word) from from condition_made
+      (omega arith) (omega arith) (omega arith) inside few
 
-  pub condition_past : (x : Expr) (end stop : ℕ) → After w.IF tokens from x end → from ≤ end → stop ≤ length tokens → GoesBehind 8 (After w.IF) tokens from from end stop →
+  pub condition_past : (x : Expr) (end stop : ℕ) → After w.IF tokens from x end → from ≤ end → stop ≤ length tokens →
+      GoesBehind 8 (After w.IF) tokens from from end stop →
       State 16 SpellsCondition tokens from 0 then_word end stop
   condition_past =
-      past_part 16 SpellsCondition tokens from 0 1 8 (After w.IF) then_word (after_is_local w.IF) then_fills (omega arith) from from (omega arith) condition_first
+      past_part 16 SpellsCondition tokens from 0 1 8 (After w.IF) then_word (after_is_local w.IF) then_fills
+      (omega arith) from from (omega arith) condition_first
 
 -- ---- a word and a semicolon
 
@@ -53,31 +56,42 @@ closing_made word others from to small h = (tt, (h.0, h.1.0, omega (arith, h.1.1
 
 module _ (tokens : List Token) (word from low : ℕ) (inside : from ≤ length tokens) (few : length tokens < 2 ^ 55) where
   closing_first : State 8 (SpellsClosing word) tokens from low (BehindWord word semicolon) from low
-  closing_first = first 8 (SpellsClosing word) tokens from low (BehindWord word semicolon) 0 low (closing_made word) (omega arith) (omega arith) (omega arith) inside few
+  closing_first = first 8 (SpellsClosing word) tokens from low (BehindWord word semicolon) 0 low (closing_made word)
+      (omega arith) (omega arith) (omega arith) inside few
 
-  pub no_word : (halt : Halt) → IsLawfulWhat (what.Word word) → IsMissing tokens (is_word word) from low halt → HaltsBehind 8 (SpellsClosing word) tokens from low halt
+  pub no_word : (halt : Halt) → IsLawfulWhat (what.Word word) → IsMissing tokens (is_word word) from low halt →
+      HaltsBehind 8 (SpellsClosing word) tokens from low halt
   no_word halt known h =
-      halt_token 8 (SpellsClosing word) tokens from low 2 (BehindWord word semicolon) (fills_word 1 semicolon semicolon_fills word known) (omega arith) (is_word word) from low halt closing_first h
+      halt_token 8 (SpellsClosing word) tokens from low 2 (BehindWord word semicolon)
+      (fills_word 1 semicolon semicolon_fills word known) (omega arith) (is_word word) from low halt closing_first h
 
-  pub no_semicolon : (halt : Halt) → HasWord tokens from word → from < length tokens → IsMissing tokens (is_symbol s.SEMICOLON) (from + 1) low halt → HaltsBehind 8 (SpellsClosing word) tokens from low halt
+  pub no_semicolon : (halt : Halt) → HasWord tokens from word → from < length tokens →
+      IsMissing tokens (is_symbol s.SEMICOLON) (from + 1) low halt →
+      HaltsBehind 8 (SpellsClosing word) tokens from low halt
   no_semicolon halt here within h =
-      halt_token 8 (SpellsClosing word) tokens from low 1 semicolon semicolon_fills (omega arith) (is_symbol s.SEMICOLON) (from + 1) low halt
-      (past_word 8 (SpellsClosing word) tokens from low word semicolon from low (from + 1) (omega arith) closing_first here within) h
+      halt_token 8 (SpellsClosing word) tokens from low 1 semicolon semicolon_fills (omega arith)
+      (is_symbol s.SEMICOLON) (from + 1) low halt
+      (past_word 8 (SpellsClosing word) tokens from low word semicolon from low (from + 1) (omega arith) closing_first
+      here within) h
 
 -- ---- the heads of a loop
 
 pub maybe_for_is_local : IsLocal (Maybe SpellsFor)
-maybe_for_is_local = local_of 0 (Maybe SpellsFor) (λ tokens others k alike. maybe_keeps tokens others k alike 2 SpellsFor (for_keeps tokens others k alike))
+maybe_for_is_local = local_of 0 (Maybe SpellsFor) (λ tokens others k alike.
+    maybe_keeps tokens others k alike 2 SpellsFor (for_keeps tokens others k alike))
 
 for_made : Makes (Maybe SpellsFor) (BehindWord w.FOR (Then SpellsName Ends))
 for_made others from to small h = (Some h.1.0, (h.0, h.1.2.0, omega (arith, h.1.2.1, h.1.3)))
 
-pub no_control : (tokens : List Token) (from : ℕ) → length tokens < 2 ^ 55 → HasWord tokens from w.FOR → from < length tokens → (halt : Halt) → IsMissing tokens is_name (from + 1) from halt →
+pub no_control : (tokens : List Token) (from : ℕ) → length tokens < 2 ^ 55 → HasWord tokens from w.FOR →
+    from < length tokens → (halt : Halt) → IsMissing tokens is_name (from + 1) from halt →
     HaltsBehind 8 (Maybe SpellsFor) tokens from 0 halt
 no_control tokens from few here within halt h =
-    halt_token 8 (Maybe SpellsFor) tokens from 0 1 (Then SpellsName Ends) (fills_name 0 Ends ends_fill) (omega arith) is_name (from + 1) from halt
+    halt_token 8 (Maybe SpellsFor) tokens from 0 1 (Then SpellsName Ends) (fills_name 0 Ends ends_fill) (omega arith)
+    is_name (from + 1) from halt
     (past_word 8 (Maybe SpellsFor) tokens from 0 w.FOR (Then SpellsName Ends) from from (from + 1) (omega arith)
-    (first 8 (Maybe SpellsFor) tokens from 0 (BehindWord w.FOR (Then SpellsName Ends)) from from for_made (omega arith) (omega arith) (omega arith) (omega arith) few) here within) h
+    (first 8 (Maybe SpellsFor) tokens from 0 (BehindWord w.FOR (Then SpellsName Ends)) from from for_made (omega arith)
+    (omega arith) (omega arith) (omega arith) few) here within) h
 
 abbrev pub repeat_word : Rest
 repeat_word = BehindWord w.REPEAT Ends
@@ -97,13 +111,13 @@ from_head = Then (Maybe (After w.FROM)) by_head
 pub repeat_fills : Fills 1 repeat_word
 repeat_fills = fills_word 0 Ends ends_fill w.REPEAT (omega arith)
 
-while_fills : Fills 1 while_head
+pub while_fills : Fills 1 while_head
 while_fills = fills_maybe 1 repeat_word repeat_fills (After w.WHILE)
 
-to_fills : Fills 1 to_head
+pub to_fills : Fills 1 to_head
 to_fills = fills_maybe 1 while_head while_fills (After w.TO)
 
-by_fills : Fills 1 by_head
+pub by_fills : Fills 1 by_head
 by_fills = fills_maybe 1 to_head to_fills (After w.BY)
 
 from_fills : Fills 1 from_head
@@ -116,7 +130,20 @@ heads_made others from to small h =
     let end = step.3 in
     let condition = end.3 in (
       record { control = h.0; begin = begin.0; step = step.0; end = end.0; condition = condition.0 },
-      (h.1, begin.1, step.1, end.1, condition.1, h.2, begin.2, step.2, end.2, condition.2, condition.3.0, condition.3.1),
+      (
+        h.1,
+        begin.1,
+        step.1,
+        end.1,
+        condition.1,
+        h.2,
+        begin.2,
+        step.2,
+        end.2,
+        condition.2,
+        condition.3.0,
+        condition.3.1,
+      ),
     )
 
 module _ (tokens : List Token) (from : ℕ) where
@@ -124,50 +151,34 @@ module _ (tokens : List Token) (from : ℕ) where
   Heads = State 16 SpellsHeads tokens from 0
 
   heads_first : from ≤ length tokens → length tokens < 2 ^ 55 → Heads (Then (Maybe SpellsFor) from_head) from from
-  heads_first inside few = first 16 SpellsHeads tokens from 0 (Then (Maybe SpellsFor) from_head) from from heads_made (omega arith) (omega arith) (omega arith) inside few
+  heads_first inside few = first 16 SpellsHeads tokens from 0 (Then (Maybe SpellsFor) from_head) from from heads_made
+      (omega arith) (omega arith) (omega arith) inside few
 
-  pub control_halts : from ≤ length tokens → length tokens < 2 ^ 55 → {Z : Type 0} (any : List Token → Spelling Z) (halt : Halt) → IsHalted any tokens from halt → HaltsIn 8 (Maybe SpellsFor) tokens from halt →
+  pub control_halts : from ≤ length tokens → length tokens < 2 ^ 55 →
+      {Z : Type 0} (any : List Token → Spelling Z) (halt : Halt) → IsHalted any tokens from halt →
+      HaltsIn 8 (Maybe SpellsFor) tokens from halt →
       HaltsBehind 16 SpellsHeads tokens from 0 halt
   control_halts inside few any halt h r =
-      halt_first 16 SpellsHeads tokens from 0 1 8 (Maybe SpellsFor) from_head maybe_for_is_local from_fills (omega arith) from from (omega arith) (heads_first inside few) any halt (omega arith) h r
+      halt_first 16 SpellsHeads tokens from 0 1 8 (Maybe SpellsFor) from_head maybe_for_is_local from_fills
+      (omega arith) from from (omega arith) (heads_first inside few) any halt (omega arith) h r
 
-  pub past_control : from ≤ length tokens → length tokens < 2 ^ 55 → (x : Option Name) (end stop : ℕ) → Maybe SpellsFor tokens from x end → from ≤ end → end ≤ stop → stop ≤ length tokens →
+  pub past_control : from ≤ length tokens → length tokens < 2 ^ 55 → (x : Option Name) (end stop : ℕ) →
+      Maybe SpellsFor tokens from x end → from ≤ end → end ≤ stop → stop ≤ length tokens →
       GoesIn 8 (Maybe SpellsFor) tokens from end stop → Heads from_head end stop
   past_control inside few x end stop h ahead near within g =
-      past_first 16 SpellsHeads tokens from 0 1 8 (Maybe SpellsFor) from_head maybe_for_is_local from_fills (omega arith) from from (omega arith) (heads_first inside few) x end stop h ahead within (omega arith)
+      past_first 16 SpellsHeads tokens from 0 1 8 (Maybe SpellsFor) from_head maybe_for_is_local from_fills
+      (omega arith) from from (omega arith) (heads_first inside few) x end stop h ahead within (omega arith)
       near g
 
-  module _ (word : ℕ) (rest : Rest) (fills : Fills 1 rest) (at stop : ℕ) (a : Heads (Then (Maybe (After word)) rest) at stop) where
-    head_halts : (halt : Halt) → HaltsBehind 8 (Maybe (After word)) tokens at stop halt → HaltsBehind 16 SpellsHeads tokens from 0 halt
-    head_halts = halt_part 16 SpellsHeads tokens from 0 1 8 (Maybe (After word)) rest (maybe_after_is_local word) fills (omega arith) at stop (omega (arith, a.near)) a
+  module _ (word : ℕ) (rest : Rest) (fills : Fills 1 rest) (at stop : ℕ)
+      (a : Heads (Then (Maybe (After word)) rest) at stop) where
+    pub head_halts : (halt : Halt) → HaltsBehind 8 (Maybe (After word)) tokens at stop halt →
+        HaltsBehind 16 SpellsHeads tokens from 0 halt
+    head_halts = halt_part 16 SpellsHeads tokens from 0 1 8 (Maybe (After word)) rest (maybe_after_is_local word) fills
+        (omega arith) at stop (omega (arith, a.near)) a
 
-    past_head : (x : Option Expr) (end new : ℕ) → Maybe (After word) tokens at x end → at ≤ end → new ≤ length tokens → GoesBehind 8 (Maybe (After word)) tokens at stop end new → Heads rest end new
-    past_head = past_part 16 SpellsHeads tokens from 0 1 8 (Maybe (After word)) rest (maybe_after_is_local word) fills (omega arith) at stop (omega (arith, a.near)) a
-
-  pub from_halts : (at stop : ℕ) → Heads from_head at stop → (halt : Halt) → HaltsBehind 8 (Maybe (After w.FROM)) tokens at stop halt → HaltsBehind 16 SpellsHeads tokens from 0 halt
-  from_halts = head_halts w.FROM by_head by_fills
-
-  pub by_halts : (at stop : ℕ) → Heads by_head at stop → (halt : Halt) → HaltsBehind 8 (Maybe (After w.BY)) tokens at stop halt → HaltsBehind 16 SpellsHeads tokens from 0 halt
-  by_halts = head_halts w.BY to_head to_fills
-
-  pub to_halts : (at stop : ℕ) → Heads to_head at stop → (halt : Halt) → HaltsBehind 8 (Maybe (After w.TO)) tokens at stop halt → HaltsBehind 16 SpellsHeads tokens from 0 halt
-  to_halts = head_halts w.TO while_head while_fills
-
-  pub while_halts : (at stop : ℕ) → Heads while_head at stop → (halt : Halt) → HaltsBehind 8 (Maybe (After w.WHILE)) tokens at stop halt → HaltsBehind 16 SpellsHeads tokens from 0 halt
-  while_halts = head_halts w.WHILE repeat_word repeat_fills
-
-  pub past_from : (at stop : ℕ) → Heads from_head at stop → (x : Option Expr) (end new : ℕ) → Maybe (After w.FROM) tokens at x end → at ≤ end → new ≤ length tokens →
-      GoesBehind 8 (Maybe (After w.FROM)) tokens at stop end new → Heads by_head end new
-  past_from = past_head w.FROM by_head by_fills
-
-  pub past_by : (at stop : ℕ) → Heads by_head at stop → (x : Option Expr) (end new : ℕ) → Maybe (After w.BY) tokens at x end → at ≤ end → new ≤ length tokens →
-      GoesBehind 8 (Maybe (After w.BY)) tokens at stop end new → Heads to_head end new
-  past_by = past_head w.BY to_head to_fills
-
-  pub past_to : (at stop : ℕ) → Heads to_head at stop → (x : Option Expr) (end new : ℕ) → Maybe (After w.TO) tokens at x end → at ≤ end → new ≤ length tokens →
-      GoesBehind 8 (Maybe (After w.TO)) tokens at stop end new → Heads while_head end new
-  past_to = past_head w.TO while_head while_fills
-
-  pub past_while : (at stop : ℕ) → Heads while_head at stop → (x : Option Expr) (end new : ℕ) → Maybe (After w.WHILE) tokens at x end → at ≤ end → new ≤ length tokens →
-      GoesBehind 8 (Maybe (After w.WHILE)) tokens at stop end new → Heads repeat_word end new
-  past_while = past_head w.WHILE repeat_word repeat_fills
+    pub past_head : (x : Option Expr) (end new : ℕ) → Maybe (After word) tokens at x end → at ≤ end →
+        new ≤ length tokens →
+        GoesBehind 8 (Maybe (After word)) tokens at stop end new → Heads rest end new
+    past_head = past_part 16 SpellsHeads tokens from 0 1 8 (Maybe (After word)) rest (maybe_after_is_local word) fills
+        (omega arith) at stop (omega (arith, a.near)) a

@@ -1,5 +1,6 @@
 -- What is left of the heads of a loop.
-use Rattle.std.proofs.Common.{◌≡◌, ℕ, ◌+◌, true, false, List, [], ◌∷◌, Option, Some, None, refl, sym, ap, subst, ◌∙◌, arith}
+use Rattle.std.proofs.Common.{◌≡◌, ℕ, ◌+◌, true, false, List, [], ◌∷◌, Option, Some, None, refl, sym, ap, subst, ◌∙◌}
+use Rattle.std.proofs.Common.{arith}
 use Rattle.pearl_tree.specs.declared.name.Name.{Name}
 use Rattle.pearl_tree.specs.declared.expression.Expr.{Expr}
 use Rattle.pearl_tree.specs.declared.token.What.{What}
@@ -61,11 +62,14 @@ BeginsBy words rest = (others : List Token) (at to : ℕ) → rest others at to 
 repeat_begins : BeginsBy repeat_first repeat_word
 repeat_begins = λ others at to h. ap (is_one repeat_first) h.0
 
-optional_begins : (word : ℕ) (words : List ℕ) (rest : Rest) → BeginsBy words rest → BeginsBy (word ∷ words) (Then (Optional word) rest)
+optional_begins : (word : ℕ) (words : List ℕ) (rest : Rest) → BeginsBy words rest →
+    BeginsBy (word ∷ words) (Then (Optional word) rest)
 optional_begins word words rest begins = λ others at to h. by others at to h.0 h.1 h.2 h.3
   where
-    by : (others : List Token) (at to : ℕ) (x : Option Expr) (m : ℕ) → Optional word others at x m → rest others m to → is_one (word ∷ words) (what_at others at) ≡ true
-    by others at to None m h i = one_more word words (what_at others at) (subst (λ k. is_one words (what_at others k) ≡ true) h.0 (begins others m to i))
+    by : (others : List Token) (at to : ℕ) (x : Option Expr) (m : ℕ) → Optional word others at x m → rest others m to →
+        is_one (word ∷ words) (what_at others at) ≡ true
+    by others at to None m h i = one_more word words (what_at others at)
+        (subst (λ k. is_one words (what_at others k) ≡ true) h.0 (begins others m to i))
     by others at to (Some x) m h i = ap (is_one (word ∷ words)) h.0 ∙ is_that word words
 
 while_begins : BeginsBy while_first while_rest
@@ -80,7 +84,8 @@ by_begins = optional_begins w.BY to_first to_rest to_begins
 abbrev Ends : Option What → Type 0
 Ends token = extends_expression token ≡ false
 
-avoids : (words : List ℕ) (rest : Rest) → OfEach (λ word. Ends (Some (what.Word word))) words → BeginsBy words rest → Avoids extends_expression rest
+avoids : (words : List ℕ) (rest : Rest) → OfEach (λ word. Ends (Some (what.Word word))) words → BeginsBy words rest →
+    Avoids extends_expression rest
 avoids words rest all begins = λ others at to h. one_holds Ends words (what_at others at) all (begins others at to h)
 
 pub avoids_repeat : Avoids extends_expression repeat_word
@@ -100,7 +105,8 @@ module _ (others : List Token) where
   abbrev Apart : ℕ → Option What → Type 0
   Apart word token = is_word word token ≡ false
 
-  optional : (word : ℕ) (words : List ℕ) (x : Option Expr) (m n : ℕ) → OfEach (λ other. Apart word (Some (what.Word other))) words →
+  optional : (word : ℕ) (words : List ℕ) (x : Option Expr) (m n : ℕ) →
+      OfEach (λ other. Apart word (Some (what.Word other))) words →
       SpellsMaybe (SpellsAfter others word) m x n → is_one words (what_at others n) ≡ true →
       Optional word others m x n × (is_one (word ∷ words) (what_at others m) ≡ true)
   optional word words None m n apart h one =
@@ -108,18 +114,37 @@ module _ (others : List Token) where
       ((h, one_holds (Apart word) words (what_at others m) apart here), one_more word words (what_at others m) here)
   optional word words (Some x) m n apart h one = (h, ap (is_one (word ∷ words)) h.0 ∙ is_that word words)
 
-  optional_for : (x : Option Name) (m n : ℕ) → SpellsMaybe (SpellsFor others) m x n → is_one from_first (what_at others n) ≡ true → SpellsOptionalFor others m x n
-  optional_for None m n h one =
-      (h, one_holds (Apart w.FOR) from_first (what_at others m) (refl, (refl, (refl, (refl, (refl, tt))))) (subst (λ k. is_one from_first (what_at others k) ≡ true) h one))
+  optional_for : (x : Option Name) (m n : ℕ) → SpellsMaybe (SpellsFor others) m x n →
+      is_one from_first (what_at others n) ≡ true → SpellsOptionalFor others m x n
+  optional_for None m n h one = (
+    h,
+    one_holds (Apart w.FOR) from_first (what_at others m) (refl, (refl, (refl, (refl, (refl, tt)))))
+        (subst (λ k. is_one from_first (what_at others k) ≡ true) h one),
+  )
   optional_for (Some x) m n h one = h
 
   heads : (from : ℕ) (x : Heads) (to : ℕ) → SpellsHeads others from x to → heads_rest others from to
   heads from x to h =
-      let condition = optional w.WHILE repeat_first x.condition h.3 h.4 (refl, tt) h.9 (ap (is_one repeat_first) h.10) in
+      let condition = optional w.WHILE repeat_first x.condition h.3 h.4 (refl, tt) h.9
+      (ap (is_one repeat_first) h.10) in
       let end = optional w.TO while_first x.end h.2 h.3 (refl, (refl, tt)) h.8 condition.1 in
       let step = optional w.BY to_first x.step h.1 h.2 (refl, (refl, (refl, tt))) h.7 end.1 in
-      let begin = optional w.FROM by_first x.begin h.0 h.1 (refl, (refl, (refl, (refl, tt)))) h.6 step.1 in
-      (x.control, h.0, optional_for x.control from h.0 h.5 begin.1, (x.begin, h.1, begin.0, (x.step, h.2, step.0, (x.end, h.3, end.0, (x.condition, h.4, condition.0, (h.10, h.11))))))
+      let begin = optional w.FROM by_first x.begin h.0 h.1 (refl, (refl, (refl, (refl, tt)))) h.6 step.1 in (
+        x.control,
+        h.0,
+        optional_for x.control from h.0 h.5 begin.1,
+        (
+          x.begin,
+          h.1,
+          begin.0,
+          (
+            x.step,
+            h.2,
+            step.0,
+            (x.end, h.3, end.0, (x.condition, h.4, condition.0, (h.10, h.11))),
+          ),
+        ),
+      )
 
 pub heads_goes : (tokens : List Token) (from : ℕ) → Goes SpellsHeads tokens from heads_rest from from
 heads_goes tokens from = λ others agree x to h. heads others from x to h
@@ -128,9 +153,11 @@ heads_goes tokens from = λ others agree x to h. heads others from x to h
 abbrev pub id_rest : Rest
 id_rest others at to = (is_name (what_at others at) ≡ true) × (to ≡ at + 1)
 
-pub for_goes : (tokens : List Token) (from : ℕ) → HasWord tokens from w.FOR → Goes SpellsOptionalFor tokens from id_rest (from + 1) from
+pub for_goes : (tokens : List Token) (from : ℕ) → HasWord tokens from w.FOR →
+    Goes SpellsOptionalFor tokens from id_rest (from + 1) from
 for_goes tokens from here = λ others agree x to h. by others (sym (agree from (omega arith)) ∙ here) x to h
   where
-    by : (others : List Token) → HasWord others from w.FOR → (x : Option Name) (to : ℕ) → SpellsOptionalFor others from x to → id_rest others (from + 1) to
+    by : (others : List Token) → HasWord others from w.FOR → (x : Option Name) (to : ℕ) →
+        SpellsOptionalFor others from x to → id_rest others (from + 1) to
     by others here None to h = absurd (clash _ (ap (is_word w.FOR) here) h.1)
     by others here (Some x) to h = (ap is_name h.1.0, omega (arith, h.2))

@@ -22,15 +22,16 @@ use Rattle.pearl_parse_decl.proofs.LocalLists.{Kept, local_of, each_keeps, maybe
 use Rattle.pearl_parse.specs.Stops.{IsMissing}
 use Rattle.pearl_parse.specs.Modules.{SpellsOptionalName, SpellsHead, SpellsOpening, SpellsClose, is_end}
 use Rattle.pearl_parse.specs.Modules.{begins_module_name}
-use Rattle.pearl_parse.specs.Reached.{HaltsBehind}
+use Rattle.pearl_parse.specs.Reached.{GoesBehind, HaltsBehind}
 use Rattle.pearl_parse.proofs.Steps.{Rest, Ends, Then}
 use Rattle.pearl_parse.proofs.LocalModules.{module_name_keeps, system_keeps, decl_keeps}
 use Rattle.pearl_parse.proofs.Comes.{Fills, BehindWord, BehindSymbol, Maybe, Makes, ends_fill, fills_as, fills_word}
 use Rattle.pearl_parse.proofs.Comes.{fills_symbol, fills_name, fills_maybe}
 use Rattle.pearl_parse.proofs.ModulesMade.{module_made}
-use Rattle.pearl_parse.proofs.Tails.{fills_each}
-use Rattle.pearl_parse.proofs.StatementLeast.{told_from}
-use Rattle.pearl_parse.proofs.UnitLeast.{as_rest}
+use Rattle.pearl_parse.proofs.Made.{semicolon}
+use Rattle.pearl_parse.proofs.Tails.{fills_each, semicolon_fills, bracket_fills}
+use Rattle.pearl_parse.proofs.NestedLeast.{told_from}
+use Rattle.pearl_parse.proofs.DeclarationLeast.{as_rest}
 use Rattle.pearl_parse.proofs.Optional.{maybe_of}
 use Rattle.pearl_parse.proofs.States.{State, first, past_word, past_symbol, past_name, past_part, past_first}
 use Rattle.pearl_parse.proofs.States.{halt_token, halt_part, halt_first}
@@ -39,9 +40,6 @@ use Rattle.pearl_parse.proofs.States.{halt_token, halt_part, halt_first}
 
 abbrev closing : Rest
 closing = BehindSymbol s.RIGHT_ROUND Ends
-
-closing_fills : Fills 1 closing
-closing_fills = fills_symbol 0 Ends ends_fill s.RIGHT_ROUND (omega arith)
 
 bracketed_made : Makes (Maybe SpellsModuleName) (BehindSymbol s.LEFT_ROUND (Then SpellsName closing))
 bracketed_made others from to small h =
@@ -69,13 +67,13 @@ module _ (tokens : List Token) (from : ℕ) (here : HasSymbol tokens from s.LEFT
       (Maybe SpellsModuleName) tokens from 0 halt
   no_bracketed halt h =
       halt_token 16 (Maybe SpellsModuleName) tokens from 0 2 (Then SpellsName closing)
-      (fills_name 1 closing closing_fills) (omega arith) is_name (from + 1) from halt bracket_begun h
+      (fills_name 1 closing bracket_fills) (omega arith) is_name (from + 1) from halt bracket_begun h
 
   pub no_bracket : (name : Name) → IsName tokens (from + 1) name → from + 1 < length tokens → (halt : Halt) →
       IsMissing tokens (is_symbol s.RIGHT_ROUND) (from + 2) from halt →
       HaltsBehind 16 (Maybe SpellsModuleName) tokens from 0 halt
   no_bracket name named within halt h =
-      halt_token 16 (Maybe SpellsModuleName) tokens from 0 1 closing closing_fills (omega arith)
+      halt_token 16 (Maybe SpellsModuleName) tokens from 0 1 closing bracket_fills (omega arith)
       (is_symbol s.RIGHT_ROUND) (from + 2) from halt
       (past_name 16 (Maybe SpellsModuleName) tokens from 0 name closing (from + 1) from (from + 2) (omega arith)
       bracket_begun named within) h
@@ -86,14 +84,8 @@ name_is_local : IsLocal (Maybe SpellsModuleName)
 name_is_local = local_of 0 (Maybe SpellsModuleName) (λ tokens others k alike. maybe_keeps tokens others k alike 1
     SpellsModuleName (module_name_keeps tokens others k alike))
 
-abbrev last_symbol : Rest
-last_symbol = BehindSymbol s.SEMICOLON Ends
-
-last_fills : Fills 1 last_symbol
-last_fills = fills_symbol 0 Ends ends_fill s.SEMICOLON (omega arith)
-
 abbrev named : Rest
-named = Then (Maybe SpellsModuleName) last_symbol
+named = Then (Maybe SpellsModuleName) semicolon
 
 title_made : Makes SpellsHead (BehindWord w.MODULE named)
 title_made others from to small h = (h.1.0, (h.1.1, h.0, h.1.2, h.1.3.0, h.1.3.1))
@@ -107,7 +99,7 @@ module _ (tokens : List Token) (from : ℕ) (inside : from ≤ length tokens) (f
       from 0 halt
   no_module halt h =
       halt_token 16 SpellsHead tokens from 0 2 (BehindWord w.MODULE named)
-      (fills_word 1 named (fills_maybe 1 last_symbol last_fills SpellsModuleName) w.MODULE (omega arith))
+      (fills_word 1 named (fills_maybe 1 semicolon semicolon_fills SpellsModuleName) w.MODULE (omega arith))
       (omega arith) (is_word w.MODULE) from from halt
       title_first h
 
@@ -119,16 +111,17 @@ module _ (tokens : List Token) (from : ℕ) (inside : from ≤ length tokens) (f
     pub no_title : (halt : Halt) → IsHalted SpellsOptionalName tokens (from + 1) halt → HaltsIn 16
         (Maybe SpellsModuleName) tokens (from + 1) halt → HaltsBehind 16 SpellsHead tokens from 0 halt
     no_title halt h r =
-        halt_first 16 SpellsHead tokens from 0 1 16 (Maybe SpellsModuleName) last_symbol name_is_local last_fills
+        halt_first 16 SpellsHead tokens from 0 1 16 (Maybe SpellsModuleName) semicolon name_is_local semicolon_fills
         (omega arith) (from + 1) from (omega arith) title_begun SpellsOptionalName halt (omega arith) h r
 
     pub no_title_end : (x : Option ModuleName) (end stop : ℕ) → SpellsOptionalName tokens (from + 1) x end →
         from + 1 ≤ end → stop ≡ end → stop ≤ length tokens → (halt : Halt) →
         IsMissing tokens (is_symbol s.SEMICOLON) end stop halt → HaltsBehind 16 SpellsHead tokens from 0 halt
     no_title_end x end stop h ahead close reach halt missing =
-        halt_token 16 SpellsHead tokens from 0 1 last_symbol last_fills (omega arith) (is_symbol s.SEMICOLON) end stop
+        halt_token 16 SpellsHead tokens from 0 1 semicolon semicolon_fills (omega arith) (is_symbol s.SEMICOLON) end
+        stop
         halt
-        (past_first 16 SpellsHead tokens from 0 1 16 (Maybe SpellsModuleName) last_symbol name_is_local last_fills
+        (past_first 16 SpellsHead tokens from 0 1 16 (Maybe SpellsModuleName) semicolon name_is_local semicolon_fills
         (omega arith) (from + 1) from (omega arith) title_begun x end stop
         (maybe_of begins_module_name SpellsModuleName tokens (from + 1) x end h)
         ahead reach (omega arith) (omega arith) (record { goes = inl close })) missing
@@ -178,6 +171,10 @@ module _ (tokens : List Token) (from low : ℕ) (inside : from ≤ length tokens
         (past_symbol 8 SpellsClose tokens from low s.SEMICOLON Ends (from + 1) new (from + 2) (omega arith)
         (as_rest 8 SpellsClose tokens from low flagged (BehindSymbol s.SEMICOLON Ends) (from + 1) new
         (λ others k to h. (true, k + 1, (h.0, refl), h.1)) close_begun) symbol inner) h
+
+-- all tokens were read
+pub close_goes : (tokens : List Token) (from low end : ℕ) → low ≤ end → GoesBehind 8 SpellsClose tokens from low end end
+close_goes tokens from low end below = (end, omega arith, record { goes = inl refl }, omega (arith, below))
 
 -- ---- the module
 

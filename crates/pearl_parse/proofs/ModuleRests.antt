@@ -11,7 +11,7 @@ use Rattle.pearl_tree.specs.declared.token.What.{What}
 use Rattle.pearl_tree.specs.declared.token.Token.{Token}
 use Rattle.pearl_tree.specs.Standing.{Spelling, what_at, IsAt, HasWord, HasSymbol, SpellsEach, SpellsMaybe}
 use Rattle.pearl_tree.specs.Declarations.{SpellsDevice}
-use Rattle.pearl_tree.specs.Modules.{SpellsDecl, SpellsModuleName, SpellsSystem, Spells}
+use Rattle.pearl_tree.specs.Modules.{SpellsDecl, SpellsModuleName, SpellsSystem, SpellsTree, Spells}
 use Rattle.pearl_tree.specs.declared.symbol.TheConstants as s
 use Rattle.pearl_tree.specs.declared.word_code.TheConstants as w
 use Rattle.pearl_parse_expr.specs.Stops.{IsLongest, IsOnly, is_name, is_symbol, is_word}
@@ -20,7 +20,7 @@ use Rattle.pearl_parse_expr.proofs.Primaries.{clash}
 use Rattle.pearl_parse.specs.Modules.{begins_declaration, begins_module_name, SpellsOptionalName, SpellsHead}
 use Rattle.pearl_parse.specs.Modules.{SpellsOptionalSystem, SpellsOpening, SpellsEnding, SpellsSource, is_end}
 use Rattle.pearl_parse.proofs.Steps.{Rest, Ends, Then, Goes, Avoids, past, past_only}
-use Rattle.pearl_parse.proofs.LeafRests.{exit_rest}
+use Rattle.pearl_parse.proofs.StatementRests.{exit_rest}
 use Rattle.pearl_parse.proofs.BlockRests.{longest_later}
 
 -- ---- the name
@@ -216,10 +216,10 @@ module _ (others : List Token) where
 
   pub as_tree : (tree : Tree) (a b c : ℕ) → IsAt others 0 tree.place → IsAt others c tree.modend → SpellsHead others 0
       tree.name a → SpellsOpening others a tree.system b →
-      Declarations others b tree.declarations.items.items c → SpellsEnding others c tree.semicolon (length others) →
-      Spells tree others
-  as_tree tree a b c place modend head opening list ending = record {
-    spells = (
+      Declarations others b tree.declarations.items.items c → (to : ℕ) → SpellsEnding others c tree.semicolon to →
+      SpellsSource others 0 tree to
+  as_tree tree a b c place modend head opening list to ending = (
+    (
       head.0,
       opening.0,
       c,
@@ -234,8 +234,13 @@ module _ (others : List Token) where
       ending.0,
       modend,
       ending.1,
-    );
-  }
+    ),
+    ending.2,
+  )
+
+  -- a source is the tree of all its tokens
+  pub source_spells : (tree : Tree) (to : ℕ) → SpellsSource others 0 tree to → Spells tree others
+  source_spells tree to h = record { spells = subst (λ k. SpellsTree others 0 tree k) h.1 h.0 }
 
 module _ (tokens : List Token) where
   pub source_goes : Goes SpellsSource tokens 0 source_rest 0 0

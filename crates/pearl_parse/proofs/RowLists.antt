@@ -23,14 +23,21 @@ module _ (tokens : List Token) (depth : ℕ) where
       let others = more_listed h.0 _ rest to h.2 in
       (items-the_row-Stmt _ row ∷ others.0, (h.0, (h.1.1, statements_listed (from + 1) _ row h.0 h.1.2), others.1))
 
-  pub choices_listed : (from : ℕ) (n : _) (row : Row_of-Branch n) (to : ℕ) → SpellsAlternatives tokens depth from row to →
+  pub choices_listed : (from : ℕ) (n : _) (row : Row_of-Branch n) (to : ℕ) →
+      SpellsAlternatives tokens depth from row to →
       (xs : List (List Stmt)) × SpellsChoices depth tokens from xs to
   choices_listed from _ end_of-Branch to h = absurd h
   choices_listed from _ (more_of-Branch shape row place rest) to h =
       let others = more_listed h.0 _ rest to h.2 in
       (items-the_row-Stmt _ row ∷ others.0, (h.0, (h.1.1, statements_listed (from + 1) _ row h.0 h.1.2), others.1))
 
-  pub otherwise_listed : (word from : ℕ) (otherwise : Held-Case-otherwise) (to : ℕ) → is_word word (what_at tokens to) ≡ false →
-      SpellsOtherwise tokens depth word from otherwise to → (x : Option (List Stmt)) × SpellsOptionalHeaded depth word tokens from x to
-  otherwise_listed word from None' to other h = (None, (h, subst (λ k. is_word word (what_at tokens k) ≡ false) h other))
-  otherwise_listed word from (Some' _ row place) to other h = (Some (items-the_row-Stmt _ row), (h.1, statements_listed (from + 1) _ row to h.2))
+  pub otherwise_listed : (word from : ℕ) (otherwise : Held-Case-otherwise) (to : ℕ) →
+      is_word word (what_at tokens to) ≡ false →
+      SpellsOtherwise tokens depth word from otherwise to → (x : Option (List Stmt)) ×
+      SpellsOptionalHeaded depth word tokens from x to
+  otherwise_listed word from None' to other h =
+      (None, (h, subst (λ k. is_word word (what_at tokens k) ≡ false) h other))
+  otherwise_listed word from (Some' _ row place) to other h = (
+    Some (items-the_row-Stmt _ row),
+    (h.1, statements_listed (from + 1) _ row to h.2),
+  )

@@ -1,5 +1,6 @@
 -- Periods, activations and what begins at some time: what completes them behind their first parts.
-use Rattle.std.proofs.Common.{◌≡◌, ℕ, ◌+◌, ◌<◌, ◌≤◌, ◌^◌, Bool, List, length, Option, Some, None, refl, sym, ap, subst, ◌∙◌, arith}
+use Rattle.std.proofs.Common.{◌≡◌, ℕ, ◌+◌, ◌<◌, ◌≤◌, ◌^◌, Bool, List, length, Option, Some, None, refl, sym, ap, subst}
+use Rattle.std.proofs.Common.{◌∙◌, arith}
 use Rattle.pearl_tree.specs.declared.name.Name.{Name}
 use Rattle.pearl_tree.specs.declared.expression.Expr.{Expr}
 use Rattle.pearl_tree.specs.declared.statement.PeriodEnd.TheVariants.{Until, During}
@@ -20,27 +21,51 @@ use Rattle.pearl_parse.specs.Stops.{IsMissing}
 use Rattle.pearl_parse.specs.Reached.{GoesBehind, HaltsBehind}
 use Rattle.pearl_parse.specs.Schedules.{SpellsOptionalPriority, SpellsActivation, SpellsAnyBegun, time_word}
 use Rattle.pearl_parse.proofs.Steps.{Rest, Ends, Then}
-use Rattle.pearl_parse.proofs.LeafRests.{Spelled}
+use Rattle.pearl_parse.proofs.StatementRests.{Spelled}
 use Rattle.pearl_parse.proofs.LocalStatements.{after_keeps, period_end_keeps, period_keeps}
 use Rattle.pearl_parse.proofs.Comes.{Fills, BehindWord, Maybe, Makes, ends_fill, fills_as, fills_maybe, fills_name}
 use Rattle.pearl_parse.proofs.Made.{semicolon, activate_made, continue_made}
-use Rattle.pearl_parse.proofs.ScheduleMade.{After, activation, continuation, resumption, period_made, timed_activation_made, timed_continuation_made, timed_resumption_made, when_activation_made, when_continuation_made, when_resumption_made, periodic_made}
+use Rattle.pearl_parse.proofs.ScheduleMade.{After, activation, continuation, resumption, period_made}
+use Rattle.pearl_parse.proofs.ScheduleMade.{timed_activation_made, timed_continuation_made, timed_resumption_made}
+use Rattle.pearl_parse.proofs.ScheduleMade.{when_activation_made, when_continuation_made, when_resumption_made}
+use Rattle.pearl_parse.proofs.ScheduleMade.{periodic_made}
 use Rattle.pearl_parse.proofs.Tails.{semicolon_fills, activation_fills, continuation_fills, resumption_fills}
-use Rattle.pearl_parse.proofs.LeafLeast.{by_rule}
-use Rattle.pearl_parse.proofs.States.{State, first, past_word, past_name, past_part, halt_part, halt_token, raised, told_as, halts_behind_as, some_reaches}
+use Rattle.pearl_parse.proofs.StatementLeast.{by_rule}
+use Rattle.pearl_parse.proofs.States.{State, first, past_word, past_name, past_part, halt_part, halt_token, raised}
+use Rattle.pearl_parse.proofs.States.{told_as, halts_behind_as, some_reaches}
 
 -- ---- the end of a period
 
 module _ (tokens : List Token) (from : ℕ) where
-  pub until_reaches : (stop : ℕ) → from ≤ stop → ReachesIn 8 (After w.UNTIL) tokens from stop → ReachesIn 8 (Maybe SpellsPeriodEnd) tokens from stop
+  pub until_reaches : (stop : ℕ) → from ≤ stop → ReachesIn 8 (After w.UNTIL) tokens from stop →
+      ReachesIn 8 (Maybe SpellsPeriodEnd) tokens from stop
   until_reaches stop near r =
       let at = placed r.others from (what.Word w.UNTIL) r.spelled.0 in
-      record { others = r.others; alike = r.alike; long = r.long; short = r.short; lawful = r.lawful; part = Some (Until r.part at.0); spelled = (at.1, r.spelled) }
+      record {
+        others = r.others;
+        alike = r.alike;
+        long = r.long;
+        short = r.short;
+        lawful = r.lawful;
+        part =
+            Some (Until r.part at.0);
+        spelled = (at.1, r.spelled);
+      }
 
-  pub during_reaches : (stop : ℕ) → from ≤ stop → ReachesIn 8 (After w.DURING) tokens from stop → ReachesIn 8 (Maybe SpellsPeriodEnd) tokens from stop
+  pub during_reaches : (stop : ℕ) → from ≤ stop → ReachesIn 8 (After w.DURING) tokens from stop →
+      ReachesIn 8 (Maybe SpellsPeriodEnd) tokens from stop
   during_reaches stop near r =
       let at = placed r.others from (what.Word w.DURING) r.spelled.0 in
-      record { others = r.others; alike = r.alike; long = r.long; short = r.short; lawful = r.lawful; part = Some (During r.part at.0); spelled = (at.1, r.spelled) }
+      record {
+        others = r.others;
+        alike = r.alike;
+        long = r.long;
+        short = r.short;
+        lawful = r.lawful;
+        part =
+            Some (During r.part at.0);
+        spelled = (at.1, r.spelled);
+      }
 
 -- ---- what the parts depend on
 
@@ -48,37 +73,57 @@ pub after_is_local : (word : ℕ) → IsLocal (After word)
 after_is_local word = local_of 2 (After word) (λ tokens others k alike. after_keeps tokens others k alike word)
 
 pub maybe_after_is_local : (word : ℕ) → IsLocal (Maybe (After word))
-maybe_after_is_local word = local_of 0 (Maybe (After word)) (λ tokens others k alike. maybe_keeps tokens others k alike 2 (After word) (after_keeps tokens others k alike word))
+maybe_after_is_local word = local_of 0 (Maybe (After word)) (λ tokens others k alike.
+    maybe_keeps tokens others k alike 2 (After word) (after_keeps tokens others k alike word))
 
 pub maybe_end_is_local : IsLocal (Maybe SpellsPeriodEnd)
-maybe_end_is_local = local_of 0 (Maybe SpellsPeriodEnd) (λ tokens others k alike. maybe_keeps tokens others k alike 2 SpellsPeriodEnd (period_end_keeps tokens others k alike))
+maybe_end_is_local = local_of 0 (Maybe SpellsPeriodEnd) (λ tokens others k alike.
+    maybe_keeps tokens others k alike 2 SpellsPeriodEnd (period_end_keeps tokens others k alike))
 
 pub period_is_local : IsLocal SpellsPeriod
 period_is_local = local_of 2 SpellsPeriod period_keeps
 
 pub maybe_period_is_local : IsLocal (Maybe SpellsPeriod)
-maybe_period_is_local = local_of 0 (Maybe SpellsPeriod) (λ tokens others k alike. maybe_keeps tokens others k alike 2 SpellsPeriod (period_keeps tokens others k alike))
+maybe_period_is_local = local_of 0 (Maybe SpellsPeriod) (λ tokens others k alike.
+    maybe_keeps tokens others k alike 2 SpellsPeriod (period_keeps tokens others k alike))
 
 module _ (tokens others : List Token) (k : ℕ) (alike : AlikeBefore tokens others k) where
   kept : (j : ℕ) → j < k → what_at others j ≡ what_at tokens j
   kept = local.what tokens others k alike
 
-  priority_keeps : (from : ℕ) (x : Option Expr) (m : ℕ) → SpellsOptionalPriority tokens from x m → m < k → (from ≤ m) × SpellsOptionalPriority others from x m
-  priority_keeps from None m h below = (omega (arith, h.0), (h.0, ap (is_word w.PRIO) (kept from (omega (arith, h.0))) ∙ h.1))
-  priority_keeps from (Some x) m h below = let part = after_keeps tokens others k alike w.PRIO from x m h (omega arith) in (omega (arith, part.0), part.1)
+  priority_keeps : (from : ℕ) (x : Option Expr) (m : ℕ) → SpellsOptionalPriority tokens from x m → m < k → (from ≤ m) ×
+      SpellsOptionalPriority others from x m
+  priority_keeps from None m h below = (
+    omega (arith, h.0),
+    (
+      h.0,
+      ap (is_word w.PRIO) (kept from (omega (arith, h.0))) ∙
+          h.1,
+    ),
+  )
+  priority_keeps from (Some x) m h below = let part = after_keeps tokens others k alike w.PRIO from x m h
+      (omega arith) in (omega (arith, part.0), part.1)
 
   activation_keeps : Keeps tokens others k 3 SpellsActivation
   activation_keeps from x to h near =
       let priority = priority_keeps (from + 2) x.1 h.0 h.3 (omega (arith, h.5)) in
       let below : from + 2 < k = omega (arith, h.5, priority.0) in (
         omega (arith, h.5, priority.0),
-        (h.0, kept from (omega arith) ∙ h.1, local.name tokens others k alike (from + 1) x.0 (omega arith) h.2, priority.1, kept h.0 (omega (arith, h.5)) ∙ h.4, h.5),
+        (
+          h.0,
+          kept from (omega arith) ∙ h.1,
+          local.name tokens others k alike (from + 1) x.0 (omega arith) h.2,
+          priority.1,
+          kept h.0 (omega (arith, h.5)) ∙ h.4,
+          h.5,
+        ),
       )
 
   begun_keeps : Keeps tokens others k 3 SpellsAnyBegun
   begun_keeps from x to h near =
       let last = activation_keeps h.0 x.1 to h.2 near in
-      let period = maybe_keeps tokens others k alike 2 SpellsPeriod (period_keeps tokens others k alike) from x.0 h.0 h.1 (omega (arith, last.0)) in
+      let period = maybe_keeps tokens others k alike 2 SpellsPeriod (period_keeps tokens others k alike) from x.0 h.0
+      h.1 (omega (arith, last.0)) in
       (omega (arith, last.0, period.0), (h.0, period.1, last.1))
 
 pub activation_is_local : IsLocal SpellsActivation
@@ -89,30 +134,58 @@ begun_is_local = local_of 3 SpellsAnyBegun begun_keeps
 
 -- ---- an activation, as a part and as tokens and parts one after the other
 
-optional_priority : (others : List Token) (from : ℕ) (x : Option Expr) (m : ℕ) → Maybe (After w.PRIO) others from x m → HasSymbol others m s.SEMICOLON → SpellsOptionalPriority others from x m
-optional_priority others from None m h close = (h, ap (is_word w.PRIO) (subst (λ k. HasSymbol others k s.SEMICOLON) h close))
+optional_priority : (others : List Token) (from : ℕ) (x : Option Expr) (m : ℕ) → Maybe (After w.PRIO) others from x m →
+    HasSymbol others m s.SEMICOLON → SpellsOptionalPriority others from x m
+optional_priority others from None m h close =
+    (h, ap (is_word w.PRIO) (subst (λ k. HasSymbol others k s.SEMICOLON) h close))
 optional_priority others from (Some x) m h close = h
 
-maybe_priority : (others : List Token) (from : ℕ) (x : Option Expr) (m : ℕ) → SpellsOptionalPriority others from x m → Maybe (After w.PRIO) others from x m
+maybe_priority : (others : List Token) (from : ℕ) (x : Option Expr) (m : ℕ) → SpellsOptionalPriority others from x m →
+    Maybe (After w.PRIO) others from x m
 maybe_priority others from None m h = h.0
 maybe_priority others from (Some x) m h = h
 
-pub activation_spelled : (others : List Token) (from to : ℕ) → activation others from to → (x : Name × Option Expr) × SpellsActivation others from x to
+pub activation_spelled : (others : List Token) (from to : ℕ) → activation others from to → (x : Name × Option Expr) ×
+    SpellsActivation others from x to
 activation_spelled others from to h =
     let behind : h.1.1 ≡ from + 2 = omega (arith, h.1.2.1) in
     let last = h.1.3 in
-    let priority = subst (λ k. Maybe (After w.PRIO) others k last.0 last.1) behind last.2 in
-    ((h.1.0, last.0), (last.1, h.0, h.1.2.0, optional_priority others (from + 2) last.0 last.1 priority last.3.0, last.3.0, last.3.1))
+    let priority = subst (λ k. Maybe (After w.PRIO) others k last.0 last.1) behind last.2 in (
+      (h.1.0, last.0),
+      (
+        last.1,
+        h.0,
+        h.1.2.0,
+        optional_priority others (from + 2) last.0 last.1 priority last.3.0,
+        last.3.0,
+        last.3.1,
+      ),
+    )
 
-activation_of : (others : List Token) (from : ℕ) (x : Name × Option Expr) (to : ℕ) → SpellsActivation others from x to → activation others from to
+activation_of : (others : List Token) (from : ℕ) (x : Name × Option Expr) (to : ℕ) → SpellsActivation others from x to →
+    activation others from to
 activation_of others from x to h =
-    let next : from + 2 ≡ from + 1 + 1 = omega arith in
-    (h.1, (x.0, from + 1 + 1, (h.2, refl), (x.1, h.0, subst (λ k. Maybe (After w.PRIO) others k x.1 h.0) next (maybe_priority others (from + 2) x.1 h.0 h.3), (h.4, h.5))))
+    let next : from + 2 ≡ from + 1 + 1 = omega arith in (
+      h.1,
+      (
+        x.0,
+        from + 1 + 1,
+        (h.2, refl),
+        (
+          x.1,
+          h.0,
+          subst (λ k. Maybe (After w.PRIO) others k x.1 h.0) next
+              (maybe_priority others (from + 2) x.1 h.0 h.3),
+          (h.4, h.5),
+        ),
+      ),
+    )
 
 as_activation : (others : List Token) (at to : ℕ) → Then SpellsActivation Ends others at to → activation others at to
 as_activation others at to h = subst (λ k. activation others at k) (sym h.3) (activation_of others at h.0 h.1 h.2)
 
-as_begun : (others : List Token) (at to : ℕ) → Then SpellsAnyBegun Ends others at to → Then (Maybe SpellsPeriod) activation others at to
+as_begun : (others : List Token) (at to : ℕ) → Then SpellsAnyBegun Ends others at to →
+    Then (Maybe SpellsPeriod) activation others at to
 as_begun others at to h =
     (h.0.0, h.2.0, h.2.1, subst (λ k. activation others h.2.0 k) (sym h.3) (activation_of others h.2.0 h.0.1 h.1 h.2.2))
 
@@ -127,21 +200,27 @@ begun_made others from to small h =
 
 module _ (depth : ℕ) where
   pub activation_made : Makes (Spelled depth) (Then SpellsActivation Ends)
-  activation_made others from to small h = activate_made depth others from to small (None, from, refl, as_activation others from to h)
+  activation_made others from to small h = activate_made depth others from to small
+      (None, from, refl, as_activation others from to h)
 
   pub periodic_activation_made : Makes (Spelled depth) (Then SpellsPeriod (Then SpellsActivation Ends))
-  periodic_activation_made others from to small h = periodic_made depth others from to small (h.0, h.1, h.2, as_activation others h.1 to h.3)
+  periodic_activation_made others from to small h = periodic_made depth others from to small
+      (h.0, h.1, h.2, as_activation others h.1 to h.3)
 
   pub continuation_made : Makes (Spelled depth) continuation
   continuation_made others from to small h = continue_made depth others from to small (None, from, refl, h)
 
-  pub timed_begun_made : (later : Bool) → Makes (Spelled depth) (Then (After (time_word later)) (Then SpellsAnyBegun Ends))
-  timed_begun_made later others from to small h = timed_activation_made depth later others from to small (h.0, h.1, h.2, as_begun others h.1 to h.3)
+  pub timed_begun_made : (later : Bool) → Makes (Spelled depth) (Then (After (time_word later))
+      (Then SpellsAnyBegun Ends))
+  timed_begun_made later others from to small h = timed_activation_made depth later others from to small
+      (h.0, h.1, h.2, as_begun others h.1 to h.3)
 
-  pub when_begun_made : Makes (Spelled depth) (BehindWord w.WHEN (Then SpellsName (Then (Maybe (After w.AFTER)) (Then SpellsAnyBegun Ends))))
+  pub when_begun_made : Makes (Spelled depth)
+      (BehindWord w.WHEN (Then SpellsName (Then (Maybe (After w.AFTER)) (Then SpellsAnyBegun Ends))))
   when_begun_made others from to small h =
       let late = h.1.3 in
-      when_activation_made depth others from to small (h.0, (h.1.0, h.1.1, h.1.2, (late.0, late.1, late.2, as_begun others late.1 to late.3)))
+      when_activation_made depth others from to small
+      (h.0, (h.1.0, h.1.1, h.1.2, (late.0, late.1, late.2, as_begun others late.1 to late.3)))
 
 -- ---- what completes them
 
@@ -149,10 +228,12 @@ pub end_fills : Fills 0 (Then (Maybe SpellsPeriodEnd) Ends)
 end_fills = fills_maybe 0 Ends ends_fill SpellsPeriodEnd
 
 pub activation_part_fills : Fills 3 (Then SpellsActivation Ends)
-activation_part_fills = fills_as 3 activation activation_fills (Then SpellsActivation Ends) (λ others k to h. let part = activation_spelled others k to h in (part.0, to, part.1, refl))
+activation_part_fills = fills_as 3 activation activation_fills (Then SpellsActivation Ends)
+    (λ others k to h. let part = activation_spelled others k to h in (part.0, to, part.1, refl))
 
 pub begun_fills : Fills 3 (Then SpellsAnyBegun Ends)
-begun_fills = fills_as 3 activation activation_fills (Then SpellsAnyBegun Ends) (λ others k to h. let part = activation_spelled others k to h in ((None, part.0), to, (k, refl, part.1), refl))
+begun_fills = fills_as 3 activation activation_fills (Then SpellsAnyBegun Ends)
+    (λ others k to h. let part = activation_spelled others k to h in ((None, part.0), to, (k, refl, part.1), refl))
 
 pub late_begun_fills : Fills 3 (Then (Maybe (After w.AFTER)) (Then SpellsAnyBegun Ends))
 late_begun_fills = fills_maybe 3 (Then SpellsAnyBegun Ends) begun_fills (After w.AFTER)
@@ -169,90 +250,127 @@ interrupt_fills = fills_name 3 continuation continuation_fills
 -- ---- how far their readers come
 
 module _ (tokens : List Token) (from low : ℕ) (inside : from ≤ length tokens) (few : length tokens < 2 ^ 55) where
-  pub period_first : State 16 SpellsPeriod tokens from low (Then (After w.ALL) (Then (Maybe SpellsPeriodEnd) Ends)) from low
-  period_first = first 16 SpellsPeriod tokens from low (Then (After w.ALL) (Then (Maybe SpellsPeriodEnd) Ends)) 0 low period_made (omega arith) (omega arith) (omega arith) inside few
+  pub period_first : State 16 SpellsPeriod tokens from low (Then (After w.ALL) (Then (Maybe SpellsPeriodEnd) Ends)) from
+      low
+  period_first = first 16 SpellsPeriod tokens from low (Then (After w.ALL) (Then (Maybe SpellsPeriodEnd) Ends)) 0 low
+      period_made (omega arith) (omega arith) (omega arith) inside few
 
-  pub period_past : (x : Expr) (end stop : ℕ) → After w.ALL tokens from x end → from ≤ end → stop ≤ length tokens → GoesBehind 8 (After w.ALL) tokens from low end stop →
+  pub period_past : (x : Expr) (end stop : ℕ) → After w.ALL tokens from x end → from ≤ end → stop ≤ length tokens →
+      GoesBehind 8 (After w.ALL) tokens from low end stop →
       State 16 SpellsPeriod tokens from low (Then (Maybe SpellsPeriodEnd) Ends) end stop
-  period_past = past_part 16 SpellsPeriod tokens from low 0 8 (After w.ALL) (Then (Maybe SpellsPeriodEnd) Ends) (after_is_local w.ALL) end_fills (omega arith) from low (omega arith) period_first
+  period_past = past_part 16 SpellsPeriod tokens from low 0 8 (After w.ALL) (Then (Maybe SpellsPeriodEnd) Ends)
+      (after_is_local w.ALL) end_fills (omega arith) from low (omega arith) period_first
 
   pub activation_first : State 16 SpellsActivation tokens from low activation from low
-  activation_first = first 16 SpellsActivation tokens from low activation 0 low activation_part_made (omega arith) (omega arith) (omega arith) inside few
+  activation_first = first 16 SpellsActivation tokens from low activation 0 low activation_part_made (omega arith)
+      (omega arith) (omega arith) inside few
 
-  pub activation_named : HasWord tokens from w.ACTIVATE → from < length tokens → State 16 SpellsActivation tokens from low (Then SpellsName (Then (Maybe (After w.PRIO)) semicolon)) (from + 1) low
+  pub activation_named : HasWord tokens from w.ACTIVATE → from < length tokens →
+      State 16 SpellsActivation tokens from low (Then SpellsName (Then (Maybe (After w.PRIO)) semicolon)) (from + 1) low
   activation_named here within =
-      past_word 16 SpellsActivation tokens from low w.ACTIVATE (Then SpellsName (Then (Maybe (After w.PRIO)) semicolon)) from low (from + 1) (omega arith) activation_first here within
+      past_word 16 SpellsActivation tokens from low w.ACTIVATE (Then SpellsName (Then (Maybe (After w.PRIO)) semicolon))
+      from low (from + 1) (omega arith) activation_first here within
 
-  pub begun_first : State 24 SpellsAnyBegun tokens from low (Then (Maybe SpellsPeriod) (Then SpellsActivation Ends)) from low
-  begun_first = first 24 SpellsAnyBegun tokens from low (Then (Maybe SpellsPeriod) (Then SpellsActivation Ends)) 0 low begun_made (omega arith) (omega arith) (omega arith) inside few
+  pub begun_first : State 24 SpellsAnyBegun tokens from low (Then (Maybe SpellsPeriod) (Then SpellsActivation Ends))
+      from low
+  begun_first = first 24 SpellsAnyBegun tokens from low (Then (Maybe SpellsPeriod) (Then SpellsActivation Ends)) 0 low
+      begun_made (omega arith) (omega arith) (omega arith) inside few
 
-  pub begun_past : (x : Option Period) (end stop : ℕ) → Maybe SpellsPeriod tokens from x end → from ≤ end → stop ≤ length tokens → GoesBehind 16 (Maybe SpellsPeriod) tokens from low end stop →
+  pub begun_past : (x : Option Period) (end stop : ℕ) → Maybe SpellsPeriod tokens from x end → from ≤ end →
+      stop ≤ length tokens → GoesBehind 16 (Maybe SpellsPeriod) tokens from low end stop →
       State 24 SpellsAnyBegun tokens from low (Then SpellsActivation Ends) end stop
   begun_past =
-      past_part 24 SpellsAnyBegun tokens from low 3 16 (Maybe SpellsPeriod) (Then SpellsActivation Ends) maybe_period_is_local activation_part_fills (omega arith) from low (omega arith) begun_first
+      past_part 24 SpellsAnyBegun tokens from low 3 16 (Maybe SpellsPeriod) (Then SpellsActivation Ends)
+      maybe_period_is_local activation_part_fills (omega arith) from low (omega arith) begun_first
 
 -- a part that may be missing
 module _ {X : Type 0} (spells : List Token → Spelling X) (tokens : List Token) (from low : ℕ) where
-  pub told_some : (end stop : ℕ) → from ≤ end → GoesBehind 16 spells tokens from low end stop → GoesBehind 16 (Maybe spells) tokens from low end stop
-  told_some = told_as 16 16 spells (Maybe spells) tokens from from (omega arith) (some_reaches 16 spells tokens from) low
+  pub told_some : (end stop : ℕ) → from ≤ end → GoesBehind 16 spells tokens from low end stop →
+      GoesBehind 16 (Maybe spells) tokens from low end stop
+  told_some = told_as 16 16 spells (Maybe spells) tokens from from (omega arith) (some_reaches 16 spells tokens from)
+      low
 
-  pub halts_some : (halt : Halt) → HaltsBehind 16 spells tokens from low halt → HaltsBehind 16 (Maybe spells) tokens from low halt
-  halts_some = halts_behind_as 16 16 spells (Maybe spells) tokens from from (omega arith) (some_reaches 16 spells tokens from) low
+  pub halts_some : (halt : Halt) → HaltsBehind 16 spells tokens from low halt →
+      HaltsBehind 16 (Maybe spells) tokens from low halt
+  halts_some = halts_behind_as 16 16 spells (Maybe spells) tokens from from (omega arith)
+      (some_reaches 16 spells tokens from) low
 
 -- AT or AFTER, and WHEN
 module _ (tokens : List Token) (depth from : ℕ) (inside : from < length tokens) (few : length tokens < 2 ^ 55) where
   module _ (later : Bool) (word : ℕ) (is : word ≡ time_word later) where
-    timed_first : (rest : Rest) → Makes (Spelled depth) (Then (After (time_word later)) rest) → State 24 (Spelled depth) tokens from 0 (Then (After word) rest) from from
-    timed_first rest makes = by_rule tokens depth from inside few (Then (After word) rest) (subst (λ word. Makes (Spelled depth) (Then (After word) rest)) (sym is) makes)
+    timed_first : (rest : Rest) → Makes (Spelled depth) (Then (After (time_word later)) rest) →
+        State 24 (Spelled depth) tokens from 0 (Then (After word) rest) from from
+    timed_first rest makes = by_rule tokens depth from inside few (Then (After word) rest)
+        (subst (λ word. Makes (Spelled depth) (Then (After word) rest)) (sym is) makes)
 
-    pub timed_halts : (halt : Halt) → HaltsBehind 8 (After word) tokens from from halt → HaltsBehind 24 (Spelled depth) tokens from 0 halt
+    pub timed_halts : (halt : Halt) → HaltsBehind 8 (After word) tokens from from halt →
+        HaltsBehind 24 (Spelled depth) tokens from 0 halt
     timed_halts =
-        halt_part 24 (Spelled depth) tokens from 0 3 8 (After word) continuation (after_is_local word) continuation_fills (omega arith) from from (omega arith)
+        halt_part 24 (Spelled depth) tokens from 0 3 8 (After word) continuation (after_is_local word)
+        continuation_fills (omega arith) from from (omega arith)
         (timed_first continuation (timed_continuation_made depth later))
 
-    module _ (x : Expr) (end stop : ℕ) (h : After word tokens from x end) (ahead : from ≤ end) (within : stop ≤ length tokens) (told : GoesBehind 8 (After word) tokens from from end stop) where
+    module _ (x : Expr) (end stop : ℕ) (h : After word tokens from x end) (ahead : from ≤ end)
+        (within : stop ≤ length tokens) (told : GoesBehind 8 (After word) tokens from from end stop) where
       pub timed_continues : State 24 (Spelled depth) tokens from 0 continuation end stop
       timed_continues =
-          past_part 24 (Spelled depth) tokens from 0 3 8 (After word) continuation (after_is_local word) continuation_fills (omega arith) from from (omega arith)
+          past_part 24 (Spelled depth) tokens from 0 3 8 (After word) continuation (after_is_local word)
+          continuation_fills (omega arith) from from (omega arith)
           (timed_first continuation (timed_continuation_made depth later)) x end stop h ahead within told
 
       pub timed_resumes : State 24 (Spelled depth) tokens from 0 resumption end stop
       timed_resumes =
-          past_part 24 (Spelled depth) tokens from 0 2 8 (After word) resumption (after_is_local word) resumption_fills (omega arith) from from (omega arith)
+          past_part 24 (Spelled depth) tokens from 0 2 8 (After word) resumption (after_is_local word) resumption_fills
+          (omega arith) from from (omega arith)
           (timed_first resumption (timed_resumption_made depth later)) x end stop h ahead within told
 
       pub timed_begins : State 24 (Spelled depth) tokens from 0 (Then SpellsAnyBegun Ends) end stop
       timed_begins =
-          past_part 24 (Spelled depth) tokens from 0 3 8 (After word) (Then SpellsAnyBegun Ends) (after_is_local word) begun_fills (omega arith) from from (omega arith)
+          past_part 24 (Spelled depth) tokens from 0 3 8 (After word) (Then SpellsAnyBegun Ends) (after_is_local word)
+          begun_fills (omega arith) from from (omega arith)
           (timed_first (Then SpellsAnyBegun Ends) (timed_begun_made depth later)) x end stop h ahead within told
 
   module _ (here : HasWord tokens from w.WHEN) where
-    when_first : (rest : Rest) → Makes (Spelled depth) (BehindWord w.WHEN (Then SpellsName rest)) → State 24 (Spelled depth) tokens from 0 (Then SpellsName rest) (from + 1) from
+    when_first : (rest : Rest) → Makes (Spelled depth) (BehindWord w.WHEN (Then SpellsName rest)) →
+        State 24 (Spelled depth) tokens from 0 (Then SpellsName rest) (from + 1) from
     when_first rest makes =
-        past_word 24 (Spelled depth) tokens from 0 w.WHEN (Then SpellsName rest) from from (from + 1) (omega arith) (by_rule tokens depth from inside few (BehindWord w.WHEN (Then SpellsName rest)) makes) here inside
+        past_word 24 (Spelled depth) tokens from 0 w.WHEN (Then SpellsName rest) from from (from + 1) (omega arith)
+        (by_rule tokens depth from inside few (BehindWord w.WHEN (Then SpellsName rest)) makes) here inside
 
-    pub interrupt_missing : (halt : Halt) → IsMissing tokens is_name (from + 1) from halt → HaltsBehind 24 (Spelled depth) tokens from 0 halt
+    pub interrupt_missing : (halt : Halt) → IsMissing tokens is_name (from + 1) from halt →
+        HaltsBehind 24 (Spelled depth) tokens from 0 halt
     interrupt_missing halt h =
-        halt_token 24 (Spelled depth) tokens from 0 4 (Then SpellsName continuation) interrupt_fills (omega arith) is_name (from + 1) from halt (when_first continuation (when_continuation_made depth)) h
+        halt_token 24 (Spelled depth) tokens from 0 4 (Then SpellsName continuation) interrupt_fills (omega arith)
+        is_name (from + 1) from halt (when_first continuation (when_continuation_made depth)) h
 
     module _ (name : Name) (named : IsName tokens (from + 1) name) (within : from + 1 < length tokens) where
-      when_named : (rest : Rest) → Makes (Spelled depth) (BehindWord w.WHEN (Then SpellsName rest)) → State 24 (Spelled depth) tokens from 0 rest (from + 2) (from + 2)
+      when_named : (rest : Rest) → Makes (Spelled depth) (BehindWord w.WHEN (Then SpellsName rest)) →
+          State 24 (Spelled depth) tokens from 0 rest (from + 2) (from + 2)
       when_named rest makes =
           raised 24 (Spelled depth) tokens from 0 rest (from + 2) from (from + 2)
-          (past_name 24 (Spelled depth) tokens from 0 name rest (from + 1) from (from + 2) (omega arith) (when_first rest makes) named within) (omega arith) (omega arith)
+          (past_name 24 (Spelled depth) tokens from 0 name rest (from + 1) from (from + 2) (omega arith)
+          (when_first rest makes) named within) (omega arith) (omega arith)
 
-      pub interrupt_continues : HasWord tokens (from + 2) w.CONTINUE → from + 2 < length tokens → State 24 (Spelled depth) tokens from 0 (Then SpellsName semicolon) (from + 3) (from + 2)
+      pub interrupt_continues : HasWord tokens (from + 2) w.CONTINUE → from + 2 < length tokens →
+          State 24 (Spelled depth) tokens from 0 (Then SpellsName semicolon) (from + 3) (from + 2)
       interrupt_continues next =
-          past_word 24 (Spelled depth) tokens from 0 w.CONTINUE (Then SpellsName semicolon) (from + 2) (from + 2) (from + 3) (omega arith) (when_named continuation (when_continuation_made depth)) next
+          past_word 24 (Spelled depth) tokens from 0 w.CONTINUE (Then SpellsName semicolon) (from + 2) (from + 2)
+          (from + 3) (omega arith) (when_named continuation (when_continuation_made depth)) next
 
-      pub interrupt_resumes : HasWord tokens (from + 2) w.RESUME → from + 2 < length tokens → State 24 (Spelled depth) tokens from 0 semicolon (from + 3) (from + 2)
+      pub interrupt_resumes : HasWord tokens (from + 2) w.RESUME → from + 2 < length tokens →
+          State 24 (Spelled depth) tokens from 0 semicolon (from + 3) (from + 2)
       interrupt_resumes next =
-          past_word 24 (Spelled depth) tokens from 0 w.RESUME semicolon (from + 2) (from + 2) (from + 3) (omega arith) (when_named resumption (when_resumption_made depth)) next
+          past_word 24 (Spelled depth) tokens from 0 w.RESUME semicolon (from + 2) (from + 2) (from + 3) (omega arith)
+          (when_named resumption (when_resumption_made depth)) next
 
-      pub interrupt_late : State 24 (Spelled depth) tokens from 0 (Then (Maybe (After w.AFTER)) (Then SpellsAnyBegun Ends)) (from + 2) (from + 2)
+      pub interrupt_late : State 24 (Spelled depth) tokens from 0
+          (Then (Maybe (After w.AFTER)) (Then SpellsAnyBegun Ends)) (from + 2) (from + 2)
       interrupt_late = when_named (Then (Maybe (After w.AFTER)) (Then SpellsAnyBegun Ends)) (when_begun_made depth)
 
-      pub interrupt_begins : (x : Option Expr) (end stop : ℕ) → Maybe (After w.AFTER) tokens (from + 2) x end → from + 2 ≤ end → stop ≤ length tokens →
-          GoesBehind 8 (Maybe (After w.AFTER)) tokens (from + 2) (from + 2) end stop → State 24 (Spelled depth) tokens from 0 (Then SpellsAnyBegun Ends) end stop
+      pub interrupt_begins : (x : Option Expr) (end stop : ℕ) → Maybe (After w.AFTER) tokens (from + 2) x end →
+          from + 2 ≤ end → stop ≤ length tokens →
+          GoesBehind 8 (Maybe (After w.AFTER)) tokens (from + 2) (from + 2) end stop →
+          State 24 (Spelled depth) tokens from 0 (Then SpellsAnyBegun Ends) end stop
       interrupt_begins =
-          past_part 24 (Spelled depth) tokens from 0 3 8 (Maybe (After w.AFTER)) (Then SpellsAnyBegun Ends) (maybe_after_is_local w.AFTER) begun_fills (omega arith) (from + 2) (from + 2) (omega arith) interrupt_late
+          past_part 24 (Spelled depth) tokens from 0 3 8 (Maybe (After w.AFTER)) (Then SpellsAnyBegun Ends)
+          (maybe_after_is_local w.AFTER) begun_fills (omega arith) (from + 2) (from + 2) (omega arith) interrupt_late

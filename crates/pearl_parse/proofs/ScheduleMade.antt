@@ -48,23 +48,31 @@ during_made others from to small h =
 pub period_made : Makes SpellsPeriod (Then (After w.ALL) (Then (Maybe SpellsPeriodEnd) Ends))
 period_made others from to small h =
     let at = placed others from (what.Word w.ALL) h.2.0 in
-    let last = h.3 in
-    (record { duration = h.0; end = last.0; place = at.0 }, (h.1, at.1, h.2, subst (λ k. Maybe SpellsPeriodEnd others h.1 last.0 k) (sym last.3) last.2))
+    let last = h.3 in (
+      record { duration = h.0; end = last.0; place = at.0 },
+      (h.1, at.1, h.2, subst (λ k. Maybe SpellsPeriodEnd others h.1 last.0 k) (sym last.3) last.2),
+    )
 
-timed_start : (later : Bool) (others : List Token) (from : ℕ) (x : Expr) (m : ℕ) (u : Option Period) (to : ℕ) → After (time_word later) others from x m → Maybe SpellsPeriod others m u to →
+timed_start : (later : Bool) (others : List Token) (from : ℕ) (x : Expr) (m : ℕ) (u : Option Period) (to : ℕ) →
+    After (time_word later) others from x m → Maybe SpellsPeriod others m u to →
     (a : Start) × SpellsStart others from a to
-timed_start false others from x m u to h g = let at = placed others from (what.Word w.AT) h.0 in (start.At x u at.0, (m, at.1, h, g))
-timed_start true others from x m u to h g = let at = placed others from (what.Word w.AFTER) h.0 in (start.After x u at.0, (m, at.1, h, g))
+timed_start false others from x m u to h g = let at = placed others from (what.Word w.AT) h.0 in
+    (start.At x u at.0, (m, at.1, h, g))
+timed_start true others from x m u to h g = let at = placed others from (what.Word w.AFTER) h.0 in
+    (start.After x u at.0, (m, at.1, h, g))
 
-timed_once : (later : Bool) (others : List Token) (from : ℕ) (x : Expr) (to : ℕ) → After (time_word later) others from x to → (a : Once) × SpellsOnce others from a to
+timed_once : (later : Bool) (others : List Token) (from : ℕ) (x : Expr) (to : ℕ) →
+    After (time_word later) others from x to → (a : Once) × SpellsOnce others from a to
 timed_once false others from x to h = let at = placed others from (what.Word w.AT) h.0 in (once.At x at.0, (at.1, h))
-timed_once true others from x to h = let at = placed others from (what.Word w.AFTER) h.0 in (once.After x at.0, (at.1, h))
+timed_once true others from x to h = let at = placed others from (what.Word w.AFTER) h.0 in
+    (once.After x at.0, (at.1, h))
 
 module _ (depth : ℕ) where
   abbrev Spelled : List Token → Spelling Stmt
   Spelled tokens = SpellsStmt tokens depth
 
-  pub timed_activation_made : (later : Bool) → Makes Spelled (Then (After (time_word later)) (Then (Maybe SpellsPeriod) activation))
+  pub timed_activation_made : (later : Bool) → Makes Spelled (Then (After (time_word later))
+      (Then (Maybe SpellsPeriod) activation))
   timed_activation_made later others from to small h =
       let period = h.3 in
       let begin = timed_start later others from h.0 h.1 period.0 period.1 h.2 period.2 in
@@ -80,7 +88,8 @@ module _ (depth : ℕ) where
       let begin = timed_once later others from h.0 h.1 h.2 in
       resume_made depth others from to small (begin.0, h.1, begin.1, h.3)
 
-  pub when_activation_made : Makes Spelled (BehindWord w.WHEN (Then SpellsName (Then (Maybe (After w.AFTER)) (Then (Maybe SpellsPeriod) activation))))
+  pub when_activation_made : Makes Spelled
+      (BehindWord w.WHEN (Then SpellsName (Then (Maybe (After w.AFTER)) (Then (Maybe SpellsPeriod) activation))))
   when_activation_made others from to small h =
       let at = placed others from (what.Word w.WHEN) h.0 in
       let late = h.1.3 in
@@ -96,12 +105,22 @@ module _ (depth : ℕ) where
   pub when_continuation_made : Makes Spelled (BehindWord w.WHEN (Then SpellsName continuation))
   when_continuation_made others from to small h =
       let at = placed others from (what.Word w.WHEN) h.0 in
-      continue_made depth others from to small (Some (once.When h.1.0 at.0), h.1.1, (at.1, h.0, h.1.2.0, omega (arith, h.1.2.1)), h.1.3)
+      continue_made depth others from to small (
+        Some (once.When h.1.0 at.0),
+        h.1.1,
+        (at.1, h.0, h.1.2.0, omega (arith, h.1.2.1)),
+        h.1.3,
+      )
 
   pub when_resumption_made : Makes Spelled (BehindWord w.WHEN (Then SpellsName resumption))
   when_resumption_made others from to small h =
       let at = placed others from (what.Word w.WHEN) h.0 in
-      resume_made depth others from to small (once.When h.1.0 at.0, h.1.1, (at.1, h.0, h.1.2.0, omega (arith, h.1.2.1)), h.1.3)
+      resume_made depth others from to small (
+        once.When h.1.0 at.0,
+        h.1.1,
+        (at.1, h.0, h.1.2.0, omega (arith, h.1.2.1)),
+        h.1.3,
+      )
 
   pub periodic_made : Makes Spelled (Then SpellsPeriod activation)
   periodic_made others from to small h = activate_made depth others from to small (Some (start.All h.0), h.1, h.2, h.3)

@@ -1,4 +1,5 @@
--- The tokens that complete what was read of a statement or a module: names, symbols, words, and the ends of what is open.
+-- The tokens that complete what was read of a statement or a module: names, symbols, words, and the ends of what is
+-- open.
 use Rattle.std.proofs.Common.{ℕ, ◌+◌, inl, false, List, [], ◌∷◌, None, ap, refl, arith}
 use Rattle.std.specs.Option.{option_map}
 use Rattle.pearl_tree.specs.declared.expression.Primary as primary
@@ -22,7 +23,8 @@ use Rattle.pearl_parse.specs.Stops.{SpellsFormats}
 use Rattle.pearl_parse.specs.Calls.{SpellsArguments}
 use Rattle.pearl_parse.specs.Bodies.{SpellsStatements, SpellsInner}
 use Rattle.pearl_parse.proofs.Steps.{Rest, Ends, Then}
-use Rattle.pearl_parse.proofs.Comes.{Fills, Behind, BehindWord, BehindSymbol, Maybe, ends_fill, fills_as, fills_token, fills_word, fills_symbol, fills_name, fills_maybe}
+use Rattle.pearl_parse.proofs.Comes.{Fills, Behind, BehindWord, BehindSymbol, Maybe, ends_fill, fills_as, fills_token}
+use Rattle.pearl_parse.proofs.Comes.{fills_word, fills_symbol, fills_name, fills_maybe}
 use Rattle.pearl_parse.proofs.Made.{semicolon, station}
 use Rattle.pearl_parse.proofs.ScheduleMade.{After, activation, continuation, resumption}
 use Rattle.pearl_parse.proofs.NestedRests.{closing_rest}
@@ -44,7 +46,8 @@ module _ (n : ℕ) (rest : Rest) (fills : Fills n rest) where
   -- A, as the only format
   pub fills_formats : Fills (n + 1) (Then (λ tokens. SpellsList tokens (SpellsFmt tokens)) rest)
   fills_formats =
-      fills_token n rest fills (letter_token 65) (Then (λ tokens. SpellsList tokens (SpellsFmt tokens)) rest) (letter_lawful 65 (inl (omega arith, omega arith)))
+      fills_token n rest fills (letter_token 65) (Then (λ tokens. SpellsList tokens (SpellsFmt tokens)) rest)
+      (letter_lawful 65 (inl (omega arith, omega arith)))
       (λ others k to here h. (
         Free A None 0 ∷ [],
         k + 1,
@@ -53,14 +56,29 @@ module _ (n : ℕ) (rest : Rest) (fills : Fills n rest) where
       ))
 
   -- no parts
-  pub fills_each : {X : Type 0} (spells : List Token → Spelling X) → Fills n (Then (λ tokens. SpellsEach (spells tokens)) rest)
-  fills_each spells = fills_as n rest fills (Then (λ tokens. SpellsEach (spells tokens)) rest) (λ others k to h. ([], k, refl, h))
+  pub fills_each : {X : Type 0} (spells : List Token → Spelling X) →
+      Fills n (Then (λ tokens. SpellsEach (spells tokens)) rest)
+  fills_each spells = fills_as n rest fills (Then (λ tokens. SpellsEach (spells tokens)) rest)
+      (λ others k to h. ([], k, refl, h))
 
   pub fills_statements : (depth : ℕ) → Fills n (Then (SpellsStatements depth) rest)
-  fills_statements depth = fills_as n rest fills (Then (SpellsStatements depth) rest) (λ others k to h. ([], k, refl, h))
+  fills_statements depth = fills_as n rest fills (Then (SpellsStatements depth) rest)
+      (λ others k to h. ([], k, refl, h))
 
   pub fills_inner : (depth : ℕ) → Fills n (Then (SpellsInner depth) rest)
-  fills_inner depth = fills_as n rest fills (Then (SpellsInner depth) rest) (λ others k to h. (([], []), k, (k, refl, refl), h))
+  fills_inner depth = fills_as n rest fills (Then (SpellsInner depth) rest)
+      (λ others k to h. (([], []), k, (k, refl, refl), h))
+
+  pub fills_choices : (depth : ℕ) → Fills (n + 1) (Then (λ tokens. SpellsSome (SpellsBranch tokens depth w.ALT)) rest)
+  fills_choices depth =
+      fills_token n rest fills (token_of (what.Word w.ALT))
+      (Then (λ tokens. SpellsSome (SpellsBranch tokens depth w.ALT)) rest) (omega arith)
+      (λ others k to here h. (
+        record { statements = parts_of [] (omega arith); place = 0 } ∷ [],
+        k + 1,
+        (k + 1, (ap (option_map (λ token. token.place)) here, ap (option_map (λ token. token.what)) here, refl), refl),
+        h,
+      ))
 
 -- ---- statements
 
@@ -80,7 +98,8 @@ from_fills = fills_word 2 (Then SpellsName semicolon) name_fills w.FROM (omega a
 -- ":=" expr ";"
 pub assignment_fills : Fills 3 (Behind HasBecomes (Then SpellsWhole semicolon))
 assignment_fills =
-    fills_as 3 (BehindSymbol s.BECOMES (Then SpellsWhole semicolon)) (fills_symbol 2 (Then SpellsWhole semicolon) (fills_expr 1 semicolon semicolon_fills) s.BECOMES (omega arith))
+    fills_as 3 (BehindSymbol s.BECOMES (Then SpellsWhole semicolon)) (fills_symbol 2 (Then SpellsWhole semicolon)
+    (fills_expr 1 semicolon semicolon_fills) s.BECOMES (omega arith))
     (Behind HasBecomes (Then SpellsWhole semicolon)) (λ others k to h. (inl h.0, h.1))
 
 -- ")" ";"
@@ -92,7 +111,8 @@ bracket_fills = fills_symbol 0 Ends ends_fill s.RIGHT_ROUND (omega arith)
 
 -- behind the id of a call
 pub arguments_fill : Fills 1 (Then SpellsArguments Ends)
-arguments_fill = fills_as 1 semicolon semicolon_fills (Then SpellsArguments Ends) (λ others k to h. ([], to, (k, refl, h.0, h.1), refl))
+arguments_fill = fills_as 1 semicolon semicolon_fills (Then SpellsArguments Ends)
+    (λ others k to h. ([], to, (k, refl, h.0, h.1), refl))
 
 -- id ";"
 pub call_fills : Fills 2 (Then SpellsName (Then SpellsArguments Ends))
@@ -101,7 +121,8 @@ call_fills = fills_name 1 (Then SpellsArguments Ends) arguments_fill
 -- fmt ";"
 pub formats_fill : Fills 2 (Then SpellsFormats Ends)
 formats_fill =
-    fills_as 2 (Then (λ tokens. SpellsList tokens (SpellsFmt tokens)) semicolon) (fills_formats 1 semicolon semicolon_fills) (Then SpellsFormats Ends)
+    fills_as 2 (Then (λ tokens. SpellsList tokens (SpellsFmt tokens)) semicolon)
+    (fills_formats 1 semicolon semicolon_fills) (Then SpellsFormats Ends)
     (λ others k to h. (h.0, to, (h.1, h.2, h.3.0, h.3.1), refl))
 
 -- BY fmt ";"
@@ -112,7 +133,8 @@ by_fills = fills_word 2 (Then SpellsFormats Ends) formats_fill w.BY (omega arith
 
 pub activation_fills : Fills 3 activation
 activation_fills = fills_word 2 (Then SpellsName (Then (Maybe (After w.PRIO)) semicolon))
-    (fills_name 1 (Then (Maybe (After w.PRIO)) semicolon) (fills_maybe 1 semicolon semicolon_fills (After w.PRIO))) w.ACTIVATE (omega arith)
+    (fills_name 1 (Then (Maybe (After w.PRIO)) semicolon) (fills_maybe 1 semicolon semicolon_fills (After w.PRIO)))
+    w.ACTIVATE (omega arith)
 
 pub period_activation_fills : Fills 3 (Then (Maybe SpellsPeriod) activation)
 period_activation_fills = fills_maybe 3 activation activation_fills SpellsPeriod
@@ -151,16 +173,9 @@ pub then_fills : (depth : ℕ) → Fills 2 (Then (SpellsStatements depth) (other
 then_fills depth = fills_statements 2 (otherwise depth w.ELSE) (otherwise_fills depth w.ELSE) depth
 
 -- ALT { stmt } { ALT { stmt } } [ OUT { stmt } ] FIN ";"
-pub alternatives_fill : (depth : ℕ) → Fills 3 (Then (λ tokens. SpellsSome (SpellsBranch tokens depth w.ALT)) (otherwise depth w.OUT))
-alternatives_fill depth =
-    fills_token 2 (otherwise depth w.OUT) (otherwise_fills depth w.OUT) (token_of (what.Word w.ALT))
-    (Then (λ tokens. SpellsSome (SpellsBranch tokens depth w.ALT)) (otherwise depth w.OUT)) (omega arith)
-    (λ others k to here h. (
-      record { statements = parts_of [] (omega arith); place = 0 } ∷ [],
-      k + 1,
-      (k + 1, (ap (option_map (λ token. token.place)) here, ap (option_map (λ token. token.what)) here, refl), refl),
-      h,
-    ))
+pub alternatives_fill : (depth : ℕ) → Fills 3 (Then (λ tokens. SpellsSome (SpellsBranch tokens depth w.ALT))
+    (otherwise depth w.OUT))
+alternatives_fill depth = fills_choices 2 (otherwise depth w.OUT) (otherwise_fills depth w.OUT) depth
 
 -- body END ";"
 pub inner_fills : (depth : ℕ) → Fills 2 (Then (SpellsInner depth) (closing_rest w.END))
@@ -171,7 +186,9 @@ inner_fills depth = fills_inner 2 (closing_rest w.END) end_fills depth
 -- ";" END ";"
 pub block_fills : Fills 3 (Then SpellsBlock Ends)
 block_fills =
-    fills_as 3 (BehindSymbol s.SEMICOLON (BehindWord w.END semicolon)) (fills_symbol 2 (BehindWord w.END semicolon) (fills_word 1 semicolon semicolon_fills w.END (omega arith)) s.SEMICOLON (omega arith))
+    fills_as 3 (BehindSymbol s.SEMICOLON (BehindWord w.END semicolon))
+    (fills_symbol 2 (BehindWord w.END semicolon) (fills_word 1 semicolon semicolon_fills w.END (omega arith))
+    s.SEMICOLON (omega arith))
     (Then SpellsBlock Ends)
     (λ others k to h.
     let at = placed others (k + 1) (what.Word w.END) h.1.0 in (
@@ -188,7 +205,8 @@ module_end = BehindWord w.MODEND (Then (λ tokens. SpellsSymbolFlag tokens s.SEM
 pub module_end_fills : Fills 1 module_end
 module_end_fills =
     fills_word 0 (Then (λ tokens. SpellsSymbolFlag tokens s.SEMICOLON) Ends)
-    (fills_as 0 Ends ends_fill (Then (λ tokens. SpellsSymbolFlag tokens s.SEMICOLON) Ends) (λ others k to h. (false, k, refl, h))) w.MODEND (omega arith)
+    (fills_as 0 Ends ends_fill (Then (λ tokens. SpellsSymbolFlag tokens s.SEMICOLON) Ends)
+    (λ others k to h. (false, k, refl, h))) w.MODEND (omega arith)
 
 -- { decl } MODEND [ ";" ]
 abbrev pub declarations : Rest
@@ -202,14 +220,18 @@ abbrev pub problem : Rest
 problem = BehindWord w.PROBLEM (BehindSymbol s.SEMICOLON declarations)
 
 pub problem_fills : Fills 3 problem
-problem_fills = fills_word 2 (BehindSymbol s.SEMICOLON declarations) (fills_symbol 1 declarations declarations_fill s.SEMICOLON (omega arith)) w.PROBLEM (omega arith)
+problem_fills = fills_word 2 (BehindSymbol s.SEMICOLON declarations) (fills_symbol 1 declarations declarations_fill
+    s.SEMICOLON (omega arith)) w.PROBLEM (omega arith)
 
 -- ";" [ system ] PROBLEM ";" { decl } MODEND [ ";" ]
 pub module_fills : Fills 4 (BehindSymbol s.SEMICOLON (Then (Maybe SpellsSystem) problem))
-module_fills = fills_symbol 3 (Then (Maybe SpellsSystem) problem) (fills_maybe 3 problem problem_fills SpellsSystem) s.SEMICOLON (omega arith)
+module_fills = fills_symbol 3 (Then (Maybe SpellsSystem) problem) (fills_maybe 3 problem problem_fills SpellsSystem)
+    s.SEMICOLON (omega arith)
 
 -- MODULE and all that must follow it
-pub tree_fills : Fills 5 (BehindWord w.MODULE (Then (Maybe SpellsModuleName) (BehindSymbol s.SEMICOLON (Then (Maybe SpellsSystem) problem))))
+pub tree_fills : Fills 5 (BehindWord w.MODULE (Then (Maybe SpellsModuleName)
+    (BehindSymbol s.SEMICOLON (Then (Maybe SpellsSystem) problem))))
 tree_fills =
     fills_word 4 (Then (Maybe SpellsModuleName) (BehindSymbol s.SEMICOLON (Then (Maybe SpellsSystem) problem)))
-    (fills_maybe 4 (BehindSymbol s.SEMICOLON (Then (Maybe SpellsSystem) problem)) module_fills SpellsModuleName) w.MODULE (omega arith)
+    (fills_maybe 4 (BehindSymbol s.SEMICOLON (Then (Maybe SpellsSystem) problem)) module_fills SpellsModuleName)
+    w.MODULE (omega arith)

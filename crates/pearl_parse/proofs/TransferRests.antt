@@ -18,7 +18,7 @@ use Rattle.pearl_parse_expr.specs.declared.reading.Halt.TheVariants.{Refused, No
 use Rattle.pearl_parse.specs.Stops.{IsStopped, SpellsBefore, SpellsNameList, SpellsFormats, SpellsStation}
 use Rattle.pearl_parse.proofs.ByFirst.{group}
 use Rattle.pearl_parse.proofs.Steps.{Rest, Ends, Then, Goes}
-use Rattle.pearl_parse.proofs.LeafRests.{Spelled, exit_rest, behind_word}
+use Rattle.pearl_parse.proofs.StatementRests.{Spelled, exit_rest, behind_word}
 
 abbrev pub semas_rest : Rest
 semas_rest = Then SpellsNameList exit_rest
@@ -32,31 +32,42 @@ put_rest = Then (SpellsBefore w.TO SpellsWhole) station_ends
 abbrev pub get_rest : Rest
 get_rest = Then (SpellsBefore w.FROM SpellsOwnRef) station_ends
 
-pub no_value : (tokens : List Token) (from : ℕ) (x : Expr) (to : ℕ) → HasWord tokens from w.TO → SpellsWhole tokens from x to → ⊥
+pub no_value : (tokens : List Token) (from : ℕ) (x : Expr) (to : ℕ) → HasWord tokens from w.TO →
+    SpellsWhole tokens from x to → ⊥
 no_value tokens from x to here h =
-    no_expr_at tokens from w.TO here refl (λ e. absurd (omega (arith, e))) (λ e. absurd (omega (arith, e))) (λ e. absurd (omega (arith, e)))
+    no_expr_at tokens from w.TO here refl (λ e. absurd (omega (arith, e))) (λ e. absurd (omega (arith, e)))
+    (λ e. absurd (omega (arith, e)))
     (λ e. absurd (omega (arith, e))) x to h
 
-pub station_stopped : (tokens : List Token) (from least_stop : ℕ) (halt : Halt) → IsStopped SpellsFormats tokens (from + 2) least_stop halt → IsStopped SpellsStation tokens from least_stop halt
+pub station_stopped : (tokens : List Token) (from least_stop : ℕ) (halt : Halt) →
+    IsStopped SpellsFormats tokens (from + 2) least_stop halt → IsStopped SpellsStation tokens from least_stop halt
 station_stopped tokens from least_stop NoMemory h = tt
-station_stopped tokens from least_stop (Refused k) h = (λ others agree x to read. h.0 others agree x.1 to read.2, omega (arith, h.1), h.2, h.3)
+station_stopped tokens from least_stop (Refused k) h = (
+  λ others agree x to read. h.0 others agree x.1 to read.2,
+  omega (arith, h.1),
+  h.2,
+  h.3,
+)
 
 module _ (tokens : List Token) (depth from : ℕ) where
-  pub semas_goes : (word : SemaWord) → HasWord tokens from (sema_word word) → Goes (Spelled depth) tokens from semas_rest (from + 1) from
+  pub semas_goes : (word : SemaWord) → HasWord tokens from (sema_word word) →
+      Goes (Spelled depth) tokens from semas_rest (from + 1) from
   semas_goes word here = behind_word tokens depth from (sema_word word) 11 semas_rest here (kind word) by
     where
       kind : (word : SemaWord) → group_of (what.Word (sema_word word)) ≡ Some 11
       kind Request = refl
       kind Release = refl
 
-      by : (others : List Token) (a : Stmt) (to : ℕ) → T (eqb (group a) 11) → SpellsStmt others depth from a to → semas_rest others (from + 1) to
+      by : (others : List Token) (a : Stmt) (to : ℕ) → T (eqb (group a) 11) → SpellsStmt others depth from a to →
+          semas_rest others (from + 1) to
       by others (OnSemas part) to e h = (part.value.names.items.items, h.0, h.3, (h.4, h.5))
       by others a to e h = absurd e
 
   pub put_goes : HasWord tokens from w.PUT → Goes (Spelled depth) tokens from put_rest (from + 1) from
   put_goes here = behind_word tokens depth from w.PUT 13 put_rest here refl by
     where
-      by : (others : List Token) (a : Stmt) (to : ℕ) → T (eqb (group a) 13) → SpellsStmt others depth from a to → put_rest others (from + 1) to
+      by : (others : List Token) (a : Stmt) (to : ℕ) → T (eqb (group a) 13) → SpellsStmt others depth from a to →
+          put_rest others (from + 1) to
       by others (Put part) to e h =
           let two : h.0 + 2 ≡ h.0 + 1 + 1 = omega arith in
           let three : h.0 + 3 ≡ h.0 + 1 + 2 = omega arith in (
@@ -66,7 +77,17 @@ module _ (tokens : List Token) (depth from : ℕ) where
             (
               (part.value.dation, part.value.formats.items.items),
               to,
-              (h.6, subst (λ k. HasWord others k w.BY) two h.7, (h.1, subst (λ k. SpellsList others (SpellsFmt others) k part.value.formats.items.items h.1) three h.8, h.9, h.10)),
+              (
+                h.6,
+                subst (λ k. HasWord others k w.BY) two h.7,
+                (
+                  h.1,
+                  subst (λ k. SpellsList others (SpellsFmt others) k part.value.formats.items.items h.1) three
+                      h.8,
+                  h.9,
+                  h.10,
+                ),
+              ),
               refl,
             ),
           )
@@ -75,7 +96,8 @@ module _ (tokens : List Token) (depth from : ℕ) where
   pub get_goes : HasWord tokens from w.GET → Goes (Spelled depth) tokens from get_rest (from + 1) from
   get_goes here = behind_word tokens depth from w.GET 14 get_rest here refl by
     where
-      by : (others : List Token) (a : Stmt) (to : ℕ) → T (eqb (group a) 14) → SpellsStmt others depth from a to → get_rest others (from + 1) to
+      by : (others : List Token) (a : Stmt) (to : ℕ) → T (eqb (group a) 14) → SpellsStmt others depth from a to →
+          get_rest others (from + 1) to
       by others (Get part) to e h =
           let two : h.0 + 2 ≡ h.0 + 1 + 1 = omega arith in
           let three : h.0 + 3 ≡ h.0 + 1 + 2 = omega arith in (
@@ -85,7 +107,17 @@ module _ (tokens : List Token) (depth from : ℕ) where
             (
               (part.value.dation, part.value.formats.items.items),
               to,
-              (h.6, subst (λ k. HasWord others k w.BY) two h.7, (h.1, subst (λ k. SpellsList others (SpellsFmt others) k part.value.formats.items.items h.1) three h.8, h.9, h.10)),
+              (
+                h.6,
+                subst (λ k. HasWord others k w.BY) two h.7,
+                (
+                  h.1,
+                  subst (λ k. SpellsList others (SpellsFmt others) k part.value.formats.items.items h.1) three
+                      h.8,
+                  h.9,
+                  h.10,
+                ),
+              ),
               refl,
             ),
           )

@@ -13,7 +13,8 @@ use Rattle.pearl_parse_expr.specs.Least.{HaltsIn}
 use Rattle.pearl_parse_expr.specs.Reads.{ReadsAs, ReadsOnly}
 use Rattle.pearl_parse.specs.Stops.{IsStopped}
 use Rattle.pearl_parse.specs.Reached.{HaltsBehind}
-use Rattle.pearl_parse.specs.Reads.{ReadsBehind, ReadsOnlyBehind, ReadsOnlyMaybe}
+use Rattle.pearl_parse_expr.specs.Reads.{ReadsOnlyMaybe}
+use Rattle.pearl_parse.specs.Reads.{ReadsBehind, ReadsOnlyBehind}
 use Rattle.pearl_parse.proofs.States.{halts_in, handed_on}
 
 module _ {X : Type 0} (room : ℕ) (spells : List Token → Spelling X) (tokens : List Token) (from : ℕ) where
@@ -38,8 +39,10 @@ module _ {X : Type 0} (room : ℕ) (spells : List Token → Spelling X) (tokens 
 
 -- ---- the same of a part that may go on, may be empty, or is told no earlier than what stands before it
 
-module _ {X Y : Type 0} {room : ℕ} {told : List Token → Spelling Y} {part : List Token → Spelling X} {tokens : List Token}
-    {from : ℕ} (Q : Halt → Type 0) (halt : Halt) (result : Result (Reading Y) Halt) (h : IsErr result × IsErrAnd result Q)
+module _ {X Y : Type 0} {room : ℕ} {told : List Token → Spelling Y} {part : List Token → Spelling X}
+    {tokens : List Token}
+    {from : ℕ} (Q : Halt → Type 0) (halt : Halt) (result : Result (Reading Y) Halt)
+    (h : IsErr result × IsErrAnd result Q)
     (step : (e : Halt) → Q e → e ≡ halt) where
   pub unread_as : {extends : Option What → Bool} → IsHalted part tokens from halt → HaltsIn room part tokens from halt →
       ReadsAs room told part extends tokens from result
@@ -53,7 +56,8 @@ module _ {X Y : Type 0} {room : ℕ} {told : List Token → Spelling Y} {part : 
       handed_on (λ r. ReadsOnlyMaybe room told part some tokens from r) Q halt result h step
       (record { spells = tt; only = tt; bounds = tt; refused = refused; least = least })
 
-  pub unread_only_behind : {Z : Type 0} {some : List Token → Spelling Z} {first low : ℕ} → IsStopped part tokens from low halt →
+  pub unread_only_behind : {Z : Type 0} {some : List Token → Spelling Z} {first low : ℕ} →
+      IsStopped part tokens from low halt →
       HaltsBehind room some tokens from low halt → ReadsOnlyBehind room told part some tokens from first low result
   unread_only_behind {Z} {some} {first} {low} refused least =
       handed_on (λ r. ReadsOnlyBehind room told part some tokens from first low r) Q halt result h step
@@ -65,3 +69,12 @@ module _ {X Y : Type 0} {room : ℕ} {told : List Token → Spelling Y} {part : 
   unread_behind {Z} {some} {extends} {first} {low} refused least =
       handed_on (λ r. ReadsBehind room told part some extends tokens from first low r) Q halt result h step
       (record { spells = tt; longest = tt; bounds = tt; refused = refused; least = least })
+
+-- no memory, whatever was to be read
+pub no_memory_behind : {X Y Z : Type 0} {room : ℕ} {told : List Token → Spelling Y} {part : List Token → Spelling X}
+    {some : List Token → Spelling Z} {extends : Option What → Bool} {tokens : List Token} {from first low : ℕ}
+    (halt : Halt) →
+    halt ≡ NoMemory → ReadsBehind room told part some extends tokens from first low (Err halt)
+no_memory_behind {X} {Y} {Z} {room} {told} {part} {some} {extends} {tokens} {from} {first} {low} halt is =
+    subst (λ halt. ReadsBehind room told part some extends tokens from first low (Err halt)) (sym is)
+    (record { spells = tt; longest = tt; bounds = tt; refused = tt; least = tt })

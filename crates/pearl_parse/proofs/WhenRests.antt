@@ -1,5 +1,6 @@
 -- What is left of a statement behind WHEN.
-use Rattle.std.proofs.Common.{◌≡◌, ℕ, ◌+◌, true, false, List, Option, Some, None, ◌⊎◌, inl, inr, T, eqb, refl, sym, ap, subst, ◌∙◌, arith}
+use Rattle.std.proofs.Common.{◌≡◌, ℕ, ◌+◌, true, false, List, Option, Some, None, ◌⊎◌, inl, inr, T, eqb, refl, sym, ap}
+use Rattle.std.proofs.Common.{subst, ◌∙◌, arith}
 use Rattle.pearl_tree.specs.declared.expression.Expr.{Expr}
 use Rattle.pearl_tree.specs.declared.statement.Period.{Period}
 use Rattle.pearl_tree.specs.declared.statement.Start.{Start}
@@ -19,9 +20,9 @@ use Rattle.pearl_parse_expr.proofs.Primaries.{clash}
 use Rattle.pearl_parse.specs.Schedules.{SpellsOptionalAfter, SpellsOptionalPeriod}
 use Rattle.pearl_parse.proofs.ByFirst.{group, of_kind}
 use Rattle.pearl_parse.proofs.Steps.{Rest, Then, Avoids, Goes}
-use Rattle.pearl_parse.proofs.LeafRests.{Spelled}
+use Rattle.pearl_parse.proofs.StatementRests.{Spelled}
 use Rattle.pearl_parse.proofs.ScheduleRests.{continue_rest, priority_optional}
-use Rattle.pearl_parse.proofs.TimedRests.{continued, resumed, resume_rest, begun_rest, optional_period, same}
+use Rattle.pearl_parse.proofs.TaskingRests.{continued, resumed, resume_rest, begun_rest, optional_period, same}
 
 abbrev pub late_rest : Rest
 late_rest = Then SpellsOptionalAfter begun_rest
@@ -37,7 +38,8 @@ module _ (others : List Token) where
   abbrev First : ℕ → Type 0
   First at = HasWord others at w.ALL ⊎ HasWord others at w.ACTIVATE
 
-  period_first : (at : ℕ) (u : Option Period) (m : ℕ) → SpellsOptionalPeriod others at u m → HasWord others m w.ACTIVATE → First at
+  period_first : (at : ℕ) (u : Option Period) (m : ℕ) → SpellsOptionalPeriod others at u m →
+      HasWord others m w.ACTIVATE → First at
   period_first at None m h i = inr (subst (λ k. HasWord others k w.ACTIVATE) h.0 i)
   period_first at (Some u) m h i = inl h.2.0
 
@@ -52,54 +54,72 @@ module _ (others : List Token) where
   first_no_after at (inl h) = ap (is_word w.AFTER) h
   first_no_after at (inr h) = ap (is_word w.AFTER) h
 
-  optional_after : (at : ℕ) (x : Option Expr) (m : ℕ) → SpellsMaybe (SpellsAfter others w.AFTER) at x m → First m → SpellsOptionalAfter others at x m
+  optional_after : (at : ℕ) (x : Option Expr) (m : ℕ) → SpellsMaybe (SpellsAfter others w.AFTER) at x m → First m →
+      SpellsOptionalAfter others at x m
   optional_after at None m h i = (h, first_no_after at (subst First h i))
   optional_after at (Some x) m h i = h
 
   -- CONTINUE and RESUME begin no activation
-  no_late : (word at to : ℕ) → HasWord others at word → (T (eqb w.AFTER word) → ⊥) → (T (eqb w.ALL word) → ⊥) → (T (eqb w.ACTIVATE word) → ⊥) → late_rest others at to → ⊥
+  no_late : (word at to : ℕ) → HasWord others at word → (T (eqb w.AFTER word) → ⊥) → (T (eqb w.ALL word) → ⊥) →
+      (T (eqb w.ACTIVATE word) → ⊥) → late_rest others at to → ⊥
   no_late word at to here after_apart all_apart activate_apart h = by h.0 h.1 h.2 (begun_first h.1 to h.3)
     where
       by : (x : Option Expr) (m : ℕ) → SpellsOptionalAfter others at x m → First m → ⊥
       by None m g (inl i) = all_apart (same others at w.ALL word (subst (λ k. HasWord others k w.ALL) g.0 i) here)
-      by None m g (inr i) = activate_apart (same others at w.ACTIVATE word (subst (λ k. HasWord others k w.ACTIVATE) g.0 i) here)
+      by None m g (inr i) = activate_apart (same others at w.ACTIVATE word
+          (subst (λ k. HasWord others k w.ACTIVATE) g.0 i) here)
       by (Some x) m g i = after_apart (same others at w.AFTER word g.0 here)
 
-  pub when_continued : (at to : ℕ) → HasWord others at w.CONTINUE → after_interrupt others at to → continue_rest others at to
+  pub when_continued : (at to : ℕ) → HasWord others at w.CONTINUE → after_interrupt others at to →
+      continue_rest others at to
   when_continued at to here (inl h) = h.1
   when_continued at to here (inr (inl h)) = absurd (omega (arith, same_word others at w.CONTINUE w.RESUME here h.0))
-  when_continued at to here (inr (inr h)) = absurd (no_late w.CONTINUE at to here (λ e. absurd e) (λ e. absurd e) (λ e. absurd e) h)
+  when_continued at to here (inr (inr h)) = absurd (no_late w.CONTINUE at to here (λ e. absurd e) (λ e. absurd e)
+      (λ e. absurd e) h)
 
   pub when_resumed : (at to : ℕ) → HasWord others at w.RESUME → after_interrupt others at to → resume_rest others at to
   when_resumed at to here (inl h) = absurd (omega (arith, same_word others at w.RESUME w.CONTINUE here h.0))
   when_resumed at to here (inr (inl h)) = (h.1, h.2)
-  when_resumed at to here (inr (inr h)) = absurd (no_late w.RESUME at to here (λ e. absurd e) (λ e. absurd e) (λ e. absurd e) h)
+  when_resumed at to here (inr (inr h)) = absurd (no_late w.RESUME at to here (λ e. absurd e) (λ e. absurd e)
+      (λ e. absurd e) h)
 
-  pub when_late : (at to : ℕ) → (HasWord others at w.CONTINUE → ⊥) → (HasWord others at w.RESUME → ⊥) → after_interrupt others at to → late_rest others at to
+  pub when_late : (at to : ℕ) → (HasWord others at w.CONTINUE → ⊥) → (HasWord others at w.RESUME → ⊥) →
+      after_interrupt others at to → late_rest others at to
   when_late at to f g (inl h) = absurd (f h.0)
   when_late at to f g (inr (inl h)) = absurd (g h.0)
   when_late at to f g (inr (inr h)) = h
 
-  only_when : (depth from : ℕ) → HasWord others from w.WHEN → (a : Stmt) (to : ℕ) → SpellsStmt others depth from a to → when_rest others (from + 1) to
+  only_when : (depth from : ℕ) → HasWord others from w.WHEN → (a : Stmt) (to : ℕ) → SpellsStmt others depth from a to →
+      when_rest others (from + 1) to
   only_when depth from here a to h = by a (of_kind others depth from 9 (what.Word w.WHEN) here refl a to h) h
     where
       two : from + 2 ≡ from + 1 + 1
       two = omega arith
 
-      waited_for : (a : Once) (m : ℕ) → T (eqb (once_word others a) w.WHEN) → SpellsOnce others from a m → (is_name (what_at others (from + 1)) ≡ true) × (m ≡ from + 1 + 1)
+      waited_for : (a : Once) (m : ℕ) → T (eqb (once_word others a) w.WHEN) → SpellsOnce others from a m →
+          (is_name (what_at others (from + 1)) ≡ true) × (m ≡ from + 1 + 1)
       waited_for (once.When n p) m e h = (ap is_name h.2.0, omega (arith, h.3))
       waited_for a m e h = absurd e
 
-      waited : (a : Once) (m : ℕ) → SpellsOnce others from a m → (is_name (what_at others (from + 1)) ≡ true) × (m ≡ from + 1 + 1)
-      waited a m h = waited_for a m (same others from (once_word others a) w.WHEN (once_begins others from a m h) here) h
+      waited : (a : Once) (m : ℕ) → SpellsOnce others from a m → (is_name (what_at others (from + 1)) ≡ true) ×
+          (m ≡ from + 1 + 1)
+      waited a m h = waited_for a m (same others from (once_word others a) w.WHEN (once_begins others from a m h) here)
+          h
 
-      maybe_waited : (x : Option Once) (m : ℕ) → SpellsMaybe (SpellsOnce others) from x m → HasWord others m w.CONTINUE → (is_name (what_at others (from + 1)) ≡ true) × (m ≡ from + 1 + 1)
-      maybe_waited None m h i = absurd (omega (arith, same_word others from w.CONTINUE w.WHEN (subst (λ k. HasWord others k w.CONTINUE) h i) here))
+      maybe_waited : (x : Option Once) (m : ℕ) → SpellsMaybe (SpellsOnce others) from x m →
+          HasWord others m w.CONTINUE → (is_name (what_at others (from + 1)) ≡ true) × (m ≡ from + 1 + 1)
+      maybe_waited None m h i = absurd (omega (
+        arith,
+        same_word others from w.CONTINUE w.WHEN
+            (subst (λ k. HasWord others k w.CONTINUE) h i) here,
+      ))
       maybe_waited (Some a) m h i = waited a m h
 
-      begun : (a : Start) (m : ℕ) → T (eqb (start_word others a) w.WHEN) → SpellsStart others from a m → HasWord others m w.ACTIVATE →
+      begun : (a : Start) (m : ℕ) → T (eqb (start_word others a) w.WHEN) → SpellsStart others from a m →
+          HasWord others m w.ACTIVATE →
           (is_name (what_at others (from + 1)) ≡ true) ×
-          ((x : Option Expr) × (k : ℕ) × SpellsOptionalAfter others (from + 1 + 1) x k × ((u : Option Period) × SpellsOptionalPeriod others k u m))
+          ((x : Option Expr) × (k : ℕ) × SpellsOptionalAfter others (from + 1 + 1) x k ×
+          ((u : Option Period) × SpellsOptionalPeriod others k u m))
       begun (start.When n x u p) m e h i =
           let period = optional_period others h.0 u m h.5 i in
           let late = optional_after (from + 2) x h.0 h.4 (period_first h.0 u m period i) in
@@ -108,9 +128,15 @@ module _ (others : List Token) where
 
       started : (x : Option Start) (m : ℕ) → SpellsMaybe (SpellsStart others) from x m → HasWord others m w.ACTIVATE →
           (is_name (what_at others (from + 1)) ≡ true) ×
-          ((x : Option Expr) × (k : ℕ) × SpellsOptionalAfter others (from + 1 + 1) x k × ((u : Option Period) × SpellsOptionalPeriod others k u m))
-      started None m h i = absurd (omega (arith, same_word others from w.ACTIVATE w.WHEN (subst (λ k. HasWord others k w.ACTIVATE) h i) here))
-      started (Some a) m h i = begun a m (same others from (start_word others a) w.WHEN (start_begins others from a m h) here) h i
+          ((x : Option Expr) × (k : ℕ) × SpellsOptionalAfter others (from + 1 + 1) x k ×
+          ((u : Option Period) × SpellsOptionalPeriod others k u m))
+      started None m h i = absurd (omega (
+        arith,
+        same_word others from w.ACTIVATE w.WHEN
+            (subst (λ k. HasWord others k w.ACTIVATE) h i) here,
+      ))
+      started (Some a) m h i = begun a m (same others from (start_word others a) w.WHEN (start_begins others from a m h)
+          here) h i
 
       by : (a : Stmt) → T (eqb (group a) 9) → SpellsStmt others depth from a to → when_rest others (from + 1) to
       by (Activate part) e h =
@@ -147,18 +173,25 @@ module _ (tokens : List Token) (depth from : ℕ) (here : HasWord tokens from w.
   behind_id : Goes (Spelled depth) tokens from after_interrupt (from + 2) (from + 2)
   behind_id = λ others agree a to h.
       let two : from + 1 + 1 ≡ from + 2 = omega arith in
-      subst (λ k. after_interrupt others k to) two (only_when others depth from (sym (agree from (omega arith)) ∙ here) a to h).1
+      subst (λ k. after_interrupt others k to) two (only_when others depth from (sym (agree from (omega arith)) ∙ here)
+      a to h).1
 
-  pub when_continues : HasWord tokens (from + 2) w.CONTINUE → Goes (Spelled depth) tokens from continue_rest (from + 2) (from + 2)
-  when_continues word = λ others agree a to h. when_continued others (from + 2) to (sym (agree (from + 2) (omega arith)) ∙ word) (behind_id others agree a to h)
+  pub when_continues : HasWord tokens (from + 2) w.CONTINUE →
+      Goes (Spelled depth) tokens from continue_rest (from + 2) (from + 2)
+  when_continues word = λ others agree a to h. when_continued others (from + 2) to
+      (sym (agree (from + 2) (omega arith)) ∙ word) (behind_id others agree a to h)
 
-  pub when_resumes : HasWord tokens (from + 2) w.RESUME → Goes (Spelled depth) tokens from resume_rest (from + 2) (from + 2)
-  when_resumes word = λ others agree a to h. when_resumed others (from + 2) to (sym (agree (from + 2) (omega arith)) ∙ word) (behind_id others agree a to h)
+  pub when_resumes : HasWord tokens (from + 2) w.RESUME →
+      Goes (Spelled depth) tokens from resume_rest (from + 2) (from + 2)
+  when_resumes word = λ others agree a to h. when_resumed others (from + 2) to
+      (sym (agree (from + 2) (omega arith)) ∙ word) (behind_id others agree a to h)
 
-  pub when_begins : is_word w.CONTINUE (what_at tokens (from + 2)) ≡ false → is_word w.RESUME (what_at tokens (from + 2)) ≡ false →
+  pub when_begins : is_word w.CONTINUE (what_at tokens (from + 2)) ≡ false →
+      is_word w.RESUME (what_at tokens (from + 2)) ≡ false →
       Goes (Spelled depth) tokens from late_rest (from + 2) (from + 2)
   when_begins f g = λ others agree a to h.
       when_late others (from + 2) to
-      (λ word. clash _ (ap (is_word w.CONTINUE) word) (ap (is_word w.CONTINUE) (sym (agree (from + 2) (omega arith))) ∙ f))
+      (λ word. clash _ (ap (is_word w.CONTINUE) word) (ap (is_word w.CONTINUE) (sym (agree (from + 2) (omega arith))) ∙
+      f))
       (λ word. clash _ (ap (is_word w.RESUME) word) (ap (is_word w.RESUME) (sym (agree (from + 2) (omega arith))) ∙ g))
       (behind_id others agree a to h)

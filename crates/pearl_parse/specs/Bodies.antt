@@ -62,7 +62,8 @@ SpellsInner depth tokens from inner to =
 
 -- word ";"
 abbrev pub SpellsClosing : ℕ → List Token → Spelling (Unit {0})
-SpellsClosing word tokens from _ to = HasWord tokens from word × HasSymbol tokens (from + 1) s.SEMICOLON × (to ≡ from + 2)
+SpellsClosing word tokens from _ to = HasWord tokens from word × HasSymbol tokens (from + 1) s.SEMICOLON ×
+    (to ≡ from + 2)
 
 -- IF expr THEN
 abbrev pub SpellsCondition : List Token → Spelling Expr

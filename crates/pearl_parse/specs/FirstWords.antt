@@ -4,9 +4,9 @@ use Rattle.pearl_tree.specs.declared.statement.TaskWord.TheVariants.{Suspend, Te
 use Rattle.pearl_tree.specs.declared.statement.SemaWord.TheVariants.{Request, Release}
 use Rattle.pearl_tree.specs.declared.statement.InterruptWord.TheVariants.{Enable, Disable, Trigger}
 use Rattle.pearl_tree.specs.declared.word_code.TheConstants as w
-use Rattle.pearl_parse.specs.declared.first.Simple.TheVariants as simple
-use Rattle.pearl_parse.specs.declared.first.First.{First}
-use Rattle.pearl_parse.specs.declared.first.First.TheVariants as first
+use Rattle.pearl_parse.specs.declared.statement.Simple.TheVariants as simple
+use Rattle.pearl_parse.specs.declared.statement.First.{First}
+use Rattle.pearl_parse.specs.declared.statement.First.TheVariants as first
 
 -- each word with which a statement begins, and the statement
 abbrev pub first_words : List (ℕ × First)
@@ -15,7 +15,8 @@ first_words =
     (w.FROM, first.Repeat) ∷ (w.BY, first.Repeat) ∷ (w.TO, first.Repeat) ∷ (w.WHILE, first.Repeat) ∷
     (w.REPEAT, first.Repeat) ∷ (w.EXIT, first.Simple simple.Exit) ∷ (w.BEGIN, first.Begin) ∷
     (w.RETURN, first.Simple simple.Return) ∷ (w.AT, first.Simple (simple.Timed false)) ∷
-    (w.AFTER, first.Simple (simple.Timed true)) ∷ (w.WHEN, first.Simple simple.When) ∷ (w.ALL, first.Simple simple.All) ∷
+    (w.AFTER, first.Simple (simple.Timed true)) ∷ (w.WHEN, first.Simple simple.When) ∷ (w.ALL, first.Simple simple.All)
+    ∷
     (w.ACTIVATE, first.Simple simple.Activate) ∷ (w.CONTINUE, first.Simple simple.Continue) ∷
     (w.SUSPEND, first.Simple (simple.OnTask Suspend)) ∷ (w.TERMINATE, first.Simple (simple.OnTask Terminate)) ∷
     (w.PREVENT, first.Simple (simple.OnTask Prevent)) ∷ (w.REQUEST, first.Simple (simple.OnSemas Request)) ∷

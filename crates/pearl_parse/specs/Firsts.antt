@@ -8,10 +8,10 @@ use Rattle.pearl_tree.specs.Statements.{task_word, sema_word, interrupt_word}
 use Rattle.pearl_tree.specs.declared.symbol.TheConstants as s
 use Rattle.pearl_tree.specs.declared.word_code.TheConstants as w
 use Rattle.pearl_parse_expr.specs.Stops.{is_name}
-use Rattle.pearl_parse.specs.declared.first.Simple.{Simple}
-use Rattle.pearl_parse.specs.declared.first.Simple.TheVariants as simple
-use Rattle.pearl_parse.specs.declared.first.First.{First}
-use Rattle.pearl_parse.specs.declared.first.First.TheVariants as first
+use Rattle.pearl_parse.specs.declared.statement.Simple.{Simple}
+use Rattle.pearl_parse.specs.declared.statement.Simple.TheVariants as simple
+use Rattle.pearl_parse.specs.declared.statement.First.{First}
+use Rattle.pearl_parse.specs.declared.statement.First.TheVariants as first
 use Rattle.pearl_parse.specs.FirstWords.{first_words}
 use Rattle.pearl_parse.specs.Schedules.{time_word}
 use Rattle.pearl_parse.specs.Bodies.{is_one, loop_words}

@@ -16,9 +16,12 @@ GoesBehind room spells tokens from least_stop end stop =
 abbrev pub HaltsBehind : {X : Type 0} → ℕ → (List Token → Spelling X) → List Token → ℕ → ℕ → Halt → Type 0
 HaltsBehind room spells tokens from least_stop NoMemory = Unit {0}
 HaltsBehind room spells tokens from least_stop (Refused stop) =
-    (own : ℕ) × (from ≤ own) × (own ≤ length tokens) × ReachesIn room spells tokens from own × (stop ≡ max own least_stop)
+    (own : ℕ) × (from ≤ own) × (own ≤ length tokens) × ReachesIn room spells tokens from own ×
+    (stop ≡ max own least_stop)
 
 -- some part goes on as far as the stop that is told, or that stop is `least_stop` itself
-abbrev pub IsLeastBehind : {X Y : Type 0} → ℕ → (List Token → Spelling X) → List Token → ℕ → ℕ → Result (Reading Y) Halt → Type 0
-IsLeastBehind room spells tokens from least_stop (Ok reading) = GoesBehind room spells tokens from least_stop reading.end reading.stop
+abbrev pub IsLeastBehind : {X Y : Type 0} → ℕ → (List Token → Spelling X) → List Token → ℕ → ℕ →
+    Result (Reading Y) Halt → Type 0
+IsLeastBehind room spells tokens from least_stop (Ok reading) = GoesBehind room spells tokens from least_stop
+    reading.end reading.stop
 IsLeastBehind room spells tokens from least_stop (Err halt) = HaltsBehind room spells tokens from least_stop halt

@@ -1,5 +1,5 @@
--- What is known where a statement is read, or isn't, and where a part is read that may be empty or that is told no earlier than
--- what stands before it.
+-- What is known where a statement is read, or isn't, and where a part is read that may be empty or that is told no
+-- earlier than what stands before it.
 use Rattle.std.specs.Prelude.{ℕ, ◌+◌, Bool, List, Option, Vec, IfOk, IfErr, Result}
 use Rattle.pearl_tree.specs.declared.statement.Stmt.{Stmt}
 use Rattle.pearl_tree.specs.declared.token.What.{What}
@@ -8,10 +8,11 @@ use Rattle.pearl_tree.specs.Standing.{Spelling}
 use Rattle.pearl_tree.specs.Statements.{SpellsStmt}
 use Rattle.pearl_parse_expr.specs.declared.reading.Halt.{Halt}
 use Rattle.pearl_parse_expr.specs.declared.reading.Reading.{Reading}
-use Rattle.pearl_parse_expr.specs.Stops.{IsLongest, IsOnly, IsHalted}
+use Rattle.pearl_parse_expr.specs.Stops.{IsLongest, IsOnly, IsAhead, IsHalted}
 use Rattle.pearl_parse_expr.specs.Least.{IsLeastIn}
 use Rattle.pearl_parse_expr.specs.Reads.{ReadsOnly}
-use Rattle.pearl_parse.specs.Stops.{StopsWithin, IsStopped}
+use Rattle.pearl_parse_expr.specs.Stops.{StopsWithin}
+use Rattle.pearl_parse.specs.Stops.{IsStopped}
 use Rattle.pearl_parse.specs.Reached.{IsLeastBehind}
 
 -- a statement is read, with at most `depth` of those that hold others within one another
@@ -22,17 +23,9 @@ ReadsNested depth tokens from result = ReadsOnly 24 (λ tokens. SpellsStmt token
 abbrev pub ReadsStatement : List Token → ℕ → Result (Reading Stmt) Halt → Type 0
 ReadsStatement tokens from result = (depth : ℕ) → ReadsNested depth tokens from result
 
--- of a part that has one end and may be empty: `told` is what the tokens up to there spell of what is read, `part` all that
--- begins where it does, and `some` what goes on as far as the stop
-pub record ReadsOnlyMaybe {X Y Z : Type 0} (room : ℕ) (told : List Token → Spelling Y) (part : List Token → Spelling X)
-    (some : List Token → Spelling Z) (tokens : List Token) (from : ℕ) (result : Result (Reading Y) Halt) : Type 0 where
-  pub spells : IfOk result (λ reading. told tokens from reading.part reading.end)
-  pub only : IfOk result (λ reading. IsOnly part tokens from reading.end reading.stop)
-  pub bounds : IfOk result (λ reading. StopsWithin tokens from from reading.end reading.stop)
-  pub refused : IfErr result (λ halt. IsHalted part tokens from halt)
-  pub least : IsLeastIn room some tokens from result
-
--- the same of one that ends at `first` or behind it, and is told no earlier than at `least_stop`
+-- of a part that has one end, is read behind others and is told no earlier than at `least_stop`: it ends at `first` or
+-- behind it, `told` is what the tokens up to there spell of what is read, `part` all that begins where it does, and
+-- `some` what goes on as far as the stop
 pub record ReadsOnlyBehind {X Y Z : Type 0} (room : ℕ) (told : List Token → Spelling Y) (part : List Token → Spelling X)
     (some : List Token → Spelling Z) (tokens : List Token) (from first least_stop : ℕ)
     (result : Result (Reading Y) Halt) : Type 0 where
@@ -43,21 +36,22 @@ pub record ReadsOnlyBehind {X Y Z : Type 0} (room : ℕ) (told : List Token → 
   pub least : IsLeastBehind room some tokens from least_stop result
 
 -- a list with its end
-abbrev pub ReadsListBehind : {X A : Type 0} → ℕ → (List Token → Spelling (List X)) → List Token → ℕ → ℕ →
+abbrev pub ReadsOnlyListBehind : {X A : Type 0} → ℕ → (List Token → Spelling (List X)) → List Token → ℕ → ℕ →
     Result (Reading (Vec X A)) Halt → Type 0
-ReadsListBehind room part tokens from least_stop result =
-    ReadsOnlyBehind room (λ tokens from list to. part tokens from list.items to) part part tokens from (from + 1) least_stop result
+ReadsOnlyListBehind room part tokens from least_stop result =
+    ReadsOnlyBehind room (λ tokens from list to. part tokens from list.items to) part part tokens from (from + 1)
+    least_stop result
+
+-- a list of one end that isn't empty, whose stop is known to be the least one under a premise
+pub record ReadsOnlyListWhere {X A : Type 0} (premise : Type 0) (room : ℕ) (part : List Token → Spelling (List X))
+    (tokens : List Token) (from : ℕ) (result : Result (Reading (Vec X A)) Halt) : Type 0 where
+  pub spells : IfOk result (λ reading. part tokens from reading.part.items reading.end)
+  pub only : IfOk result (λ reading. IsOnly part tokens from reading.end reading.stop)
+  pub ahead : IfOk result (λ reading. IsAhead tokens from reading.end reading.stop)
+  pub refused : IfErr result (λ halt. IsHalted part tokens from halt)
+  pub least : premise → IsLeastIn room part tokens from result
 
 -- the same of a part that a token of `extends` may go on with
-pub record ReadsMaybe {X Y Z : Type 0} (room : ℕ) (told : List Token → Spelling Y) (part : List Token → Spelling X)
-    (some : List Token → Spelling Z) (extends : Option What → Bool) (tokens : List Token) (from : ℕ)
-    (result : Result (Reading Y) Halt) : Type 0 where
-  pub spells : IfOk result (λ reading. told tokens from reading.part reading.end)
-  pub longest : IfOk result (λ reading. IsLongest part extends tokens from reading.end reading.stop)
-  pub bounds : IfOk result (λ reading. StopsWithin tokens from from reading.end reading.stop)
-  pub refused : IfErr result (λ halt. IsHalted part tokens from halt)
-  pub least : IsLeastIn room some tokens from result
-
 pub record ReadsBehind {X Y Z : Type 0} (room : ℕ) (told : List Token → Spelling Y) (part : List Token → Spelling X)
     (some : List Token → Spelling Z) (extends : Option What → Bool) (tokens : List Token) (from first least_stop : ℕ)
     (result : Result (Reading Y) Halt) : Type 0 where
@@ -66,3 +60,12 @@ pub record ReadsBehind {X Y Z : Type 0} (room : ℕ) (told : List Token → Spel
   pub bounds : IfOk result (λ reading. StopsWithin tokens first least_stop reading.end reading.stop)
   pub refused : IfErr result (λ halt. IsStopped part tokens from least_stop halt)
   pub least : IsLeastBehind room some tokens from least_stop result
+
+-- the longest list: `list` is what the tokens up to its end spell, and what goes on as far as the stop, and `part` all
+-- that begins where it does
+abbrev pub ReadsListBehind : {X Y A : Type 0} → ℕ → (List Token → Spelling (List X)) →
+    (List Token → Spelling (List Y)) →
+    (Option What → Bool) → List Token → ℕ → ℕ → ℕ → Result (Reading (Vec X A)) Halt → Type 0
+ReadsListBehind room list part extends tokens from first least_stop result =
+    ReadsBehind room (λ tokens from read to. list tokens from read.items to) part list extends tokens from first
+    least_stop result

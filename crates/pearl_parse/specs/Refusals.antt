@@ -18,8 +18,8 @@ abbrev pub Begins : List Token → ℕ → Type 0
 Begins tokens k =
     (tree : Tree) × (others : List Token) × ((j : ℕ) → j < k → what_at tokens j ≡ what_at others j) × Spells tree others
 
--- no source begins with the tokens up to and with the one at this place, and some does with those before it, for which lawful tokens
--- are enough where these are lawful
+-- no source begins with the tokens up to and with the one at this place, and some does with those before it, for which
+-- lawful tokens are enough where these are lawful
 pub record IsRefusedAt (tokens : List Token) (end place : ℕ) : Type 0 where
   pub token : ℕ
   pub within : token ≤ length tokens

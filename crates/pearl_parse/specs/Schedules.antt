@@ -12,8 +12,8 @@ use Rattle.pearl_tree.specs.declared.symbol.TheConstants as s
 use Rattle.pearl_tree.specs.declared.word_code.TheConstants as w
 use Rattle.pearl_parse_expr.specs.Stops.{extends_expression, is_word}
 use Rattle.pearl_parse.specs.Stops.{SpellsOptional}
-use Rattle.pearl_parse.specs.declared.schedule.Activation.{Activation}
-use Rattle.pearl_parse.specs.declared.schedule.Begun.{Begun}
+use Rattle.pearl_parse.specs.declared.tasking.Activation.{Activation}
+use Rattle.pearl_parse.specs.declared.tasking.Begun.{Begun}
 
 -- UNTIL or DURING
 abbrev pub begins_end : Option What → Bool
@@ -59,7 +59,8 @@ HasBegun tokens from period task priority to =
 
 -- as it is read
 abbrev pub SpellsBeginning : List Token → Spelling Begun
-SpellsBeginning tokens from begun to = HasBegun tokens from begun.period begun.activation.task begun.activation.priority to
+SpellsBeginning tokens from begun to = HasBegun tokens from begun.period begun.activation.task begun.activation.priority
+    to
 
 abbrev pub SpellsAnyBegun : List Token → Spelling (Option Period × (Name × Option Expr))
 SpellsAnyBegun tokens from part to = HasBegun tokens from part.0 part.1.0 part.1.1 to

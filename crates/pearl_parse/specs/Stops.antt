@@ -1,5 +1,6 @@
 -- What statements that begin alike have in common: which token goes on with a part, and with which none goes on.
-use Rattle.std.specs.Prelude.{◌≡◌, ℕ, ◌+◌, ◌≤◌, ◌==◌, ◌||◌, Bool, true, false, List, [], ◌∷◌, length, max, Option, Some, None}
+use Rattle.std.specs.Prelude.{◌≡◌, ℕ, ◌+◌, ◌≤◌, ◌==◌, ◌||◌, Bool, true, false, List, [], ◌∷◌, length, max, Option, Some}
+use Rattle.std.specs.Prelude.{None}
 use Rattle.pearl_tree.specs.declared.token.What.{What}
 use Rattle.pearl_tree.specs.declared.token.What.TheVariants as what
 use Rattle.pearl_tree.specs.declared.token.Token.{Token}
@@ -18,11 +19,6 @@ use Rattle.pearl_tree.specs.declared.format.Fmt.{Fmt}
 use Rattle.pearl_tree.specs.declared.symbol.TheConstants as s
 use Rattle.pearl_tree.specs.declared.word_code.TheConstants as w
 
--- a part that begins at `from` and may be empty was read, and was stopped within the tokens, no earlier than at
--- `least_stop`, where what stands before it was stopped
-abbrev pub StopsWithin : List Token → ℕ → ℕ → ℕ → ℕ → Type 0
-StopsWithin tokens from least_stop end stop = (from ≤ end) × (end ≤ stop) × (least_stop ≤ stop) × (stop ≤ length tokens)
-
 -- nothing was read: for want of memory, or since with this token, no earlier one than at `least_stop`, none begins
 abbrev pub IsStopped : {X : Type 0} → (List Token → Spelling X) → List Token → ℕ → ℕ → Halt → Type 0
 IsStopped {X} spells tokens from least_stop NoMemory = Unit {0}
@@ -39,7 +35,8 @@ abbrev pub SpellsOwnNamed : List Token → Spelling (List Selector)
 SpellsOwnNamed tokens = SpellsNamed tokens limit.OWN_BRACKETS_MAX
 
 -- [ part ], where a token that may begin one does
-abbrev pub SpellsOptional : {X : Type 0} → (Option What → Bool) → (List Token → Spelling X) → List Token → Spelling (Option X)
+abbrev pub SpellsOptional : {X : Type 0} → (Option What → Bool) → (List Token → Spelling X) → List Token →
+    Spelling (Option X)
 SpellsOptional begins spells tokens from None to = (to ≡ from) × (begins (what_at tokens from) ≡ false)
 SpellsOptional begins spells tokens from (Some x) to = spells tokens from x to
 

@@ -7,7 +7,7 @@ ghost use Rattle.pearl_parse.specs.Reads.{ReadsOnlyBehind};
 ghost use Rattle.pearl_parse.specs.Stops as spec;
 
 use crate::body::whole_body;
-use crate::step::{symbol, word};
+use crate::token::{symbol, word};
 use pearl_parse_decl::list::behind;
 use pearl_parse_expr::reading::{Halt, Reading};
 use pearl_tree::statement::Body;

@@ -4,16 +4,15 @@ ghost use Rattle.std.specs.Prelude.{◌≡◌, ◌+◌, ◌<◌, ◌≤◌, leng
 ghost use Rattle.std.proofs.Common.{ap};
 ghost use Rattle.pearl_tree.specs.Statements.{SpellsBodyDecl, SpellsWholeBody};
 ghost use Rattle.pearl_tree.specs.declared.word_code.TheConstants as w;
-ghost use Rattle.pearl_parse_expr.specs.Stops.{IsLongest, IsHalted, is_word};
-ghost use Rattle.pearl_parse.specs.Stops.{StopsWithin};
+ghost use Rattle.pearl_parse_expr.specs.Stops.{is_word};
+ghost use Rattle.pearl_parse_expr.specs.Reads.{ReadsMaybe};
 ghost use Rattle.pearl_parse_expr.specs.Reads.{ReadsOnly};
 ghost use Rattle.pearl_parse.specs.Bodies.{extends_body, SpellsInner};
-ghost use Rattle.pearl_parse.specs.Reached.{IsLeastBehind};
 ghost use Rattle.pearl_tree.specs.declared.limit.TheConstants as limit;
 
-use crate::each::Repeated;
+use crate::lists::Repeated;
 use crate::statement::body;
-use crate::step::{symbol, word};
+use crate::token::{symbol, word};
 use pearl_parse_decl::list::list;
 use pearl_parse_expr::reading::{Halt, Reading};
 use pearl_parse_expr::standing::place_at;
@@ -58,11 +57,7 @@ impl Repeated for BodyDecl {
 /// The longest body that begins here, of a task or procedure.
 pub fn whole_body(alloc: Global, tokens: &[Token], from: usize) -> Result<Reading<Body>, Halt>
     requires { from ≤ length tokens.now }
-    ensures spells { IfOk result (λ reading. SpellsWholeBody tokens.now from reading.part reading.end) }
-    ensures longest { IfOk result (λ reading. IsLongest SpellsWholeBody extends_body tokens.now from reading.end reading.stop) }
-    ensures bounds { IfOk result (λ reading. StopsWithin tokens.now from from reading.end reading.stop) }
-    ensures refused { IfErr result (λ halt. IsHalted SpellsWholeBody tokens.now from halt) }
-    ensures least { IsLeastBehind 24 (SpellsInner limit.NESTED_MAX) tokens.now from from result }
+    ensures { ReadsMaybe 24 SpellsWholeBody SpellsWholeBody (SpellsInner limit.NESTED_MAX) extends_body tokens.now from result }
 {
     match body(alloc, tokens, from, from, NESTED_MAX) {
         Ok(read) => Ok(Reading {

@@ -9,9 +9,12 @@ ghost use Rattle.pearl_parse_expr.specs.Stops.{IsOnly, IsHalted, is_name, is_sym
 ghost use Rattle.pearl_parse.specs.Stops as spec;
 ghost use Rattle.pearl_parse.specs.Calls as calls;
 ghost use Rattle.pearl_parse_expr.specs.Reads.{ReadsOnly};
-ghost use Rattle.pearl_parse.specs.Reads.{ReadsListBehind, ReadsOnlyMaybe, ReadsStatement};
+ghost use Rattle.pearl_parse_expr.specs.Reads.{ReadsOnlyMaybe};
+ghost use Rattle.pearl_parse.specs.Reads.{ReadsOnlyListBehind, ReadsStatement};
 
-use crate::step::{expr, name, symbol};
+use crate::expression::expr;
+use crate::name::name;
+use crate::token::symbol;
 use pearl_parse_decl::expression::own_reference;
 use pearl_parse_decl::list::list;
 use pearl_parse_expr::reading::{Halt, Reading, boxed};
@@ -88,7 +91,7 @@ fn arguments(
 ) -> Result<Reading<Vec<Expr>>, Halt>
     requires from { from ≤ length tokens.now }
     requires least_stop { least_stop ≤ length tokens.now }
-    ensures { ReadsListBehind 24 calls.SpellsArguments tokens.now from least_stop result }
+    ensures { ReadsOnlyListBehind 24 calls.SpellsArguments tokens.now from least_stop result }
 {
     if !is_symbol(tokens, from, LEFT_ROUND) {
         symbol(tokens, from, least_stop, SEMICOLON)?;
@@ -148,7 +151,8 @@ fn becomes(tokens: &[Token], at: usize) -> bool
     is_symbol(tokens, at, EQUALS_SIGN)
 }
 
-/// `ref ":=" expr ";"`, or `id [ "(" expr { "," expr } ")" ] ";"`: a reference is read, and the token behind it decides.
+/// `ref ":=" expr ";"`, or `id [ "(" expr { "," expr } ")" ] ";"`: a reference is read, and the token behind it
+/// decides.
 pub fn named(alloc: Global, tokens: &[Token], from: usize) -> Result<Reading<Stmt>, Halt>
     requires within { from < length tokens.now }
     requires name { is_name (what_at tokens.now from) ≡ true }

@@ -7,10 +7,12 @@ ghost use Rattle.pearl_parse_expr.specs.declared.reading.Halt.{Halt};
 ghost use Rattle.pearl_parse_expr.specs.Stops.{IsOnly, IsHalted};
 ghost use Rattle.pearl_parse.specs.Stops as spec;
 ghost use Rattle.pearl_parse_expr.specs.Reads.{ReadsOnly};
-ghost use Rattle.pearl_parse.specs.Reads.{ReadsOnlyMaybe};
+ghost use Rattle.pearl_parse_expr.specs.Reads.{ReadsOnlyMaybe};
 ghost use Rattle.pearl_parse.specs.Bodies as bodies;
 
-use crate::step::{maybe_after, name, word};
+use crate::name::name;
+use crate::schedule::maybe_after;
+use crate::token::word;
 use pearl_parse_expr::reading::{Halt, Reading};
 use pearl_parse_expr::standing::is_word;
 use pearl_tree::expression::Expr;

@@ -38,7 +38,7 @@ pub fn parse(alloc: Global, tokens: &[Token], end: u32) -> Result<Tree, ParseFau
     ensures refused { IfErr result (λ fault. spec.IsRefused tokens.now end fault) }
 {
     match module(alloc, tokens) {
-        Ok(tree) => Ok(tree),
+        Ok(read) => Ok(read.part),
         Err(halt) => match halt {
             Halt::Refused(stop) => Err(ParseFault::Refused(place_or_end(tokens, end, stop))),
             Halt::NoMemory => Err(ParseFault::NoMemory),

@@ -1,25 +1,72 @@
-// Periods and activations.
+// Times and periods, and expressions behind words.
 
-ghost use Rattle.std.specs.Prelude.{◌+◌, ◌<◌, ◌≤◌, length, IfOk, IfErr};
+ghost use Rattle.std.specs.Prelude.{◌+◌, ◌<◌, ◌≤◌, length, IfOk, Ok};
 ghost use Rattle.pearl_tree.specs.Standing.{HasWord, SpellsMaybe};
-ghost use Rattle.pearl_tree.specs.Statements.{SpellsPeriodEnd, SpellsPeriod};
-ghost use Rattle.pearl_tree.specs.declared.word_code.TheConstants as w;
+ghost use Rattle.pearl_tree.specs.Statements.{SpellsAfter, SpellsPeriodEnd, SpellsPeriod};
+ghost use Rattle.pearl_parse_expr.specs.Stops.{extends_expression, is_word};
+ghost use Rattle.pearl_parse.specs.Reads.{ReadsBehind};
 ghost use Rattle.pearl_parse_expr.specs.declared.reading.Halt.{Halt};
-ghost use Rattle.pearl_parse_expr.specs.Stops.{IsLongest, IsOnly, extends_expression};
 ghost use Rattle.pearl_parse.specs.Stops as spec;
+ghost use Rattle.pearl_tree.specs.declared.word_code.TheConstants as w;
 ghost use Rattle.pearl_parse.specs.Schedules as schedules;
-ghost use Rattle.pearl_parse.specs.Reads.{ReadsBehind, ReadsOnlyBehind, ReadsStatement};
 
-use crate::step::{after, maybe_after, name, symbol, word};
-use pearl_parse_expr::reading::{Halt, Reading, boxed};
+use crate::expression::expr;
+use crate::token::word;
+use pearl_parse_expr::reading::{Halt, Reading};
 use pearl_parse_expr::standing::{is_word, place_at};
 use pearl_tree::expression::Expr;
-use pearl_tree::name::Name;
-use pearl_tree::statement::{Activate, Continue, Period, PeriodEnd, Start, Stmt};
-use pearl_tree::symbol::SEMICOLON;
+use pearl_tree::statement::{Period, PeriodEnd};
 use pearl_tree::token::Token;
 use pearl_tree::word_code::*;
 use std::alloc::Global;
+
+/// A word that stands here, and an expression.
+pub fn after(
+    alloc: Global,
+    tokens: &[Token],
+    from: usize,
+    least_stop: usize,
+    word: u8,
+) -> Result<Reading<Expr>, Halt>
+    requires from { from < length tokens.now }
+    requires least_stop { least_stop ≤ length tokens.now }
+    requires word { HasWord tokens.now from word }
+    ensures { ReadsBehind 8 (λ tokens. SpellsAfter tokens word) (λ tokens. SpellsAfter tokens word) (λ tokens. SpellsAfter tokens word) extends_expression tokens.now from (from + 1) least_stop result }
+{
+    match expr(alloc, tokens, from + 1, least_stop) {
+        Ok(read) => Ok(read),
+        Err(halt) => Err(halt),
+    }
+}
+
+/// A word with an expression, where the word stands.
+pub fn maybe_after(
+    alloc: Global,
+    tokens: &[Token],
+    from: usize,
+    least_stop: usize,
+    word: u8,
+) -> Result<Reading<Option<Expr>>, Halt>
+    requires from { from ≤ length tokens.now }
+    requires least_stop { least_stop ≤ length tokens.now }
+    ensures { ReadsBehind 8 (λ tokens. SpellsMaybe (SpellsAfter tokens word)) (spec.SpellsOptional (is_word word) (λ tokens. SpellsAfter tokens word)) (λ tokens. SpellsMaybe (SpellsAfter tokens word)) extends_expression tokens.now from from least_stop result }
+{
+    if !is_word(tokens, from, word) {
+        return Ok(Reading {
+            part: None,
+            end: from,
+            stop: from.max(least_stop),
+        });
+    }
+    match after(alloc, tokens, from, least_stop, word) {
+        Ok(read) => Ok(Reading {
+            part: Some(read.part),
+            end: read.end,
+            stop: read.stop,
+        }),
+        Err(halt) => Err(halt),
+    }
+}
 
 /// `[ UNTIL expr | DURING expr ]`
 fn maybe_end(
@@ -67,7 +114,7 @@ fn maybe_end(
 }
 
 /// `ALL expr [ UNTIL expr | DURING expr ]`
-fn period(
+pub fn period(
     alloc: Global,
     tokens: &[Token],
     from: usize,
@@ -91,40 +138,8 @@ fn period(
     })
 }
 
-/// What an activation names.
-#[derive(Drop)]
-pub struct Activation {
-    pub task: Name,
-    pub priority: Option<Expr>,
-}
-
-/// `ACTIVATE id [ PRIO expr ] ";"`
-pub fn activate(
-    alloc: Global,
-    tokens: &[Token],
-    from: usize,
-    least_stop: usize,
-) -> Result<Reading<Activation>, Halt>
-    requires from { from ≤ length tokens.now }
-    requires least_stop { (from ≤ least_stop) × (least_stop ≤ length tokens.now) }
-    ensures { ReadsOnlyBehind 16 schedules.SpellsActivated schedules.SpellsActivation schedules.SpellsActivation tokens.now from (from + 1) least_stop result }
-{
-    word(tokens, from, least_stop, ACTIVATE)?;
-    let task = name(tokens, from + 1, least_stop)?;
-    let priority = maybe_after(alloc, tokens, from + 2, least_stop, PRIO)?;
-    symbol(tokens, priority.end, priority.stop, SEMICOLON)?;
-    Ok(Reading {
-        part: Activation {
-            task,
-            priority: priority.part,
-        },
-        end: priority.end + 1,
-        stop: priority.stop.max(priority.end + 1),
-    })
-}
-
 /// `[ ALL expr [ UNTIL expr | DURING expr ] ]`
-fn maybe_period(
+pub fn maybe_period(
     alloc: Global,
     tokens: &[Token],
     from: usize,
@@ -149,103 +164,4 @@ fn maybe_period(
         }),
         Err(halt) => Err(halt),
     }
-}
-
-/// An activation with the period before it.
-#[derive(Drop)]
-pub struct Begun {
-    pub period: Option<Period>,
-    pub activation: Activation,
-}
-
-/// `[ ALL expr [ UNTIL expr | DURING expr ] ] ACTIVATE id [ PRIO expr ] ";"`
-pub fn begin(
-    alloc: Global,
-    tokens: &[Token],
-    from: usize,
-    least_stop: usize,
-) -> Result<Reading<Begun>, Halt>
-    requires from { from ≤ length tokens.now }
-    requires least_stop { (from ≤ least_stop) × (least_stop ≤ length tokens.now) }
-    ensures { ReadsOnlyBehind 24 schedules.SpellsBeginning schedules.SpellsBegun schedules.SpellsAnyBegun tokens.now from (from + 1) least_stop result }
-{
-    let period = maybe_period(alloc, tokens, from, least_stop)?;
-    let activation = activate(alloc, tokens, period.end, period.stop)?;
-    Ok(Reading {
-        part: Begun {
-            period: period.part,
-            activation: activation.part,
-        },
-        end: activation.end,
-        stop: activation.stop,
-    })
-}
-
-/// `ACTIVATE id [ PRIO expr ] ";"` with no start before it
-pub fn immediate_activation(
-    alloc: Global,
-    tokens: &[Token],
-    from: usize,
-) -> Result<Reading<Stmt>, Halt>
-    requires within { from < length tokens.now }
-    requires word { HasWord tokens.now from w.ACTIVATE }
-    ensures { ReadsStatement tokens.now from result }
-{
-    let activation = activate(alloc, tokens, from, from)?;
-    let activate = Activate {
-        start: None,
-        task: activation.part.task,
-        priority: activation.part.priority,
-        place: place_at(tokens, from),
-    };
-    Ok(Reading {
-        part: Stmt::Activate(boxed(alloc, activate)?),
-        end: activation.end,
-        stop: activation.stop,
-    })
-}
-
-/// `CONTINUE id ";"` with no time before it
-pub fn immediate_continuation(
-    alloc: Global,
-    tokens: &[Token],
-    from: usize,
-) -> Result<Reading<Stmt>, Halt>
-    requires within { from < length tokens.now }
-    requires word { HasWord tokens.now from w.CONTINUE }
-    ensures { ReadsStatement tokens.now from result }
-{
-    let task = name(tokens, from + 1, from)?;
-    symbol(tokens, from + 2, from, SEMICOLON)?;
-    let continuation = Continue {
-        once: None,
-        task,
-        place: place_at(tokens, from),
-    };
-    Ok(Reading {
-        part: Stmt::Continue(boxed(alloc, continuation)?),
-        end: from + 3,
-        stop: from + 3,
-    })
-}
-
-/// `ALL expr [ UNTIL expr | DURING expr ] ACTIVATE id [ PRIO expr ] ";"`
-pub fn periodic(alloc: Global, tokens: &[Token], from: usize) -> Result<Reading<Stmt>, Halt>
-    requires within { from < length tokens.now }
-    requires word { HasWord tokens.now from w.ALL }
-    ensures { ReadsStatement tokens.now from result }
-{
-    let period = period(alloc, tokens, from, from)?;
-    let activation = activate(alloc, tokens, period.end, period.stop)?;
-    let activate = Activate {
-        start: Some(Start::All(period.part)),
-        task: activation.part.task,
-        priority: activation.part.priority,
-        place: place_at(tokens, from),
-    };
-    Ok(Reading {
-        part: Stmt::Activate(boxed(alloc, activate)?),
-        end: activation.end,
-        stop: activation.stop,
-    })
 }

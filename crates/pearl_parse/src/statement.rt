@@ -1,29 +1,227 @@
-// Statements. Only IF, CASE, REPEAT and BEGIN begin another level of them.
+// Statements, by their first tokens. Only IF, CASE, REPEAT and BEGIN begin another level of them.
 
-ghost use Rattle.std.specs.Prelude.{◌≡◌, ℕ, ◌+◌, ◌<◌, ◌≤◌, length, IfOk, IfErr, true};
-ghost use Rattle.pearl_tree.specs.Standing.{what_at, HasWord, SpellsMaybe, SpellsSome};
+ghost use Rattle.std.specs.Prelude.{◌≡◌, ◌<◌, None, false, length, IfSome, Ok, ◌≢◌, ◌+◌, IfErr, ◌≤◌, OnOk, IfOk, true};
+ghost use Rattle.pearl_tree.specs.Standing.{what_at, HasSymbol, HasWord, SpellsMaybe, SpellsSome};
+ghost use Rattle.pearl_parse.specs.Stops.{begins_statement};
+ghost use Rattle.pearl_parse.specs.FirstWords.{first_words};
+ghost use Rattle.pearl_parse.specs.Firsts.{BeginsSimple};
+ghost use Rattle.pearl_parse.specs.Reads.{ReadsBehind, ReadsListBehind, ReadsNested, ReadsStatement};
 ghost use Rattle.pearl_tree.specs.Statements.{SpellsBranch, SpellsBody};
-ghost use Rattle.pearl_tree.specs.declared.word_code.TheConstants as w;
 ghost use Rattle.pearl_parse_expr.specs.declared.reading.Halt.{Halt};
-ghost use Rattle.pearl_parse_expr.specs.Stops.{IsLongest};
+ghost use Rattle.pearl_tree.specs.Tokens.{IsLawfulWhat};
+ghost use Rattle.pearl_parse_expr.specs.Reads.{ReadsOnly};
+ghost use Rattle.pearl_parse.specs.Reached.{HaltsBehind};
+ghost use Rattle.pearl_parse.specs.Firsts as firsts;
+ghost use Rattle.pearl_tree.specs.declared.symbol.TheConstants as s;
+ghost use Rattle.pearl_tree.specs.declared.word_code.TheConstants as w;
 ghost use Rattle.pearl_parse.specs.Stops as spec;
+ghost use Rattle.pearl_tree.specs.declared.token.What.TheVariants as what;
 ghost use Rattle.pearl_parse.specs.Bodies as bodies;
-ghost use Rattle.pearl_parse.specs.Reached.{IsLeastBehind};
-ghost use Rattle.pearl_parse.specs.Reads.{ReadsBehind, ReadsNested};
 
-use crate::each::each;
-use crate::first::{First, first_at};
+use crate::call::{call, named, return_};
+use crate::lists::each;
 use crate::loops::loop_heads;
-use crate::nested::{closing, condition};
-use crate::simple::simple;
-use crate::step::after;
+use crate::schedule::after;
+use crate::tasking::{
+    immediate_activation, immediate_continuation, on_interrupt, on_semas, on_task, periodic, timed,
+    when,
+};
+use crate::token::{symbol, word as word_here};
+use crate::transfer::{get, put, send, take};
 use pearl_parse_expr::reading::{Halt, Reading, append, boxed};
 use pearl_parse_expr::standing::{is_word, place_at};
+use pearl_tree::expression::Expr;
 use pearl_tree::parts::Parts;
-use pearl_tree::statement::{Begin, Body, BodyDecl, Branch, Case, If, Repeat, Stmt};
-use pearl_tree::token::Token;
+use pearl_tree::statement::{
+    Begin, Body, BodyDecl, Branch, Case, If, InterruptWord, Repeat, SemaWord, Stmt, TaskWord,
+};
+use pearl_tree::symbol::SEMICOLON;
+use pearl_tree::token::{Token, What};
 use pearl_tree::word_code::*;
 use std::alloc::Global;
+
+/// A statement that holds no others.
+#[derive(Clone, Copy)]
+pub enum Simple {
+    Empty,
+    /// An assignment, or a call without CALL.
+    Named,
+    Call,
+    Exit,
+    Return,
+    /// AT, or AFTER.
+    Timed { later: bool },
+    When,
+    All,
+    Activate,
+    Continue,
+    OnTask(TaskWord),
+    OnSemas(SemaWord),
+    OnInterrupt(InterruptWord),
+    Put,
+    Get,
+    Send,
+    Take,
+}
+
+/// A statement, by its first token.
+#[derive(Clone, Copy)]
+pub enum First {
+    Simple(Simple),
+    If,
+    Case,
+    Repeat,
+    Begin,
+}
+
+fn first_of_word(word: u8) -> Option<First>
+    ensures { result ≡ firsts.first_in first_words word }
+{
+    match word {
+        IF => Some(First::If),
+        CASE => Some(First::Case),
+        FOR | FROM | BY | TO | WHILE | REPEAT => Some(First::Repeat),
+        BEGIN => Some(First::Begin),
+        CALL => Some(First::Simple(Simple::Call)),
+        EXIT => Some(First::Simple(Simple::Exit)),
+        RETURN => Some(First::Simple(Simple::Return)),
+        AT => Some(First::Simple(Simple::Timed { later: false })),
+        AFTER => Some(First::Simple(Simple::Timed { later: true })),
+        WHEN => Some(First::Simple(Simple::When)),
+        ALL => Some(First::Simple(Simple::All)),
+        ACTIVATE => Some(First::Simple(Simple::Activate)),
+        CONTINUE => Some(First::Simple(Simple::Continue)),
+        SUSPEND => Some(First::Simple(Simple::OnTask(TaskWord::Suspend))),
+        TERMINATE => Some(First::Simple(Simple::OnTask(TaskWord::Terminate))),
+        PREVENT => Some(First::Simple(Simple::OnTask(TaskWord::Prevent))),
+        REQUEST => Some(First::Simple(Simple::OnSemas(SemaWord::Request))),
+        RELEASE => Some(First::Simple(Simple::OnSemas(SemaWord::Release))),
+        ENABLE => Some(First::Simple(Simple::OnInterrupt(InterruptWord::Enable))),
+        DISABLE => Some(First::Simple(Simple::OnInterrupt(InterruptWord::Disable))),
+        TRIGGER => Some(First::Simple(Simple::OnInterrupt(InterruptWord::Trigger))),
+        PUT => Some(First::Simple(Simple::Put)),
+        GET => Some(First::Simple(Simple::Get)),
+        SEND => Some(First::Simple(Simple::Send)),
+        TAKE => Some(First::Simple(Simple::Take)),
+        _ => None,
+    }
+}
+
+fn first_of(what: &What) -> Option<First>
+    ensures { result ≡ firsts.first_of what.now }
+{
+    match *what {
+        What::Symbol(SEMICOLON) => Some(First::Simple(Simple::Empty)),
+        What::Id(_) => Some(First::Simple(Simple::Named)),
+        What::Word(word) => first_of_word(word),
+        _ => None,
+    }
+}
+
+/// The statement that the token begins.
+fn first_at(tokens: &[Token], at: usize) -> Option<First>
+    ensures some { IfSome result (λ first. firsts.BeginsAs tokens.now at first) }
+    ensures within { IfSome result (λ _. at < length tokens.now) }
+    ensures none { result ≡ None → begins_statement (what_at tokens.now at) ≡ false }
+{
+    match tokens.get(at) {
+        Some(token) => first_of(&token.what),
+        None => None,
+    }
+}
+
+/// `";"`
+fn empty(tokens: &[Token], from: usize) -> Reading<Stmt>
+    requires within { from < length tokens.now }
+    requires symbol { HasSymbol tokens.now from s.SEMICOLON }
+    ensures { ReadsStatement tokens.now from (Ok result) }
+{
+    Reading {
+        part: Stmt::Empty {
+            place: place_at(tokens, from),
+        },
+        end: from + 1,
+        stop: from + 1,
+    }
+}
+
+/// `EXIT ";"`
+fn exit(tokens: &[Token], from: usize) -> Result<Reading<Stmt>, Halt>
+    requires within { from < length tokens.now }
+    requires word { HasWord tokens.now from w.EXIT }
+    ensures reads { ReadsStatement tokens.now from result }
+    ensures memory { IfErr result (λ halt. halt ≢ Halt.NoMemory) }
+{
+    symbol(tokens, from + 1, from, SEMICOLON)?;
+    Ok(Reading {
+        part: Stmt::Exit {
+            place: place_at(tokens, from),
+        },
+        end: from + 2,
+        stop: from + 2,
+    })
+}
+
+/// The statement that begins here.
+fn simple_statement(
+    alloc: Global,
+    tokens: &[Token],
+    from: usize,
+    first: Simple,
+) -> Result<Reading<Stmt>, Halt>
+    requires within { from < length tokens.now }
+    requires first { BeginsSimple tokens.now from first }
+    ensures { ReadsStatement tokens.now from result }
+{
+    match first {
+        Simple::Empty => Ok(empty(tokens, from)),
+        Simple::Named => named(alloc, tokens, from),
+        Simple::Call => call(alloc, tokens, from),
+        Simple::Exit => exit(tokens, from),
+        Simple::Return => return_(alloc, tokens, from),
+        Simple::Timed { later } => timed(alloc, tokens, from, later),
+        Simple::When => when(alloc, tokens, from),
+        Simple::All => periodic(alloc, tokens, from),
+        Simple::Activate => immediate_activation(alloc, tokens, from),
+        Simple::Continue => immediate_continuation(alloc, tokens, from),
+        Simple::OnTask(word) => on_task(alloc, tokens, from, word),
+        Simple::OnSemas(word) => on_semas(alloc, tokens, from, word),
+        Simple::OnInterrupt(word) => on_interrupt(alloc, tokens, from, word),
+        Simple::Put => put(alloc, tokens, from),
+        Simple::Get => get(alloc, tokens, from),
+        Simple::Send => send(alloc, tokens, from),
+        Simple::Take => take(alloc, tokens, from),
+    }
+}
+
+/// `IF expr THEN`
+fn condition(alloc: Global, tokens: &[Token], from: usize) -> Result<Reading<Expr>, Halt>
+    requires within { from < length tokens.now }
+    requires word { HasWord tokens.now from w.IF }
+    ensures { ReadsOnly 16 bodies.SpellsCondition tokens.now from result }
+{
+    let condition = after(alloc, tokens, from, from, IF)?;
+    word_here(tokens, condition.end, condition.stop, THEN)?;
+    Ok(Reading {
+        part: condition.part,
+        end: condition.end + 1,
+        stop: condition.stop.max(condition.end + 1),
+    })
+}
+
+/// A word that closes statements, and a semicolon.
+fn closing(tokens: &[Token], from: usize, least_stop: usize, word: u8) -> Result<(), Halt>
+    requires from { from ≤ length tokens.now }
+    requires least_stop { (from ≤ least_stop) × (least_stop ≤ length tokens.now) }
+    ensures stands { OnOk result (HasWord tokens.now from word × HasSymbol tokens.now (from + 1) s.SEMICOLON) }
+    ensures within { OnOk result (from + 2 ≤ length tokens.now) }
+    ensures refused { IfErr result (λ halt. spec.IsStopped (bodies.SpellsClosing word) tokens.now from least_stop halt) }
+    ensures least { IsLawfulWhat (what.Word word) → IfErr result (λ halt. HaltsBehind 8 (bodies.SpellsClosing word) tokens.now from least_stop halt) }
+    ensures memory { IfErr result (λ halt. halt ≢ Halt.NoMemory) }
+{
+    word_here(tokens, from, least_stop, word)?;
+    symbol(tokens, from + 1, least_stop, SEMICOLON)
+}
 
 /// `{ stmt }`
 #[cycle(statement)]
@@ -35,11 +233,8 @@ fn statements(
     depth: u8,
 ) -> Result<Reading<Vec<Stmt>>, Halt>
     requires { (from ≤ least_stop) × (least_stop ≤ length tokens.now) }
-    ensures spells { IfOk result (λ reading. bodies.SpellsStatements depth tokens.now from reading.part.items reading.end) }
-    ensures longest { IfOk result (λ reading. IsLongest (bodies.SpellsStatements depth) spec.begins_statement tokens.now from reading.end reading.stop) }
-    ensures bounds { IfOk result (λ reading. spec.StopsWithin tokens.now from least_stop reading.end reading.stop) }
-    ensures refused { IfErr result (λ halt. halt ≡ Halt.NoMemory) }
-    ensures least { IsLeastBehind 24 (bodies.SpellsStatements depth) tokens.now from least_stop result }
+    ensures reads { ReadsListBehind 24 (bodies.SpellsStatements depth) (bodies.SpellsStatements depth) begins_statement tokens.now from from least_stop result }
+    ensures memory { IfErr result (λ halt. halt ≡ Halt.NoMemory) }
 {
     let mut list = Vec::new(alloc);
     let mut end = from;
@@ -78,11 +273,8 @@ fn branch(
     requires within { from < length tokens.now }
     requires least_stop { least_stop ≤ length tokens.now }
     requires word { HasWord tokens.now from word }
-    ensures spells { IfOk result (λ reading. SpellsBranch tokens.now depth word from reading.part reading.end) }
-    ensures longest { IfOk result (λ reading. IsLongest (bodies.SpellsHeaded depth word) spec.begins_statement tokens.now from reading.end reading.stop) }
-    ensures bounds { IfOk result (λ reading. spec.StopsWithin tokens.now (from + 1) least_stop reading.end reading.stop) }
-    ensures refused { IfErr result (λ halt. halt ≡ Halt.NoMemory) }
-    ensures least { IsLeastBehind 24 (λ tokens. SpellsBranch tokens depth word) tokens.now from least_stop result }
+    ensures reads { ReadsBehind 24 (λ tokens. SpellsBranch tokens depth word) (bodies.SpellsHeaded depth word) (λ tokens. SpellsBranch tokens depth word) begins_statement tokens.now from (from + 1) least_stop result }
+    ensures memory { IfErr result (λ halt. halt ≡ Halt.NoMemory) }
 {
     match statements(alloc, tokens, from + 1, least_stop.max(from + 1), depth) {
         Ok(statements) => Ok(Reading {
@@ -108,11 +300,8 @@ fn maybe_branch(
     word: u8,
 ) -> Result<Reading<Option<Branch>>, Halt>
     requires { (from ≤ least_stop) × (least_stop ≤ length tokens.now) }
-    ensures spells { IfOk result (λ reading. SpellsMaybe (SpellsBranch tokens.now depth word) from reading.part reading.end) }
-    ensures longest { IfOk result (λ reading. IsLongest (bodies.SpellsOptionalHeaded depth word) spec.begins_statement tokens.now from reading.end reading.stop) }
-    ensures bounds { IfOk result (λ reading. spec.StopsWithin tokens.now from least_stop reading.end reading.stop) }
-    ensures refused { IfErr result (λ halt. halt ≡ Halt.NoMemory) }
-    ensures least { IsLeastBehind 24 (λ tokens. SpellsMaybe (SpellsBranch tokens depth word)) tokens.now from least_stop result }
+    ensures reads { ReadsBehind 24 (λ tokens. SpellsMaybe (SpellsBranch tokens depth word)) (bodies.SpellsOptionalHeaded depth word) (λ tokens. SpellsMaybe (SpellsBranch tokens depth word)) begins_statement tokens.now from from least_stop result }
+    ensures memory { IfErr result (λ halt. halt ≡ Halt.NoMemory) }
 {
     if !is_word(tokens, from, word) {
         return Ok(Reading {
@@ -141,11 +330,7 @@ fn alternatives(
     depth: u8,
 ) -> Result<Reading<Vec<Branch>>, Halt>
     requires { (from ≤ least_stop) × (least_stop ≤ length tokens.now) }
-    ensures spells { IfOk result (λ reading. SpellsSome (SpellsBranch tokens.now depth w.ALT) from reading.part.items reading.end) }
-    ensures longest { IfOk result (λ reading. IsLongest (bodies.SpellsChoices depth) bodies.extends_alternatives tokens.now from reading.end reading.stop) }
-    ensures bounds { IfOk result (λ reading. spec.StopsWithin tokens.now from least_stop reading.end reading.stop) }
-    ensures refused { IfErr result (λ halt. spec.IsStopped (bodies.SpellsChoices depth) tokens.now from least_stop halt) }
-    ensures least { IsLeastBehind 24 (λ tokens. SpellsSome (SpellsBranch tokens depth w.ALT)) tokens.now from least_stop result }
+    ensures { ReadsListBehind 24 (λ tokens. SpellsSome (SpellsBranch tokens depth w.ALT)) (bodies.SpellsChoices depth) bodies.extends_alternatives tokens.now from from least_stop result }
 {
     if !is_word(tokens, from, ALT) {
         return Err(Halt::Refused(least_stop));
@@ -238,7 +423,8 @@ fn case(alloc: Global, tokens: &[Token], from: usize, depth: u8) -> Result<Readi
     })
 }
 
-/// `{ DCL item { "," item } ";" } { stmt }`: the longest body that begins here, behind what was stopped at `least_stop`.
+/// `{ DCL item { "," item } ";" } { stmt }`: the longest body that begins here, behind what was stopped at
+/// `least_stop`.
 #[cycle(statement)]
 pub fn body(
     alloc: Global,
@@ -335,7 +521,7 @@ pub fn statement(
         None => return Err(Halt::Refused(from)),
     };
     match first {
-        First::Simple(first) => simple(alloc, tokens, from, first),
+        First::Simple(first) => simple_statement(alloc, tokens, from, first),
         First::If => if_(alloc, tokens, from, depth),
         First::Case => case(alloc, tokens, from, depth),
         First::Repeat => repeat(alloc, tokens, from, depth),

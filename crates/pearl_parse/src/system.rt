@@ -7,12 +7,12 @@ ghost use Rattle.pearl_tree.specs.Modules.{SpellsSystem};
 ghost use Rattle.pearl_tree.specs.declared.word_code.TheConstants as w;
 ghost use Rattle.pearl_parse_expr.specs.Stops.{IsLongest, IsAhead, IsHalted, is_name};
 ghost use Rattle.pearl_parse_expr.specs.Reads.{Reads, ReadsOnly};
-ghost use Rattle.pearl_parse.specs.Reads.{ReadsMaybe};
+ghost use Rattle.pearl_parse_expr.specs.Reads.{ReadsMaybe};
 ghost use Rattle.pearl_parse.specs.Stops as spec;
 ghost use Rattle.pearl_parse.specs.Modules as modules;
 
-use crate::each::{Repeated, each};
-use crate::step::{symbol, word};
+use crate::lists::{Repeated, each};
+use crate::token::{symbol, word};
 use pearl_parse_decl::specification::device;
 use pearl_parse_expr::reading::{Halt, Reading};
 use pearl_parse_expr::standing::is_word;

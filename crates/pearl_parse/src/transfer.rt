@@ -1,61 +1,28 @@
-// Statements with lists: semaphores, PUT and GET.
+// Statements that transfer values: PUT, GET, SEND and TAKE.
 
-ghost use Rattle.std.specs.Prelude.{◌+◌, ◌<◌, ◌≤◌, length, IfOk, IfErr};
-ghost use Rattle.pearl_tree.specs.Standing.{HasWord, SpellsList, SpellsName};
-ghost use Rattle.pearl_tree.specs.Statements.{sema_word};
+ghost use Rattle.std.specs.Prelude.{◌+◌, ◌<◌, ◌≤◌, length};
+ghost use Rattle.pearl_tree.specs.Standing.{HasWord};
+ghost use Rattle.pearl_parse.specs.Reads.{ReadsOnlyListBehind, ReadsOnlyBehind, ReadsStatement};
+ghost use Rattle.pearl_parse_expr.specs.declared.reading.Halt.{Halt};
 ghost use Rattle.pearl_tree.specs.declared.word_code.TheConstants as w;
-ghost use Rattle.pearl_parse_expr.specs.Stops.{IsLongest, IsOnly, IsAhead, IsHalted};
-ghost use Rattle.pearl_parse_decl.specs.Readings.{by_comma, never};
-ghost use Rattle.pearl_parse_expr.specs.Reads.{ReadsList};
 ghost use Rattle.pearl_parse.specs.Stops as spec;
-ghost use Rattle.pearl_parse.specs.Reads.{ReadsListBehind, ReadsOnlyBehind, ReadsStatement};
 
-use crate::list::before;
-use crate::step::{name, symbol, word as word_here};
+use crate::expression::expr;
+use crate::lists::before;
+use crate::name::name;
+use crate::token::{symbol, word as word_here};
+use pearl_parse_decl::expression::own_reference;
 use pearl_parse_decl::list::list;
 use pearl_parse_expr::reading::{Halt, Reading, boxed};
 use pearl_parse_expr::standing::{is_symbol, place_at};
 use pearl_tree::format::Fmt;
 use pearl_tree::name::Name;
 use pearl_tree::parts::Parts;
-use pearl_tree::statement::{Get, OnSemas, Put, SemaWord, Stmt};
+use pearl_tree::statement::{Get, Put, Send, Stmt, Take};
 use pearl_tree::symbol::SEMICOLON;
 use pearl_tree::token::Token;
 use pearl_tree::word_code::*;
 use std::alloc::Global;
-
-/// `id { "," id }`
-fn name_list(alloc: Global, tokens: &[Token], from: usize) -> Result<Reading<Vec<Name>>, Halt>
-    requires { from ≤ length tokens.now }
-    ensures { ReadsList 16 spec.SpellsNameList (by_comma never) tokens.now from result }
-{
-    list(alloc, tokens, from)
-}
-
-/// `( REQUEST | RELEASE ) id { "," id } ";"`
-pub fn on_semas(
-    alloc: Global,
-    tokens: &[Token],
-    from: usize,
-    word: SemaWord,
-) -> Result<Reading<Stmt>, Halt>
-    requires within { from < length tokens.now }
-    requires word { HasWord tokens.now from (sema_word word) }
-    ensures { ReadsStatement tokens.now from result }
-{
-    let names = name_list(alloc, tokens, from + 1)?;
-    symbol(tokens, names.end, names.stop, SEMICOLON)?;
-    let on_semas = OnSemas {
-        word,
-        names: Parts::new(names.part),
-        place: place_at(tokens, from),
-    };
-    Ok(Reading {
-        part: Stmt::OnSemas(boxed(alloc, on_semas)?),
-        end: names.end + 1,
-        stop: names.stop.max(names.end + 1),
-    })
-}
 
 /// The formats of a transfer, and the semicolon behind them.
 fn formats(
@@ -66,7 +33,7 @@ fn formats(
 ) -> Result<Reading<Vec<Fmt>>, Halt>
     requires from { from ≤ length tokens.now }
     requires least_stop { least_stop ≤ length tokens.now }
-    ensures { ReadsListBehind 24 spec.SpellsFormats tokens.now from least_stop result }
+    ensures { ReadsOnlyListBehind 24 spec.SpellsFormats tokens.now from least_stop result }
 {
     match list(alloc, tokens, from) {
         Ok(list) => {
@@ -156,5 +123,49 @@ pub fn get(alloc: Global, tokens: &[Token], from: usize) -> Result<Reading<Stmt>
         part: Stmt::Get(boxed(alloc, get)?),
         end: station.end,
         stop: station.stop,
+    })
+}
+
+/// `SEND expr TO id ";"`
+pub fn send(alloc: Global, tokens: &[Token], from: usize) -> Result<Reading<Stmt>, Halt>
+    requires within { from < length tokens.now }
+    requires word { HasWord tokens.now from w.SEND }
+    ensures { ReadsStatement tokens.now from result }
+{
+    let value = expr(alloc, tokens, from + 1, from)?;
+    word_here(tokens, value.end, value.stop, TO)?;
+    let dation = name(tokens, value.end + 1, value.stop)?;
+    symbol(tokens, value.end + 2, value.stop, SEMICOLON)?;
+    let send = Send {
+        value: value.part,
+        dation,
+        place: place_at(tokens, from),
+    };
+    Ok(Reading {
+        part: Stmt::Send(boxed(alloc, send)?),
+        end: value.end + 3,
+        stop: value.stop.max(value.end + 3),
+    })
+}
+
+/// `TAKE ref FROM id ";"`
+pub fn take(alloc: Global, tokens: &[Token], from: usize) -> Result<Reading<Stmt>, Halt>
+    requires within { from < length tokens.now }
+    requires word { HasWord tokens.now from w.TAKE }
+    ensures { ReadsStatement tokens.now from result }
+{
+    let target = own_reference(alloc, tokens, from + 1)?;
+    word_here(tokens, target.end, target.stop, FROM)?;
+    let dation = name(tokens, target.end + 1, target.stop)?;
+    symbol(tokens, target.end + 2, target.stop, SEMICOLON)?;
+    let take = Take {
+        target: target.part,
+        dation,
+        place: place_at(tokens, from),
+    };
+    Ok(Reading {
+        part: Stmt::Take(boxed(alloc, take)?),
+        end: target.end + 3,
+        stop: target.stop.max(target.end + 3),
     })
 }

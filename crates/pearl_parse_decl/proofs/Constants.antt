@@ -25,4 +25,5 @@ literal_is_no_sign None h sign = true≢false (sym sign)
 pub sign_ends : (others : List Token) (end m : ℕ) (part : Literal) (to : ℕ) → SpellsLiteral others m part to →
     (m ≡ end) ⊎ EndsEarly is_sign others end m → m ≡ end
 sign_ends others end m part to h (inl same) = same
-sign_ends others end m part to h (inr early) = absurd (literal_is_no_sign (what_at others m) (literal_head others m part to h) early.1)
+sign_ends others end m part to h (inr early) =
+    absurd (literal_is_no_sign (what_at others m) (literal_head others m part to h) early.1)

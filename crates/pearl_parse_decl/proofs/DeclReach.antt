@@ -1,5 +1,7 @@
 -- Items, semaphores, parameters, specifications and declarations that go on as far as a stop.
-use Rattle.std.proofs.Common.{◌≡◌, ℕ, ◌+◌, ◌<◌, ◌≤◌, ◌^◌, max, Bool, true, false, List, [], ◌∷◌, length, codes, refl, ap, ◌∙◌, arith}
+use Rattle.std.proofs.Common.{◌≡◌, ℕ, ◌+◌, ◌<◌, ◌≤◌, ◌^◌, ◌⊎◌, max, Bool, true, false}
+use Rattle.std.proofs.Common.{List, [], ◌∷◌, Option, Vec, Global, Ok, Err, length, codes, refl, sym, ap, subst}
+use Rattle.std.proofs.Common.{◌∙◌, arith}
 use Rattle.std.specs.Option.{option_map}
 use Rattle.pearl_tree.specs.declared.name.Name.{Name}
 use Rattle.pearl_tree.specs.declared.name.Names.{Names}
@@ -10,55 +12,100 @@ use Rattle.pearl_tree.specs.declared.typing.Typing.{Typing}
 use Rattle.pearl_tree.specs.declared.typing.Typing as typing
 use Rattle.pearl_tree.specs.declared.declaration.Class.{Class}
 use Rattle.pearl_tree.specs.declared.declaration.Class.TheVariants as class
+use Rattle.pearl_tree.specs.declared.declaration.Declared.{Declared}
 use Rattle.pearl_tree.specs.declared.declaration.Declared.TheVariants as declared
 use Rattle.pearl_tree.specs.declared.declaration.Direction.{Direction}
 use Rattle.pearl_tree.specs.declared.declaration.Direction.TheVariants as direction
+use Rattle.pearl_tree.specs.declared.declaration.Spec.{Spec}
 use Rattle.pearl_tree.specs.declared.declaration.Spec.TheVariants as spec
+use Rattle.pearl_tree.specs.declared.tree.Decl.{Decl}
 use Rattle.pearl_tree.specs.declared.tree.Decl.TheVariants as decl
 use Rattle.pearl_tree.specs.declared.token.Token.{Token}
-use Rattle.pearl_tree.specs.Standing.{IsAt, IsName, HasId, HasWord, HasSymbol, SpellsList, SpellsFlag, SpellsMaybeHeaded, SpellsNumber}
+use Rattle.pearl_tree.specs.Standing.{Spelling, what_at, IsAt, IsName, HasId, HasWord, HasSymbol, SpellsList}
+use Rattle.pearl_tree.specs.Standing.{SpellsFlag, SpellsMaybeHeaded, SpellsNumber}
 use Rattle.pearl_tree.specs.Expressions.{SpellsConst}
 use Rattle.pearl_tree.specs.Types.{SpellsNames, SpellsBounds, SpellsBasic, SpellsWholeTyping}
-use Rattle.pearl_tree.specs.Declarations.{SpellsItem, SpellsSema, SpellsDeclared, SpellsClass, SpellsControl, SpellsSpec, SpellsParam, direction_word}
+use Rattle.pearl_tree.specs.Declarations.{SpellsItem, SpellsSema, SpellsDeclared, SpellsClass, SpellsControl}
+use Rattle.pearl_tree.specs.Declarations.{SpellsSpec, SpellsParam, direction_word}
 use Rattle.pearl_tree.specs.Modules.{SpellsDecl}
 use Rattle.pearl_tree.specs.declared.symbol.TheConstants as s
 use Rattle.pearl_tree.specs.declared.word_code.TheConstants as w
-use Rattle.pearl_parse_expr.specs.Least.{AlikeBefore, ReachesIn, GoesIn, Reaches}
+use Rattle.pearl_parse_expr.specs.Least.{AlikeBefore, ReachesIn, Reaches, GoesTo}
 use Rattle.pearl_parse_expr.proofs.Ids.{x_name, x_token, x_lawful}
 use Rattle.pearl_parse_expr.proofs.Local as local
-use Rattle.pearl_parse_expr.proofs.Reaching.{IsLocal, Lawful, begun, completed, reaches_max, reaches_as, reaches_as_in, reaches_closed, one_lawful, none_lawful, placed_within, what_stands, place_stands}
+use Rattle.pearl_parse_expr.proofs.Reaching.{IsLocal, Lawful, begun, completed, goes, goes_as, halts_as, reach_of}
+use Rattle.pearl_parse_expr.proofs.Reaching.{reaches_max, reaches_as, reaches_as_in, reaches_closed, one_lawful}
+use Rattle.pearl_parse_expr.proofs.Reaching.{none_lawful, placed_within, what_stands, place_stands}
 use Rattle.pearl_parse_expr.proofs.Trees.{parts_of}
-use Rattle.pearl_parse_expr.specs.Stops.{IsAhead}
-use Rattle.pearl_parse_decl.specs.Readings.{IsWithin, IsSelfContained}
+use Rattle.pearl_parse_expr.specs.declared.reading.Halt.{Halt}
+use Rattle.pearl_parse_expr.specs.declared.reading.Halt.TheVariants.{Refused}
+use Rattle.pearl_parse_expr.specs.declared.reading.Reading.{Reading}
+use Rattle.pearl_parse_expr.specs.Reads.{Reads, ReadsMaybeList}
+use Rattle.pearl_parse_expr.specs.Stops.{IsLongest, EndsEarly, is_name, is_word}
+use Rattle.pearl_parse_expr.proofs.Parts.{shorter}
+use Rattle.pearl_parse_expr.proofs.Primaries.{word_within}
+use Rattle.pearl_tree.specs.Stops.{BeginAlike}
+use Rattle.pearl_tree.specs.declared.token.What.{What}
+use Rattle.pearl_tree.specs.declared.literal.Const.{Const}
+use Rattle.pearl_tree.specs.declared.declaration.Item.{Item}
+use Rattle.pearl_tree.specs.declared.declaration.Sema.{Sema}
+use Rattle.pearl_parse_decl.specs.Readings.{IsSelfContained, IsPast, ReadsMaybePart, behind, by_bracket}
+use Rattle.pearl_parse_decl.specs.Readings.{extends_item, extends_declared, extends_spec}
+use Rattle.pearl_parse_decl.proofs.Behind.{none_read, halted_past, halts_max, ends_as, read_behind, unclosed}
+use Rattle.pearl_parse_decl.proofs.Items as items
+use Rattle.pearl_parse_decl.proofs.Items.{init_last, only_sema, only_item}
+use Rattle.pearl_parse_decl.proofs.Specifications.{only_dation, only_direction, control_last}
 use Rattle.pearl_parse_decl.proofs.Leaves.{word, symbol}
 use Rattle.pearl_parse_decl.proofs.ListReach.{list_is_local, list_after}
-use Rattle.pearl_parse_decl.proofs.LocalLists.{local_of, after_of, contained_of, maybe_headed_keeps, maybe_headed_long, number_keeps, flag_keeps}
-use Rattle.pearl_parse_decl.proofs.LocalDeclarations.{bounds_keep, const_keeps, whole_typing_keeps, class_keeps, control_keeps, declared_keeps, spec_keeps}
-use Rattle.pearl_parse_decl.proofs.TypeReach.{clock, clock_stands, names_are_local, bounds_are_local, names_read, bounds_read, names_then, bounds_then, names_ahead}
+use Rattle.pearl_parse_decl.proofs.LocalLists.{local_of, after_of, contained_of, maybe_headed_keeps, maybe_headed_long}
+use Rattle.pearl_parse_decl.proofs.LocalLists.{number_keeps, flag_keeps}
+use Rattle.pearl_parse_decl.proofs.LocalDeclarations.{bounds_keep, const_keeps, whole_typing_keeps, class_keeps}
+use Rattle.pearl_parse_decl.proofs.LocalDeclarations.{control_keeps, declared_keeps, spec_keeps}
+use Rattle.pearl_parse_decl.proofs.TypeReach.{NamesRead, BoundsRead, clock, clock_stands, names_are_local}
+use Rattle.pearl_parse_decl.proofs.TypeReach.{bounds_are_local, names_read, bounds_read, names_then, bounds_then}
+use Rattle.pearl_parse_decl.proofs.TypeReach.{names_ahead}
 
 -- ---- items
 
-pub item_names : (tokens : List Token) (from stop : ℕ) → ReachesIn 9 SpellsNames tokens from stop → Reaches SpellsItem tokens from stop
+pub item_names : (tokens : List Token) (from stop : ℕ) → ReachesIn 9 SpellsNames tokens from stop →
+    Reaches SpellsItem tokens from stop
 item_names tokens from stop r =
     names_then SpellsItem tokens from stop clock (omega arith)
     (λ others names m at here h last. (
-      record { names = names; bounds = parts_of [] (omega arith); inv = false; typing = typing.Basic (basic.Clock 0); init = parts_of [] (omega arith); place = at },
+      record {
+        names = names;
+        bounds = parts_of [] (omega arith);
+        inv = false;
+        typing = typing.Basic (basic.Clock 0);
+        init = parts_of [] (omega arith);
+        place = at;
+      },
       (m, m, m, m + 1, here, h, refl, refl, clock_stands others m last, refl),
     )) r
 
 module _ (tokens : List Token) (from : ℕ) (names : Names) (a : ℕ) (named : SpellsNames tokens from names a) where
-  pub item_bounds : (stop : ℕ) → a ≤ stop → ReachesIn 9 SpellsBounds tokens a stop → Reaches SpellsItem tokens from stop
+  pub item_bounds : (stop : ℕ) → a ≤ stop → ReachesIn 9 SpellsBounds tokens a stop →
+      Reaches SpellsItem tokens from stop
   item_bounds stop near r =
       bounds_then tokens from names a named SpellsItem stop clock (omega arith) near
       (λ others bounds b at here h g last. (
-        record { names = names; bounds = bounds; inv = false; typing = typing.Basic (basic.Clock 0); init = parts_of [] (omega arith); place = at },
+        record {
+          names = names;
+          bounds = bounds;
+          inv = false;
+          typing = typing.Basic (basic.Clock 0);
+          init = parts_of [] (omega arith);
+          place = at;
+        },
         (a, b, b, b + 1, here, h, g, refl, clock_stands others b last, refl),
       )) r
 
-  module _ (bounds : Parts Bound) (b : ℕ) (bounded : SpellsBounds tokens a bounds b) (inv : Bool) (c : ℕ) (flagged : SpellsFlag tokens w.INV b inv c) where
+  module _ (bounds : Parts Bound) (b : ℕ) (bounded : SpellsBounds tokens a bounds b) (inv : Bool) (c : ℕ)
+      (flagged : SpellsFlag tokens w.INV b inv c) where
     -- what stands before the type
     abbrev Before : List Token → Type 0
-    Before others = (at : ℕ) × IsAt others from at × SpellsNames others from names a × SpellsBounds others a bounds b × SpellsFlag others w.INV b inv c
+    Before others = (at : ℕ) × IsAt others from at × SpellsNames others from names a ×
+        SpellsBounds others a bounds b × SpellsFlag others w.INV b inv c
 
     ahead : (from + 1 ≤ a) × (a ≤ b) × (b ≤ c)
     ahead = (
@@ -67,7 +114,8 @@ module _ (tokens : List Token) (from : ℕ) (names : Names) (a : ℕ) (named : S
       omega (arith, (flag_keeps tokens tokens c (λ j below. refl) w.INV b inv c flagged (omega arith)).0),
     )
 
-    before : (others : List Token) (k : ℕ) → AlikeBefore tokens others k → c ≤ k → c ≤ length others → Before others
+    before : (others : List Token) (k : ℕ) → AlikeBefore tokens others k → c ≤ k → c ≤ length others →
+        Before others
     before others k alike near inside =
         let at = placed_within others from (omega (arith, ahead)) in (
           at.0,
@@ -84,7 +132,14 @@ module _ (tokens : List Token) (from : ℕ) (names : Names) (a : ℕ) (named : S
         let what_is = what_stands tokens c (clock ∷ []) within 0 c (omega arith) in
         let place_is = place_stands tokens c (clock ∷ []) within 0 c (omega arith) in
         completed SpellsItem tokens from c (clock ∷ [])
-        (record { names = names; bounds = bounds; inv = inv; typing = typing.Basic (basic.Clock 0); init = parts_of [] (omega arith); place = at.0 }) within (omega (arith, ahead))
+        (record {
+          names = names;
+          bounds = bounds;
+          inv = inv;
+          typing = typing.Basic (basic.Clock 0);
+          init = parts_of [] (omega arith);
+          place = at.0;
+        }) within (omega (arith, ahead))
         (one_lawful clock [] (omega arith) none_lawful)
         (λ alike. (
           a,
@@ -99,84 +154,249 @@ module _ (tokens : List Token) (from : ℕ) (names : Names) (a : ℕ) (named : S
           refl,
         ))
 
-    pub item_typing : (stop : ℕ) → c ≤ stop → Reaches SpellsWholeTyping tokens c stop → Reaches SpellsItem tokens from stop
+    pub item_typing : (stop : ℕ) → c ≤ stop → Reaches SpellsWholeTyping tokens c stop →
+        Reaches SpellsItem tokens from stop
     item_typing stop near r =
         reaches_as SpellsWholeTyping SpellsItem tokens from c stop (omega (arith, ahead))
         (λ others alike long short x h.
         let first = before others stop alike near (omega arith) in (
-          record { names = names; bounds = bounds; inv = inv; typing = x; init = parts_of [] (omega arith); place = first.0 },
+          record {
+            names = names;
+            bounds = bounds;
+            inv = inv;
+            typing = x;
+            init = parts_of [] (omega arith);
+            place = first.0;
+          },
           (a, b, c, length others, first.1, first.2, first.3, first.4, h, refl),
         )) r
 
-    pub item_init : (part : Typing) (d stop : ℕ) → SpellsWholeTyping tokens c part d → d ≤ stop → length tokens < 2 ^ 55 → stop ≤ length tokens →
-        ReachesIn 9 (λ tokens. SpellsMaybeHeaded tokens w.INIT (SpellsConst tokens)) tokens d stop → Reaches SpellsItem tokens from stop
+    pub item_init : (part : Typing) (d stop : ℕ) → SpellsWholeTyping tokens c part d → d ≤ stop →
+        length tokens < 2 ^ 55 → stop ≤ length tokens →
+        ReachesIn 9 (λ tokens. SpellsMaybeHeaded tokens w.INIT (SpellsConst tokens)) tokens d stop →
+        Reaches SpellsItem tokens from stop
     item_init part d stop typed near few within r =
         let behind = after_of 1 SpellsWholeTyping whole_typing_keeps tokens c part d typed in
-        reaches_as_in (λ tokens. SpellsMaybeHeaded tokens w.INIT (SpellsConst tokens)) SpellsItem tokens from d 9 16 stop (omega (arith, ahead, behind))
+        reaches_as_in (λ tokens. SpellsMaybeHeaded tokens w.INIT (SpellsConst tokens)) SpellsItem tokens from d 9 16
+        stop (omega (arith, ahead, behind))
         (λ others alike long short xs h.
         let first = before others stop alike (omega (arith, behind)) (omega (arith, behind)) in
-        let all = maybe_headed_long others (SpellsConst others) (after_of 1 SpellsConst const_keeps others) w.INIT d xs (length others) h in
+        let all = maybe_headed_long others (SpellsConst others) (after_of 1 SpellsConst const_keeps others) w.INIT d xs
+        (length others) h in
         let small : length xs < 2 ^ 63 = omega (arith, all) in (
-          record { names = names; bounds = bounds; inv = inv; typing = part; init = parts_of xs small; place = first.0 },
-          (a, b, c, d, first.1, first.2, first.3, first.4, (whole_typing_keeps tokens others stop alike c part d typed near).1, h),
+          record {
+            names = names;
+            bounds = bounds;
+            inv = inv;
+            typing = part;
+            init = parts_of xs small;
+            place = first.0;
+          },
+          (
+            a,
+            b,
+            c,
+            d,
+            first.1,
+            first.2,
+            first.3,
+            first.4,
+            (whole_typing_keeps tokens others stop alike c part d typed near).1,
+            h,
+          ),
         )) r
 
 pub inits_are_local : IsLocal (λ tokens. SpellsMaybeHeaded tokens w.INIT (SpellsConst tokens))
 inits_are_local =
     local_of 0 (λ tokens. SpellsMaybeHeaded tokens w.INIT (SpellsConst tokens))
-    (λ tokens others k alike. maybe_headed_keeps tokens others k alike 1 SpellsConst (const_keeps tokens others k alike) w.INIT)
+    (λ tokens others k alike. maybe_headed_keeps tokens others k alike 1 SpellsConst
+    (const_keeps tokens others k alike) w.INIT)
 
--- what stands before the type, as it was read: some item goes on as far as it was stopped
-pub item_before : (tokens : List Token) (from a b c stop_a stop_b first stop : ℕ) (names : Names) (bounds : Parts Bound) (inv : Bool) → SpellsNames tokens from names a → IsAhead tokens from a stop_a →
-    GoesIn 9 SpellsNames tokens from a stop_a → SpellsBounds tokens a bounds b → IsWithin tokens a b stop_b → GoesIn 9 SpellsBounds tokens a b stop_b → SpellsFlag tokens w.INV b inv c →
-    c ≤ length tokens → first ≡ max stop_a stop_b → stop ≡ max first c → Reaches SpellsItem tokens from stop
-item_before tokens from a b c stop_a stop_b first stop names bounds inv named ahead one bounded within two flagged near is last =
-    reaches_max SpellsItem tokens from first c stop last
-    (reaches_max SpellsItem tokens from stop_a stop_b first is (item_names tokens from stop_a (names_read tokens from a stop_a names named ahead one))
-    (item_bounds tokens from names a named stop_b (omega (arith, within)) (bounds_read tokens a b stop_b bounds bounded within two)))
-    (item_inv tokens from names a named bounds b bounded inv c flagged near)
+-- behind the names, the bounds and INV that were read, and were stopped at `stop`
+module _ (tokens : List Token) (from : ℕ) (names : Reading Names) (named : NamesRead tokens from names)
+    (bounds : Reading (Parts Bound)) (bounded : BoundsRead tokens names.end bounds)
+    (inv : Reading Bool) (flagged : ReadsMaybePart 16 (λ tokens. SpellsFlag tokens w.INV)
+    (is_word w.INV) tokens bounds.end (Ok inv)) (once : inv.stop ≡ inv.end)
+    (first stop : ℕ) (is : first ≡ max names.stop bounds.stop) (later : stop ≡ max first inv.stop) where
+  -- some item goes on as far
+  before_type : Reaches SpellsItem tokens from stop
+  before_type =
+      reaches_max SpellsItem tokens from first inv.end stop (omega (arith, later, once))
+      (reaches_max SpellsItem tokens from names.stop bounds.stop first is
+      (item_names tokens from names.stop (names_read tokens from names named))
+      (item_bounds tokens from names.part names.end named.spells bounds.stop (omega (arith, bounded.bounds))
+      (bounds_read tokens names.end bounds bounded)))
+      (item_inv tokens from names.part names.end named.spells bounds.part bounds.end bounded.spells inv.part inv.end
+      flagged.spells (omega (arith, flagged.bounds)))
+
+  with_type : (k : ℕ) → inv.end ≤ k → k ≤ length tokens → Reaches SpellsWholeTyping tokens inv.end k →
+      Reaches SpellsItem tokens from k
+  with_type k near within r =
+      item_typing tokens from names.part names.end named.spells bounds.part bounds.end bounded.spells inv.part inv.end
+      flagged.spells k near r
+
+  type_of : (others : List Token) (k : ℕ) → stop ≤ k → BeginAlike tokens others k →
+      (x : Item) (to : ℕ) → SpellsItem others from x to →
+      (d : ℕ) × SpellsWholeTyping others inv.end x.typing d ×
+      SpellsMaybeHeaded others w.INIT (SpellsConst others) d x.init.items.items to
+  type_of others k below agree =
+      items.item_typing tokens others from names.end bounds.end inv.end names.stop bounds.stop inv.stop k
+      (omega (arith, is, later, below)) (omega (arith, is, later, below))
+      (omega (arith, later, below)) named.only bounded.longest flagged.longest agree
+
+  pub item_unread : (halt result : Halt) → result ≡ behind halt stop →
+      Reads 16 SpellsWholeTyping by_bracket tokens inv.end (Err halt) →
+      Reads 16 SpellsItem extends_item tokens from (Err result)
+  item_unread halt result same none =
+      read_behind SpellsWholeTyping SpellsItem tokens from inv.end stop halt result same
+      (omega (arith, named.ahead, bounded.bounds, flagged.bounds))
+      (omega (arith, is, later, named.ahead, bounded.bounds, flagged.bounds))
+      (λ others agree x to h. let read = type_of others stop (omega arith) agree x to h in (x.typing, read.0, read.1))
+      none.refused
+      (halts_max SpellsWholeTyping SpellsItem tokens from inv.end stop halt before_type with_type
+      none.refused none.least)
+
+  module _ (part : Reading Typing) (read : Reads 16 SpellsWholeTyping by_bracket tokens inv.end (Ok part))
+      (init : Reading (Vec Const Global))
+      (last : ReadsMaybeList 9 (λ tokens. SpellsMaybeHeaded tokens w.INIT (SpellsConst tokens))
+      (is_word w.INIT) tokens part.end (Ok init))
+      (second end : ℕ) (next : second ≡ max part.stop stop) (all : end ≡ max init.stop second) where
+    pub item_ends : IsLongest SpellsItem extends_item tokens from init.end end
+    item_ends = λ others agree x to h.
+        let found = type_of others end (omega (arith, next, all)) agree x to h in
+        init_last others found.0 part.end init.end x.init.items.items to (omega (arith, last.bounds)) found.2
+        (read.longest others (shorter tokens others part.stop end (omega (arith, next, all)) agree)
+        x.typing found.0 found.1)
+        (λ xs to h. last.longest others (shorter tokens others init.stop end (omega (arith, all)) agree) xs to h)
+
+    pub item_goes : length tokens < 2 ^ 55 → GoesTo SpellsItem tokens from init.end end
+    item_goes few =
+        let with_init = item_init tokens from names.part names.end named.spells bounds.part bounds.end bounded.spells
+        inv.part inv.end flagged.spells part.part part.end init.stop
+        read.spells (omega (arith, last.bounds)) few (omega (arith, last.bounds))
+        (reach_of (λ tokens. SpellsMaybeHeaded tokens w.INIT (SpellsConst tokens)) tokens inits_are_local part.end
+        init.part.items init.end init.stop last.spells
+        (omega (arith, last.bounds)) (omega (arith, last.bounds)) last.least) in
+        let with_part = unclosed SpellsWholeTyping SpellsItem (local_of 1 SpellsWholeTyping whole_typing_keeps) tokens
+        from inv.end with_type part.part part.end part.stop read.spells
+        read.ahead read.least in
+        goes SpellsItem tokens from init.end end
+        (reaches_max SpellsItem tokens from init.stop second end all with_init
+        (reaches_max SpellsItem tokens from part.stop stop second next with_part before_type))
 
 -- ---- semaphores
 
 pub presets_are_local : IsLocal (λ tokens. SpellsMaybeHeaded tokens w.PRESET (SpellsNumber tokens))
 presets_are_local =
     local_of 0 (λ tokens. SpellsMaybeHeaded tokens w.PRESET (SpellsNumber tokens))
-    (λ tokens others k alike. maybe_headed_keeps tokens others k alike 1 SpellsNumber (number_keeps tokens others k alike) w.PRESET)
+    (λ tokens others k alike. maybe_headed_keeps tokens others k alike 1 SpellsNumber
+    (number_keeps tokens others k alike) w.PRESET)
 
-pub sema_names : (tokens : List Token) (from stop : ℕ) → ReachesIn 9 SpellsNames tokens from stop → Reaches SpellsSema tokens from stop
+pub sema_names : (tokens : List Token) (from stop : ℕ) → ReachesIn 9 SpellsNames tokens from stop →
+    Reaches SpellsSema tokens from stop
 sema_names tokens from stop r =
     names_then SpellsSema tokens from stop (word w.SEMA) (omega arith)
-    (λ others names m at here h last. (record { names = names; preset = parts_of [] (omega arith); place = at }, (m, here, h, last.0, refl))) r
+    (λ others names m at here h last.
+    (record { names = names; preset = parts_of [] (omega arith); place = at }, (m, here, h, last.0, refl))) r
 
-pub sema_preset : (tokens : List Token) (from : ℕ) (names : Names) (a stop : ℕ) → SpellsNames tokens from names a → HasWord tokens a w.SEMA → a < stop →
-    length tokens < 2 ^ 55 → stop ≤ length tokens → ReachesIn 9 (λ tokens. SpellsMaybeHeaded tokens w.PRESET (SpellsNumber tokens)) tokens (a + 1) stop → Reaches SpellsSema tokens from stop
+pub sema_preset : (tokens : List Token) (from : ℕ) (names : Names) (a stop : ℕ) →
+    SpellsNames tokens from names a → HasWord tokens a w.SEMA → a < stop →
+    length tokens < 2 ^ 55 → stop ≤ length tokens →
+    ReachesIn 9 (λ tokens. SpellsMaybeHeaded tokens w.PRESET (SpellsNumber tokens)) tokens (a + 1) stop →
+    Reaches SpellsSema tokens from stop
 sema_preset tokens from names a stop named sema near few within r =
     let ahead = names_ahead tokens from names a named in
-    reaches_as_in (λ tokens. SpellsMaybeHeaded tokens w.PRESET (SpellsNumber tokens)) SpellsSema tokens from (a + 1) 9 16 stop (omega arith)
+    reaches_as_in (λ tokens. SpellsMaybeHeaded tokens w.PRESET (SpellsNumber tokens)) SpellsSema tokens from
+    (a + 1) 9 16 stop (omega arith)
     (λ others alike long short xs h.
     let at = placed_within others from (omega arith) in
-    let all = maybe_headed_long others (SpellsNumber others) (λ from x to g. omega (arith, g.1)) w.PRESET (a + 1) xs (length others) h in
+    let all = maybe_headed_long others (SpellsNumber others) (λ from x to g. omega (arith, g.1)) w.PRESET (a + 1) xs
+    (length others) h in
     let small : length xs < 2 ^ 63 = omega (arith, all) in (
       record { names = names; preset = parts_of xs small; place = at.0 },
-      (a, at.1, names_are_local tokens others stop alike from names a named (omega arith), local.what tokens others stop alike a near ∙ sema, h),
+      (
+        a,
+        at.1,
+        names_are_local tokens others stop alike from names a named (omega arith),
+        local.what tokens others stop alike a near ∙ sema,
+        h,
+      ),
     )) r
 
 -- ---- variables and semaphores
 
-pub declared_item : (tokens : List Token) (from stop : ℕ) → Reaches SpellsItem tokens from stop → Reaches SpellsDeclared tokens from stop
-declared_item tokens from stop r = reaches_as SpellsItem SpellsDeclared tokens from from stop (omega arith) (λ others alike long short x h. (declared.Item x, h)) r
+pub declared_item : (tokens : List Token) (from stop : ℕ) → Reaches SpellsItem tokens from stop →
+    Reaches SpellsDeclared tokens from stop
+declared_item tokens from stop r = reaches_as SpellsItem SpellsDeclared tokens from from stop (omega arith)
+    (λ others alike long short x h. (declared.Item x, h)) r
 
-pub declared_sema : (tokens : List Token) (from stop : ℕ) → Reaches SpellsSema tokens from stop → Reaches SpellsDeclared tokens from stop
-declared_sema tokens from stop r = reaches_as SpellsSema SpellsDeclared tokens from from stop (omega arith) (λ others alike long short x h. (declared.Sema x, h)) r
+-- what is declared is of one kind, by what follows its names
+module _ {X : Type 0} (spells : List Token → Spelling X) (extends : Option What → Bool)
+    (more : (token : Option What) → extends token ≡ true → extends_declared token ≡ true)
+    (wrap : X → Declared) (wrapped : (others : List Token) (from : ℕ) (x : X) (to : ℕ) →
+    spells others from x to → SpellsDeclared others from (wrap x) to)
+    (tokens : List Token) (from stop : ℕ)
+    (only : (others : List Token) → BeginAlike tokens others stop → (x : Declared) (to : ℕ) →
+    SpellsDeclared others from x to → (x : X) × (k : ℕ) × spells others from x k × (k ≡ to)) where
+  reaches_so : (k : ℕ) → Reaches spells tokens from k → Reaches SpellsDeclared tokens from k
+  reaches_so k r = reaches_as spells SpellsDeclared tokens from from k (omega arith)
+      (λ others alike long short x h. (wrap x, wrapped others from x (length others) h)) r
+
+  pub kind_read : (part : Reading X) → stop ≤ part.stop → Reads 16 spells extends tokens from (Ok part) →
+      Reads 16 SpellsDeclared extends_declared tokens from
+      (Ok (record { part = wrap part.part; end = part.end; stop = part.stop }))
+  kind_read part far read = record {
+    spells = wrapped tokens from part.part part.end read.spells;
+    longest = λ others agree x to h.
+        let found = only others (shorter tokens others stop part.stop far agree) x to h in
+        ends_as extends extends_declared others part.end to more
+        (subst (λ k. (k ≡ part.end) ⊎ EndsEarly extends others part.end k) found.3
+        (read.longest others agree found.0 found.1 found.2));
+    ahead = read.ahead;
+    refused = tt;
+    least = goes_as spells SpellsDeclared tokens from from part.end part.stop (reaches_so part.stop) read.least;
+  }
+
+  pub kind_unread : (halt : Halt) → IsPast stop halt → Reads 16 spells extends tokens from (Err halt) →
+      Reads 16 SpellsDeclared extends_declared tokens from (Err halt)
+  kind_unread halt past none =
+      none_read
+      (halted_past spells SpellsDeclared tokens from stop halt past
+      (λ others agree x to h. let found = only others agree x to h in (found.0, found.1, found.2)) none.refused)
+      (halts_as spells SpellsDeclared tokens from from halt (λ k near within r. reaches_so k r)
+      none.refused none.least)
+
+-- the names that were read, and whether SEMA stands behind them
+module _ (tokens : List Token) (from : ℕ) (names : Reading Names) (named : NamesRead tokens from names) where
+  pub sema_only : is_word w.SEMA (what_at tokens names.end) ≡ true → (others : List Token) →
+      BeginAlike tokens others names.stop → (x : Declared) (to : ℕ) →
+      SpellsDeclared others from x to → (x : Sema) × (k : ℕ) × SpellsSema others from x k × (k ≡ to)
+  sema_only stands others agree =
+      only_sema others from names.end
+      (ap (is_word w.SEMA) (sym (agree names.end (omega (arith, named.ahead)))) ∙ stands)
+      (λ x to h. named.only others agree x to h)
+
+  pub item_only : is_word w.SEMA (what_at tokens names.end) ≡ false → (others : List Token) →
+      BeginAlike tokens others names.stop → (x : Declared) (to : ℕ) →
+      SpellsDeclared others from x to → (x : Item) × (k : ℕ) × SpellsItem others from x k × (k ≡ to)
+  item_only none others agree =
+      only_item others from names.end
+      (ap (is_word w.SEMA) (sym (agree names.end (omega (arith, named.ahead)))) ∙ none)
+      (λ x to h. named.only others agree x to h)
 
 -- ---- parameters
 
-pub param_names : (tokens : List Token) (from stop : ℕ) → ReachesIn 9 SpellsNames tokens from stop → Reaches SpellsParam tokens from stop
+pub param_names : (tokens : List Token) (from stop : ℕ) → ReachesIn 9 SpellsNames tokens from stop →
+    Reaches SpellsParam tokens from stop
 param_names tokens from stop r =
     names_then SpellsParam tokens from stop clock (omega arith)
-    (λ others names m at here h last. (record { names = names; basic = basic.Clock 0; ident = false; place = at }, (m, m + 1, here, h, clock_stands others m last, refl))) r
+    (λ others names m at here h last. (
+      record { names = names; basic = basic.Clock 0; ident = false; place = at },
+      (m, m + 1, here, h, clock_stands others m last, refl),
+    )) r
 
-pub param_basic : (tokens : List Token) (from : ℕ) (names : Names) (a stop : ℕ) → SpellsNames tokens from names a → a ≤ stop → Reaches SpellsBasic tokens a stop →
+pub param_basic : (tokens : List Token) (from : ℕ) (names : Names) (a stop : ℕ) →
+    SpellsNames tokens from names a → a ≤ stop → Reaches SpellsBasic tokens a stop →
     Reaches SpellsParam tokens from stop
 param_basic tokens from names a stop named near r =
     let ahead = names_ahead tokens from names a named in
@@ -189,11 +409,14 @@ param_basic tokens from names a stop named near r =
 
 -- ---- specifications
 
-pub spec_names : (tokens : List Token) (from stop : ℕ) → ReachesIn 9 SpellsNames tokens from stop → Reaches SpellsSpec tokens from stop
+pub spec_names : (tokens : List Token) (from stop : ℕ) → ReachesIn 9 SpellsNames tokens from stop →
+    Reaches SpellsSpec tokens from stop
 spec_names tokens from stop r =
-    names_then SpellsSpec tokens from stop (word w.INTERRUPT) (omega arith) (λ others names m at here h last. (spec.Interrupt names at, (m, here, h, last.0, refl))) r
+    names_then SpellsSpec tokens from stop (word w.INTERRUPT) (omega arith)
+    (λ others names m at here h last. (spec.Interrupt names at, (m, here, h, last.0, refl))) r
 
-module _ (tokens : List Token) (from : ℕ) (names : Names) (a : ℕ) (named : SpellsNames tokens from names a) (dation : HasWord tokens a w.DATION) where
+module _ (tokens : List Token) (from : ℕ) (names : Names) (a : ℕ) (named : SpellsNames tokens from names a)
+    (dation : HasWord tokens a w.DATION) where
   -- DATION, and no direction
   pub spec_dation : a + 1 ≤ length tokens → Reaches SpellsSpec tokens from (a + 1)
   spec_dation within =
@@ -202,8 +425,10 @@ module _ (tokens : List Token) (from : ℕ) (names : Names) (a : ℕ) (named : S
       let others = begun tokens (a + 1) (word w.IN ∷ word w.ALPHIC ∷ []) in
       let what_is = what_stands tokens (a + 1) (word w.IN ∷ word w.ALPHIC ∷ []) within in
       let place_is = place_stands tokens (a + 1) (word w.IN ∷ word w.ALPHIC ∷ []) within in
-      completed SpellsSpec tokens from (a + 1) (word w.IN ∷ word w.ALPHIC ∷ []) (spec.Dation names direction.In (class.Alphic 0) false at.0) within (omega arith)
-      (one_lawful (word w.IN) (word w.ALPHIC ∷ []) (omega arith) (one_lawful (word w.ALPHIC) [] (omega arith) none_lawful))
+      completed SpellsSpec tokens from (a + 1) (word w.IN ∷ word w.ALPHIC ∷ [])
+      (spec.Dation names direction.In (class.Alphic 0) false at.0) within (omega arith)
+      (one_lawful (word w.IN) (word w.ALPHIC ∷ []) (omega arith)
+      (one_lawful (word w.ALPHIC) [] (omega arith) none_lawful))
       (λ alike. (
         a,
         a + 3,
@@ -216,7 +441,8 @@ module _ (tokens : List Token) (from : ℕ) (names : Names) (a : ℕ) (named : S
       ))
 
   module _ (direction : Direction) (directed : HasWord tokens (a + 1) (direction_word direction)) where
-    pub spec_class : (stop : ℕ) → a + 1 < stop → Reaches SpellsClass tokens (a + 2) stop → Reaches SpellsSpec tokens from stop
+    pub spec_class : (stop : ℕ) → a + 1 < stop → Reaches SpellsClass tokens (a + 2) stop →
+        Reaches SpellsSpec tokens from stop
     spec_class stop near r =
         let ahead = names_ahead tokens from names a named in
         reaches_as SpellsClass SpellsSpec tokens from (a + 2) stop (omega arith)
@@ -235,7 +461,8 @@ module _ (tokens : List Token) (from : ℕ) (names : Names) (a : ℕ) (named : S
           ),
         )) r
 
-    pub spec_control : (part : Class) (b stop : ℕ) → SpellsClass tokens (a + 2) part b → b ≤ stop → Reaches SpellsControl tokens b stop → Reaches SpellsSpec tokens from stop
+    pub spec_control : (part : Class) (b stop : ℕ) → SpellsClass tokens (a + 2) part b → b ≤ stop →
+        Reaches SpellsControl tokens b stop → Reaches SpellsSpec tokens from stop
     spec_control part b stop classed near r =
         let ahead = names_ahead tokens from names a named in
         let behind = after_of 1 SpellsClass class_keeps tokens (a + 2) part b classed in
@@ -261,22 +488,104 @@ classes_are_local = local_of 1 SpellsClass class_keeps
 pub controls_are_local : IsLocal SpellsControl
 controls_are_local = local_of 0 SpellsControl control_keeps
 
--- the names and DATION, as they were read
-pub spec_before : (tokens : List Token) (from a stop_a stop : ℕ) (names : Names) → SpellsNames tokens from names a → IsAhead tokens from a stop_a → GoesIn 9 SpellsNames tokens from a stop_a →
-    HasWord tokens a w.DATION → a + 1 ≤ length tokens → stop ≡ max stop_a (a + 1) → Reaches SpellsSpec tokens from stop
-spec_before tokens from a stop_a stop names named ahead first dation within is =
-    reaches_max SpellsSpec tokens from stop_a (a + 1) stop is (spec_names tokens from stop_a (names_read tokens from a stop_a names named ahead first))
-    (spec_dation tokens from names a named dation within)
+-- behind the names and DATION that were read, and were stopped at `stop`
+module _ (tokens : List Token) (from : ℕ) (names : Reading Names) (named : NamesRead tokens from names)
+    (dation : HasWord tokens names.end w.DATION)
+    (stop : ℕ) (is : stop ≡ max names.stop (names.end + 1)) where
+  inside : stop ≤ length tokens
+  inside = omega (arith, is, named.ahead, word_within tokens names.end w.DATION dation)
+
+  -- some specification goes on as far
+  before_class : Reaches SpellsSpec tokens from stop
+  before_class =
+      reaches_max SpellsSpec tokens from names.stop (names.end + 1) stop is
+      (spec_names tokens from names.stop (names_read tokens from names named))
+      (spec_dation tokens from names.part names.end named.spells dation
+      (omega (arith, word_within tokens names.end w.DATION dation)))
+
+  stands : (others : List Token) (k : ℕ) → stop ≤ k → BeginAlike tokens others k →
+      is_word w.DATION (what_at others names.end) ≡ true
+  stands others k below agree = ap (is_word w.DATION) (sym (agree names.end (omega (arith, is, below))) ∙ dation)
+
+  names_only : (others : List Token) (k : ℕ) → stop ≤ k → BeginAlike tokens others k →
+      (x : Names) (to : ℕ) → SpellsNames others from x to → to ≡ names.end
+  names_only others k below agree x to h =
+      named.only others (shorter tokens others names.stop k (omega (arith, is, below)) agree) x to h
+
+  class_of : (others : List Token) (k : ℕ) → stop ≤ k → BeginAlike tokens others k →
+      (x : Spec) (to : ℕ) → SpellsSpec others from x to →
+      (class : Class) × (b : ℕ) × (control : Bool) × SpellsClass others (names.end + 2) class b ×
+      SpellsControl others b control to
+  class_of others k below agree = only_dation others from names.end (stands others k below agree)
+      (names_only others k below agree)
+
+  pub spec_undirected : ((direction : Direction) → HasWord tokens (names.end + 1) (direction_word direction) →
+      ⊥) → Reads 16 SpellsSpec extends_spec tokens from (Err (Refused stop))
+  spec_undirected none =
+      none_read (
+        λ others agree x to h.
+            let found = only_direction others from names.end (stands others stop (omega arith) agree)
+            (names_only others stop (omega arith) agree) x to h in
+            none found.0 (agree (names.end + 1) (omega (arith, is)) ∙ found.1),
+        omega (arith, is, named.ahead),
+        inside,
+      )
+      before_class
+
+  module _ (direction : Direction) (directed : HasWord tokens (names.end + 1) (direction_word direction)) where
+    with_class : (k : ℕ) → names.end + 2 ≤ k → k ≤ length tokens →
+        Reaches SpellsClass tokens (names.end + 2) k → Reaches SpellsSpec tokens from k
+    with_class k near within r = spec_class tokens from names.part names.end named.spells dation direction directed k
+        (omega arith) r
+
+    pub spec_unread : (halt result : Halt) → result ≡ behind halt stop →
+        Reads 16 SpellsClass by_bracket tokens (names.end + 2) (Err halt) →
+        Reads 16 SpellsSpec extends_spec tokens from (Err result)
+    spec_unread halt result same none =
+        read_behind SpellsClass SpellsSpec tokens from (names.end + 2) stop halt result same
+        (omega (arith, named.ahead)) inside
+        (λ others agree x to h. let found = class_of others stop (omega arith) agree x to h in
+        (found.0, found.1, found.3)) none.refused
+        (halts_max SpellsClass SpellsSpec tokens from (names.end + 2) stop halt before_class with_class
+        none.refused none.least)
+
+    module _ (part : Reading Class) (read : Reads 16 SpellsClass by_bracket tokens (names.end + 2) (Ok part))
+        (control : Reading Bool)
+        (last : ReadsMaybePart 16 SpellsControl is_name tokens part.end (Ok control)) (second end : ℕ)
+        (next : second ≡ max part.stop stop) (all : end ≡ max control.stop second) where
+      pub spec_ends : IsLongest SpellsSpec extends_spec tokens from control.end end
+      spec_ends = λ others agree x to h.
+          let found = class_of others end (omega (arith, next, all)) agree x to h in
+          control_last others found.1 part.end control.end found.2 to (omega (arith, last.bounds)) found.4
+          (read.longest others (shorter tokens others part.stop end (omega (arith, next, all)) agree)
+          found.0 found.1 found.3)
+          (λ x to h. last.longest others (shorter tokens others control.stop end (omega (arith, all)) agree) x to h)
+
+      pub spec_goes : GoesTo SpellsSpec tokens from control.end end
+      spec_goes =
+          let with_control = spec_control tokens from names.part names.end named.spells dation direction directed
+          part.part part.end control.stop read.spells (omega (arith, last.bounds))
+          (reach_of SpellsControl tokens controls_are_local part.end control.part control.end control.stop last.spells
+          (omega (arith, last.bounds)) (omega (arith, last.bounds)) last.least) in
+          let with_part = unclosed SpellsClass SpellsSpec classes_are_local tokens from
+          (names.end + 2) with_class part.part part.end part.stop read.spells read.ahead read.least in
+          goes SpellsSpec tokens from control.end end
+          (reaches_max SpellsSpec tokens from control.stop second end all with_control
+          (reaches_max SpellsSpec tokens from part.stop stop second next with_part before_class))
 
 module _ (tokens : List Token) (from : ℕ) (control : HasId tokens from (codes "CONTROL")) where
   pub control_named : from + 1 ≤ length tokens → Reaches SpellsControl tokens from (from + 1)
   control_named within =
-      let what_is = what_stands tokens (from + 1) (symbol s.LEFT_ROUND ∷ word w.ALL ∷ symbol s.RIGHT_ROUND ∷ []) within in
-      completed SpellsControl tokens from (from + 1) (symbol s.LEFT_ROUND ∷ word w.ALL ∷ symbol s.RIGHT_ROUND ∷ []) true within (omega arith)
+      let what_is = what_stands tokens (from + 1) (symbol s.LEFT_ROUND ∷ word w.ALL ∷ symbol s.RIGHT_ROUND ∷ [])
+      within in
+      completed SpellsControl tokens from (from + 1)
+      (symbol s.LEFT_ROUND ∷ word w.ALL ∷ symbol s.RIGHT_ROUND ∷ []) true within (omega arith)
       (one_lawful (symbol s.LEFT_ROUND) (word w.ALL ∷ symbol s.RIGHT_ROUND ∷ []) (omega arith)
-      (one_lawful (word w.ALL) (symbol s.RIGHT_ROUND ∷ []) (omega arith) (one_lawful (symbol s.RIGHT_ROUND) [] (omega arith) none_lawful)))
+      (one_lawful (word w.ALL) (symbol s.RIGHT_ROUND ∷ []) (omega arith)
+      (one_lawful (symbol s.RIGHT_ROUND) [] (omega arith) none_lawful)))
       (λ alike. (
-        local.what tokens (begun tokens (from + 1) (symbol s.LEFT_ROUND ∷ word w.ALL ∷ symbol s.RIGHT_ROUND ∷ [])) (from + 1) alike from (omega arith) ∙ control,
+        local.what tokens (begun tokens (from + 1) (symbol s.LEFT_ROUND ∷ word w.ALL ∷ symbol s.RIGHT_ROUND ∷ []))
+            (from + 1) alike from (omega arith) ∙ control,
         what_is 0 (from + 1) (omega arith),
         what_is 1 (from + 2) (omega arith),
         what_is 2 (from + 3) (omega arith),
@@ -288,8 +597,10 @@ module _ (tokens : List Token) (from : ℕ) (control : HasId tokens from (codes 
     control_opened within =
         let others = begun tokens (from + 2) (word w.ALL ∷ symbol s.RIGHT_ROUND ∷ []) in
         let what_is = what_stands tokens (from + 2) (word w.ALL ∷ symbol s.RIGHT_ROUND ∷ []) within in
-        completed SpellsControl tokens from (from + 2) (word w.ALL ∷ symbol s.RIGHT_ROUND ∷ []) true within (omega arith)
-        (one_lawful (word w.ALL) (symbol s.RIGHT_ROUND ∷ []) (omega arith) (one_lawful (symbol s.RIGHT_ROUND) [] (omega arith) none_lawful))
+        completed SpellsControl tokens from (from + 2) (word w.ALL ∷ symbol s.RIGHT_ROUND ∷ []) true within
+        (omega arith)
+        (one_lawful (word w.ALL) (symbol s.RIGHT_ROUND ∷ []) (omega arith)
+        (one_lawful (symbol s.RIGHT_ROUND) [] (omega arith) none_lawful))
         (λ alike. (
           local.what tokens others (from + 2) alike from (omega arith) ∙ control,
           local.what tokens others (from + 2) alike (from + 1) (omega arith) ∙ bracket,
@@ -298,7 +609,8 @@ module _ (tokens : List Token) (from : ℕ) (control : HasId tokens from (codes 
           omega arith,
         ))
 
-    pub control_open : HasWord tokens (from + 2) w.ALL → from + 3 ≤ length tokens → Reaches SpellsControl tokens from (from + 3)
+    pub control_open : HasWord tokens (from + 2) w.ALL → from + 3 ≤ length tokens →
+        Reaches SpellsControl tokens from (from + 3)
     control_open all within =
         let others = begun tokens (from + 3) (symbol s.RIGHT_ROUND ∷ []) in
         completed SpellsControl tokens from (from + 3) (symbol s.RIGHT_ROUND ∷ []) true within (omega arith)
@@ -324,8 +636,10 @@ module _ (tokens : List Token) (from : ℕ) (stands : HasWord tokens from w.TYPE
       let others = begun tokens (from + 1) (x_token ∷ clock ∷ symbol s.SEMICOLON ∷ []) in
       let what_is = what_stands tokens (from + 1) (x_token ∷ clock ∷ symbol s.SEMICOLON ∷ []) within in
       let place_is = place_stands tokens (from + 1) (x_token ∷ clock ∷ symbol s.SEMICOLON ∷ []) within in
-      completed SpellsDecl tokens from (from + 1) (x_token ∷ clock ∷ symbol s.SEMICOLON ∷ []) (decl.Type x_name (typing.Basic (basic.Clock 0)) at.0) within (omega arith)
-      (one_lawful x_token (clock ∷ symbol s.SEMICOLON ∷ []) (x_lawful 0 (omega arith)) (one_lawful clock (symbol s.SEMICOLON ∷ []) (omega arith) semicolon_lawful))
+      completed SpellsDecl tokens from (from + 1) (x_token ∷ clock ∷ symbol s.SEMICOLON ∷ [])
+      (decl.Type x_name (typing.Basic (basic.Clock 0)) at.0) within (omega arith)
+      (one_lawful x_token (clock ∷ symbol s.SEMICOLON ∷ []) (x_lawful 0 (omega arith))
+      (one_lawful clock (symbol s.SEMICOLON ∷ []) (omega arith) semicolon_lawful))
       (λ alike. (
         from + 3,
         local.place tokens others (from + 1) alike from (omega arith) ∙ at.1,
@@ -336,17 +650,21 @@ module _ (tokens : List Token) (from : ℕ) (stands : HasWord tokens from w.TYPE
         omega arith,
       ))
 
-  pub type_reaches : (name : Name) (stop : ℕ) → IsName tokens (from + 1) name → from + 1 < stop → Reaches SpellsWholeTyping tokens (from + 2) stop → Reaches SpellsDecl tokens from stop
-  type_reaches name stop named near r =
-      reaches_closed SpellsWholeTyping SpellsDecl tokens from (from + 2) stop (symbol s.SEMICOLON) (omega arith) (omega arith)
+  pub type_reaches : (name : Name) → IsName tokens (from + 1) name → (stop : ℕ) → from + 2 ≤ stop →
+      stop ≤ length tokens → Reaches SpellsWholeTyping tokens (from + 2) stop →
+      Reaches SpellsDecl tokens from stop
+  type_reaches name named stop near within r =
+      reaches_closed SpellsWholeTyping SpellsDecl tokens from (from + 2) stop (symbol s.SEMICOLON) (omega arith)
+      (omega arith)
       (λ others alike short m size end x h.
-      let at = placed_within others from (omega (arith, size, after_of 1 SpellsWholeTyping whole_typing_keeps others (from + 2) x m h)) in (
+      let at = placed_within others from
+      (omega (arith, size, after_of 1 SpellsWholeTyping whole_typing_keeps others (from + 2) x m h)) in (
         decl.Type name x at.0,
         (
           m,
           at.1,
           local.what tokens others stop alike from (omega arith) ∙ stands,
-          local.name tokens others stop alike (from + 1) name near named,
+          local.name tokens others stop alike (from + 1) name (omega arith) named,
           h,
           ap (option_map (λ token. token.what)) end,
           refl,
@@ -359,25 +677,44 @@ declared_is_contained = contained_of 2 SpellsDeclared (omega arith) declared_kee
 pub spec_is_contained : IsSelfContained SpellsSpec
 spec_is_contained = contained_of 2 SpellsSpec (omega arith) spec_keeps
 
-module _ (tokens : List Token) (from stop : ℕ) (few : length tokens < 2 ^ 55) (within : stop ≤ length tokens) (near : from < stop) where
-  pub declare_reaches : HasWord tokens from w.DCL → Reaches (λ tokens. SpellsList tokens (SpellsDeclared tokens)) tokens (from + 1) stop → Reaches SpellsDecl tokens from stop
-  declare_reaches stands r =
-      reaches_closed (λ tokens. SpellsList tokens (SpellsDeclared tokens)) SpellsDecl tokens from (from + 1) stop (symbol s.SEMICOLON) (omega arith) (omega arith)
+-- a word, a list behind it, and a semicolon
+module _ {X : Type 0} (spells : List Token → Spelling X) (contained : IsSelfContained spells) (word : ℕ)
+    (make : (xs : List X) → length xs < 2 ^ 63 → ℕ → Decl)
+    (made : (others : List Token) (from m at : ℕ) (xs : List X) (small : length xs < 2 ^ 63) →
+    IsAt others from at → HasWord others from word →
+    SpellsList others (spells others) (from + 1) xs m → HasSymbol others m s.SEMICOLON →
+    SpellsDecl others from (make xs small at) (m + 1))
+    (tokens : List Token) (from : ℕ) (few : length tokens < 2 ^ 55) (stands : HasWord tokens from word) where
+  list_declared : (stop : ℕ) → from + 1 ≤ stop → stop ≤ length tokens →
+      Reaches (λ tokens. SpellsList tokens (spells tokens)) tokens (from + 1) stop →
+      Reaches SpellsDecl tokens from stop
+  list_declared stop near within r =
+      reaches_closed (λ tokens. SpellsList tokens (spells tokens)) SpellsDecl tokens from (from + 1) stop
+      (symbol s.SEMICOLON) (omega arith) (omega arith)
       (λ others alike short m size end xs h.
-      let all = list_after SpellsDeclared declared_is_contained others (from + 1) xs m h in
+      let all = list_after spells contained others (from + 1) xs m h in
       let small : length xs < 2 ^ 63 = omega (arith, all) in
       let at = placed_within others from (omega (arith, size, all)) in (
-        decl.Declare (parts_of xs small) at.0,
-        (m, at.1, local.what tokens others stop alike from near ∙ stands, h, ap (option_map (λ token. token.what)) end, refl),
-      )) (list_is_local SpellsDeclared declared_is_contained) r
+        make xs small at.0,
+        made others from m at.0 xs small at.1 (local.what tokens others stop alike from (omega arith) ∙ stands) h
+            (ap (option_map (λ token. token.what)) end),
+      )) (list_is_local spells contained) r
 
-  pub specify_reaches : HasWord tokens from w.SPC → Reaches (λ tokens. SpellsList tokens (SpellsSpec tokens)) tokens (from + 1) stop → Reaches SpellsDecl tokens from stop
-  specify_reaches stands r =
-      reaches_closed (λ tokens. SpellsList tokens (SpellsSpec tokens)) SpellsDecl tokens from (from + 1) stop (symbol s.SEMICOLON) (omega arith) (omega arith)
-      (λ others alike short m size end xs h.
-      let all = list_after SpellsSpec spec_is_contained others (from + 1) xs m h in
-      let small : length xs < 2 ^ 63 = omega (arith, all) in
-      let at = placed_within others from (omega (arith, size, all)) in (
-        decl.Specify (parts_of xs small) at.0,
-        (m, at.1, local.what tokens others stop alike from near ∙ stands, h, ap (option_map (λ token. token.what)) end, refl),
-      )) (list_is_local SpellsSpec spec_is_contained) r
+abbrev pub declared_list : List Token → Spelling (List Declared)
+declared_list tokens = SpellsList tokens (SpellsDeclared tokens)
+
+abbrev pub spec_list : List Token → Spelling (List Spec)
+spec_list tokens = SpellsList tokens (SpellsSpec tokens)
+
+module _ (tokens : List Token) (from : ℕ) (few : length tokens < 2 ^ 55) where
+  pub declare_reaches : HasWord tokens from w.DCL → (stop : ℕ) → from + 1 ≤ stop → stop ≤ length tokens →
+      Reaches declared_list tokens (from + 1) stop → Reaches SpellsDecl tokens from stop
+  declare_reaches =
+      list_declared SpellsDeclared declared_is_contained w.DCL (λ xs small at. decl.Declare (parts_of xs small) at)
+      (λ others from m at xs small here word h last. (m, here, word, h, last, refl)) tokens from few
+
+  pub specify_reaches : HasWord tokens from w.SPC → (stop : ℕ) → from + 1 ≤ stop → stop ≤ length tokens →
+      Reaches spec_list tokens (from + 1) stop → Reaches SpellsDecl tokens from stop
+  specify_reaches =
+      list_declared SpellsSpec spec_is_contained w.SPC (λ xs small at. decl.Specify (parts_of xs small) at)
+      (λ others from m at xs small here word h last. (m, here, word, h, last, refl)) tokens from few

@@ -1,5 +1,6 @@
 -- Devices that go on as far as a stop.
-use Rattle.std.proofs.Common.{◌≡◌, ℕ, ◌+◌, ◌<◌, ◌≤◌, List, [], ◌∷◌, length, inr, refl, subst, ap, ◌∙◌, arith}
+use Rattle.std.proofs.Common.{◌≡◌, ℕ, ◌+◌, ◌<◌, ◌≤◌, List, [], ◌∷◌, length, inr, refl}
+use Rattle.std.proofs.Common.{subst, ap, ◌∙◌, arith}
 use Rattle.std.specs.Option.{option_map}
 use Rattle.pearl_tree.specs.declared.name.Name.{Name}
 use Rattle.pearl_tree.specs.declared.name.Number.{Number}
@@ -13,7 +14,8 @@ use Rattle.pearl_tree.specs.declared.symbol.TheConstants as s
 use Rattle.pearl_parse_expr.specs.Least.{AlikeBefore, Reaches}
 use Rattle.pearl_parse_expr.proofs.Ids.{x_name, x_token, letter_lawful}
 use Rattle.pearl_parse_expr.proofs.Local as local
-use Rattle.pearl_parse_expr.proofs.Reaching.{Lawful, begun, completed, reached, reaches_closed, one_lawful, none_lawful, what_stands, place_stands}
+use Rattle.pearl_parse_expr.proofs.Reaching.{Lawful, begun, completed, reached, reaches_closed, one_lawful, none_lawful}
+use Rattle.pearl_parse_expr.proofs.Reaching.{what_stands, place_stands}
 use Rattle.pearl_parse_decl.proofs.Leaves.{symbol, one, one_number, bracketed_number_is_local}
 
 x_is_lawful : IsLawfulWhat x_token.what
@@ -28,16 +30,19 @@ behind_colon_lawful =
     one_lawful x_token (symbol s.LEFT_ROUND ∷ one ∷ symbol s.RIGHT_ROUND ∷ symbol s.SEMICOLON ∷ []) x_is_lawful
     (one_lawful (symbol s.LEFT_ROUND) (one ∷ symbol s.RIGHT_ROUND ∷ symbol s.SEMICOLON ∷ []) (omega arith)
     (one_lawful one (symbol s.RIGHT_ROUND ∷ symbol s.SEMICOLON ∷ []) (omega arith)
-    (one_lawful (symbol s.RIGHT_ROUND) (symbol s.SEMICOLON ∷ []) (omega arith) (one_lawful (symbol s.SEMICOLON) [] (omega arith) none_lawful))))
+    (one_lawful (symbol s.RIGHT_ROUND) (symbol s.SEMICOLON ∷ []) (omega arith)
+    (one_lawful (symbol s.SEMICOLON) [] (omega arith) none_lawful))))
 
 colon_lawful : Lawful (symbol s.COLON ∷ behind_colon)
 colon_lawful = one_lawful (symbol s.COLON) behind_colon (omega arith) behind_colon_lawful
 
-pub device_begins : (tokens : List Token) (from : ℕ) → from ≤ length tokens → Reaches SpellsDevice tokens from from
+pub device_begins : (tokens : List Token) (from : ℕ) → from ≤ length tokens →
+    Reaches SpellsDevice tokens from from
 device_begins tokens from within =
     let what_is = what_stands tokens from (x_token ∷ symbol s.COLON ∷ behind_colon) within in
     let place_is = place_stands tokens from (x_token ∷ symbol s.COLON ∷ behind_colon) within in
-    completed SpellsDevice tokens from from (x_token ∷ symbol s.COLON ∷ behind_colon) (record { name = x_name; word = device.Id x_name; number = one_number; place = 0 }) within (omega arith)
+    completed SpellsDevice tokens from from (x_token ∷ symbol s.COLON ∷ behind_colon)
+    (record { name = x_name; word = device.Id x_name; number = one_number; place = 0 }) within (omega arith)
     (one_lawful x_token (symbol s.COLON ∷ behind_colon) x_is_lawful colon_lawful)
     (λ alike. (
       place_is 0 from (omega arith),
@@ -51,18 +56,23 @@ device_begins tokens from within =
       refl,
     ))
 
-device_word_local : (tokens others : List Token) (k : ℕ) → AlikeBefore tokens others k → (at : ℕ) (part : DeviceWord) → at < k → IsDeviceWord tokens at part → IsDeviceWord others at part
+device_word_local : (tokens others : List Token) (k : ℕ) → AlikeBefore tokens others k →
+    (at : ℕ) (part : DeviceWord) → at < k → IsDeviceWord tokens at part → IsDeviceWord others at part
 device_word_local tokens others k alike at (device.Id name) below h = local.name tokens others k alike at name below h
-device_word_local tokens others k alike at (device.Interrupt place) below h = (local.place tokens others k alike at below ∙ h.0, local.what tokens others k alike at below ∙ h.1)
+device_word_local tokens others k alike at (device.Interrupt place) below h =
+    (local.place tokens others k alike at below ∙ h.0, local.what tokens others k alike at below ∙ h.1)
 
 module _ (tokens : List Token) (from : ℕ) (name : Name) (named : IsName tokens from name) where
   pub device_named : from + 1 ≤ length tokens → Reaches SpellsDevice tokens from (from + 1)
   device_named within =
       let what_is = what_stands tokens (from + 1) (symbol s.COLON ∷ behind_colon) within in
       let place_is = place_stands tokens (from + 1) (symbol s.COLON ∷ behind_colon) within in
-      completed SpellsDevice tokens from (from + 1) (symbol s.COLON ∷ behind_colon) (record { name = name; word = device.Id x_name; number = one_number; place = name.place }) within (omega arith) colon_lawful
+      completed SpellsDevice tokens from (from + 1) (symbol s.COLON ∷ behind_colon)
+      (record { name = name; word = device.Id x_name; number = one_number; place = name.place }) within
+      (omega arith) colon_lawful
       (λ alike.
-      let read = local.name tokens (begun tokens (from + 1) (symbol s.COLON ∷ behind_colon)) (from + 1) alike from name (omega arith) named in (
+      let read = local.name tokens (begun tokens (from + 1) (symbol s.COLON ∷ behind_colon))
+      (from + 1) alike from name (omega arith) named in (
         read.1,
         read,
         what_is 0 (from + 1) (omega arith),
@@ -79,9 +89,12 @@ module _ (tokens : List Token) (from : ℕ) (name : Name) (named : IsName tokens
     device_opened within =
         let what_is = what_stands tokens (from + 2) behind_colon within in
         let place_is = place_stands tokens (from + 2) behind_colon within in
-        completed SpellsDevice tokens from (from + 2) behind_colon (record { name = name; word = device.Id x_name; number = one_number; place = name.place }) within (omega arith) behind_colon_lawful
+        completed SpellsDevice tokens from (from + 2) behind_colon
+        (record { name = name; word = device.Id x_name; number = one_number; place = name.place }) within
+        (omega arith) behind_colon_lawful
         (λ alike.
-        let read = local.name tokens (begun tokens (from + 2) behind_colon) (from + 2) alike from name (omega arith) named in (
+        let read = local.name tokens (begun tokens (from + 2) behind_colon) (from + 2) alike from name
+        (omega arith) named in (
           read.1,
           read,
           local.what tokens (begun tokens (from + 2) behind_colon) (from + 2) alike (from + 1) (omega arith) ∙ colon,
@@ -93,9 +106,12 @@ module _ (tokens : List Token) (from : ℕ) (name : Name) (named : IsName tokens
           omega arith,
         ))
 
-    pub device_reaches : (stop : ℕ) (part : DeviceWord) → IsDeviceWord tokens (from + 2) part → from + 2 < stop → Reaches SpellsBracketedNumber tokens (from + 3) stop → Reaches SpellsDevice tokens from stop
+    pub device_reaches : (stop : ℕ) (part : DeviceWord) → IsDeviceWord tokens (from + 2) part →
+        from + 2 < stop → Reaches SpellsBracketedNumber tokens (from + 3) stop →
+        Reaches SpellsDevice tokens from stop
     device_reaches stop part is near r =
-        reaches_closed SpellsBracketedNumber SpellsDevice tokens from (from + 3) stop (symbol s.SEMICOLON) (omega arith) (omega arith)
+        reaches_closed SpellsBracketedNumber SpellsDevice tokens from (from + 3) stop (symbol s.SEMICOLON) (omega arith)
+        (omega arith)
         (λ others alike short m size end x h.
         let read = local.name tokens others stop alike from name (omega arith) named in
         let last : from + 6 ≡ m = omega (arith, h.3) in (
@@ -113,8 +129,10 @@ module _ (tokens : List Token) (from : ℕ) (name : Name) (named : IsName tokens
           ),
         )) bracketed_number_is_local r
 
-    pub device_open : (part : DeviceWord) (number : Number) → IsDeviceWord tokens (from + 2) part → SpellsBracketedNumber tokens (from + 3) number (from + 3 + 3) → from + 6 ≤ length tokens →
+    pub device_open : (part : DeviceWord) (number : Number) → IsDeviceWord tokens (from + 2) part →
+        SpellsBracketedNumber tokens (from + 3) number (from + 3 + 3) → from + 6 ≤ length tokens →
         Reaches SpellsDevice tokens from (from + 6)
     device_open part number is h within =
         device_reaches (from + 6) part is (omega arith)
-        (reached SpellsBracketedNumber tokens bracketed_number_is_local (from + 3) number (from + 6) (subst (λ k. SpellsBracketedNumber tokens (from + 3) number k) (omega arith) h) (omega arith) within)
+        (reached SpellsBracketedNumber tokens bracketed_number_is_local (from + 3) number (from + 6)
+        (subst (λ k. SpellsBracketedNumber tokens (from + 3) number k) (omega arith) h) (omega arith) within)

@@ -1,9 +1,11 @@
 -- Lists with commas: what other tokens can spell that begin as these do, read up to some part.
-use Rattle.std.proofs.Common.{◌≡◌, ℕ, ◌+◌, ◌<◌, ◌≤◌, Bool, true, false, List, [], ◌∷◌, Option, Some, ◌⊎◌, inl, inr, refl, sym, ap, subst, ◌∙◌, arith}
+use Rattle.std.proofs.Common.{◌≡◌, ℕ, ◌+◌, ◌<◌, ◌≤◌, Bool, true, false, List, [], ◌∷◌}
+use Rattle.std.proofs.Common.{Option, Some, ◌⊎◌, inl, inr, refl, sym, ap, subst, ◌∙◌, arith}
 use Rattle.pearl_tree.specs.declared.token.What.{What}
 use Rattle.pearl_tree.specs.declared.token.What.TheVariants as what
 use Rattle.pearl_tree.specs.declared.token.Token.{Token}
-use Rattle.pearl_tree.specs.Standing.{Spelling, what_at, HasSymbol, SpellsMore, SpellsList, SpellsBracketed, SpellsMaybeBracketed, SpellsMaybeHeaded}
+use Rattle.pearl_tree.specs.Standing.{Spelling, what_at, HasSymbol, SpellsMore, SpellsList, SpellsBracketed}
+use Rattle.pearl_tree.specs.Standing.{SpellsMaybeBracketed, SpellsMaybeHeaded}
 use Rattle.pearl_tree.specs.declared.symbol.TheConstants as s
 use Rattle.pearl_tree.specs.Stops.{BeginAlike}
 use Rattle.pearl_parse_expr.specs.Stops.{IsLongest, Stuck, IsOnly, EndsEarly, is_symbol, is_word}
@@ -17,7 +19,8 @@ pub settled : (extends : Option What → Bool) (others : List Token) (end m : �
 settled extends others end m (inl same) never = same
 settled extends others end m (inr early) never = absurd (clash _ early.1 never)
 
-pub first_of : {X : Type 0} (tokens : List Token) (spells : Spelling X) (from : ℕ) (xs : List X) (to : ℕ) → SpellsList tokens spells from xs to →
+pub first_of : {X : Type 0} (tokens : List Token) (spells : Spelling X) (from : ℕ) (xs : List X) (to : ℕ) →
+    SpellsList tokens spells from xs to →
     (x : X) × (m : ℕ) × spells from x m
 first_of tokens spells from [] to h = absurd h
 first_of tokens spells from (x ∷ xs) to h = (x, h.0, h.1)
@@ -26,7 +29,8 @@ module _ {X : Type 0} (spells : List Token → Spelling X) (extends : Option Wha
   -- a list from `from` ends early, or goes through `end`
   abbrev pub ListGoes : List Token → ℕ → ℕ → ℕ → Type 0
   ListGoes tokens from end stop =
-      (others : List Token) → BeginAlike tokens others stop → (xs : List X) (to : ℕ) → SpellsList others (spells others) from xs to →
+      (others : List Token) → BeginAlike tokens others stop → (xs : List X) (to : ℕ) →
+      SpellsList others (spells others) from xs to →
       EndsEarly (by_comma extends) others end to ⊎ ((ys : List X) × SpellsMore others (spells others) end ys to)
 
   module _ (no_comma : extends (Some (what.Symbol s.COMMA)) ≡ false) where
@@ -34,9 +38,14 @@ module _ {X : Type 0} (spells : List Token → Spelling X) (extends : Option Wha
     after_part : (others : List Token) (end m to : ℕ) (ys : List X) → SpellsMore others (spells others) m ys to →
         (m ≡ end) ⊎ EndsEarly extends others end m →
         EndsEarly (by_comma extends) others end to ⊎ ((ys : List X) × SpellsMore others (spells others) end ys to)
-    after_part others end m to ys h (inl same) = inr (ys, subst (λ k. SpellsMore others (spells others) k ys to) same h)
+    after_part others end m to ys h (inl same) =
+        inr (ys, subst (λ k. SpellsMore others (spells others) k ys to) same h)
     after_part others end m to [] h (inr early) =
-        inl (omega (arith, h, early.0), subst (λ k. by_comma extends (what_at others k) ≡ true) (sym h) (or_first (extends (what_at others m)) (is_symbol s.COMMA (what_at others m)) early.1))
+        inl (
+          omega (arith, h, early.0),
+          subst (λ k. by_comma extends (what_at others k) ≡ true) (sym h)
+              (or_first (extends (what_at others m)) (is_symbol s.COMMA (what_at others m)) early.1),
+        )
     after_part others end m to (y ∷ ys) h (inr early) = absurd (clash _ early.1 (ap extends h.1 ∙ no_comma))
 
     begins : (others : List Token) (from end : ℕ) →
@@ -46,26 +55,38 @@ module _ {X : Type 0} (spells : List Token → Spelling X) (extends : Option Wha
     begins others from end longest [] to h = absurd h
     begins others from end longest (x ∷ xs) to h = after_part others end h.0 to xs h.2 (longest x h.0 h.1)
 
-    pub list_begins : (tokens : List Token) (from end stop : ℕ) → IsLongest spells extends tokens from end stop → ListGoes tokens from end stop
-    list_begins tokens from end stop longest = λ others agree xs to h. begins others from end (λ x to h. longest others agree x to h) xs to h
+    pub list_begins : (tokens : List Token) (from end stop : ℕ) → IsLongest spells extends tokens from end stop →
+        ListGoes tokens from end stop
+    list_begins tokens from end stop longest = λ others agree xs to h. begins others from end
+        (λ x to h. longest others agree x to h) xs to h
 
     step : (others : List Token) (end next to : ℕ) → end < next → HasSymbol others end s.COMMA →
         ((x : X) (to : ℕ) → spells others (end + 1) x to → (to ≡ next) ⊎ EndsEarly extends others next to) →
-        EndsEarly (by_comma extends) others end to ⊎ ((ys : List X) × SpellsMore others (spells others) end ys to) →
+        EndsEarly (by_comma extends) others end to ⊎ ((ys : List X) ×
+        SpellsMore others (spells others) end ys to) →
         EndsEarly (by_comma extends) others next to ⊎ ((ys : List X) × SpellsMore others (spells others) next ys to)
     step others end next to ahead comma longest (inl early) = inl (omega (arith, early.0), early.1)
     step others end next to ahead comma longest (inr ([], h)) =
-        inl (omega (arith, h), subst (λ k. by_comma extends (what_at others k) ≡ true) (sym h) (or_second (extends (what_at others end)) (is_symbol s.COMMA (what_at others end)) (ap (is_symbol s.COMMA) comma)))
-    step others end next to ahead comma longest (inr (y ∷ ys, h)) = after_part others next h.0 to ys h.3 (longest y h.0 h.2)
+        inl (
+          omega (arith, h),
+          subst (λ k. by_comma extends (what_at others k) ≡ true) (sym h)
+              (or_second (extends (what_at others end)) (is_symbol s.COMMA (what_at others end))
+              (ap (is_symbol s.COMMA) comma)),
+        )
+    step others end next to ahead comma longest (inr (y ∷ ys, h)) =
+        after_part others next h.0 to ys h.3 (longest y h.0 h.2)
 
-    pub list_next : (tokens : List Token) (from end stop next last new : ℕ) → ListGoes tokens from end stop → end ≤ stop → end < next →
-        stop ≤ new → last ≤ new → HasSymbol tokens end s.COMMA → IsLongest spells extends tokens (end + 1) next last → ListGoes tokens from next new
+    pub list_next : (tokens : List Token) (from end stop next last new : ℕ) → ListGoes tokens from end stop →
+        end ≤ stop → end < next →
+        stop ≤ new → last ≤ new → HasSymbol tokens end s.COMMA →
+        IsLongest spells extends tokens (end + 1) next last → ListGoes tokens from next new
     list_next tokens from end stop next last new go near ahead below reach comma longest = λ others agree xs to h.
         step others end next to ahead (sym (agree end (omega arith)) ∙ comma)
         (λ x to h. longest others (shorter tokens others last new reach agree) x to h)
         (go others (shorter tokens others stop new below agree) xs to h)
 
-  ends : (others : List Token) (end to : ℕ) → (HasSymbol others end s.COMMA → (x : X) (to : ℕ) → spells others (end + 1) x to → ⊥) →
+  ends : (others : List Token) (end to : ℕ) →
+      (HasSymbol others end s.COMMA → (x : X) (to : ℕ) → spells others (end + 1) x to → ⊥) →
       EndsEarly (by_comma extends) others end to ⊎ ((ys : List X) × SpellsMore others (spells others) end ys to) →
       (to ≡ end) ⊎ EndsEarly (by_comma extends) others end to
   ends others end to stuck (inl early) = inr early
@@ -77,10 +98,12 @@ module _ {X : Type 0} (spells : List Token → Spelling X) (extends : Option Wha
       IsLongest (λ tokens. SpellsList tokens (spells tokens)) (by_comma extends) tokens from end stop
   list_ends tokens from end stop go near no_comma = λ others agree xs to h.
       ends others end to
-      (λ comma x to h. clash _ (ap (is_symbol s.COMMA) comma) (ap (is_symbol s.COMMA) (sym (agree end near)) ∙ no_comma))
+      (λ comma x to h. clash _ (ap (is_symbol s.COMMA) comma)
+      (ap (is_symbol s.COMMA) (sym (agree end near)) ∙ no_comma))
       (go others agree xs to h)
 
-  pub list_is_stuck : (tokens : List Token) (from end stop last new : ℕ) → ListGoes tokens from end stop → stop ≤ new → last ≤ new →
+  pub list_is_stuck : (tokens : List Token) (from end stop last new : ℕ) → ListGoes tokens from end stop →
+      stop ≤ new → last ≤ new →
       Stuck spells tokens (end + 1) last →
       IsLongest (λ tokens. SpellsList tokens (spells tokens)) (by_comma extends) tokens from end new
   list_is_stuck tokens from end stop last new go below reach stuck = λ others agree xs to h.
@@ -91,8 +114,10 @@ module _ {X : Type 0} (spells : List Token → Spelling X) (extends : Option Wha
   -- the bracket that closes a list stands at one place
   module _ (no_bracket : extends (Some (what.Symbol s.RIGHT_ROUND)) ≡ false) where
     closes : (others : List Token) (from end : ℕ) →
-        ((xs : List X) (to : ℕ) → SpellsList others (spells others) (from + 1) xs to → (to ≡ end) ⊎ EndsEarly (by_comma extends) others end to) →
-        (xs : List X) (to : ℕ) → SpellsBracketed others (spells others) from xs to → HasSymbol others end s.RIGHT_ROUND × (to ≡ end + 1)
+        ((xs : List X) (to : ℕ) → SpellsList others (spells others) (from + 1) xs to →
+        (to ≡ end) ⊎ EndsEarly (by_comma extends) others end to) →
+        (xs : List X) (to : ℕ) → SpellsBracketed others (spells others) from xs to →
+        HasSymbol others end s.RIGHT_ROUND × (to ≡ end + 1)
     closes others from end longest xs to h =
         let none : by_comma extends (what_at others h.0) ≡ false = rw (h.3, no_bracket) refl in
         let same = settled (by_comma extends) others end h.0 (longest xs h.0 h.2) none in
@@ -102,7 +127,8 @@ module _ {X : Type 0} (spells : List Token → Spelling X) (extends : Option Wha
         IsLongest (λ tokens. SpellsList tokens (spells tokens)) (by_comma extends) tokens (from + 1) end stop →
         IsOnly (λ tokens. SpellsBracketed tokens (spells tokens)) tokens from (end + 1) new
     bracketed_is_only tokens from end stop new below longest = λ others agree xs to h.
-        (closes others from end (λ xs to h. longest others (shorter tokens others stop new below agree) xs to h) xs to h).1
+        (closes others from end (λ xs to h. longest others (shorter tokens others stop new below agree) xs to h) xs to
+        h).1
 
     pub bracketed_is_open : (tokens : List Token) (from end stop : ℕ) → end ≤ stop →
         IsLongest (λ tokens. SpellsList tokens (spells tokens)) (by_comma extends) tokens (from + 1) end stop →
@@ -110,10 +136,12 @@ module _ {X : Type 0} (spells : List Token → Spelling X) (extends : Option Wha
         Stuck (λ tokens. SpellsBracketed tokens (spells tokens)) tokens from stop
     bracketed_is_open tokens from end stop below longest unclosed = λ others agree xs to h.
         let closed = closes others from end (λ xs to h. longest others agree xs to h) xs to h in
-        clash _ (ap (is_symbol s.RIGHT_ROUND) closed.0) (ap (is_symbol s.RIGHT_ROUND) (sym (agree end below)) ∙ unclosed)
+        clash _ (ap (is_symbol s.RIGHT_ROUND) closed.0)
+        (ap (is_symbol s.RIGHT_ROUND) (sym (agree end below)) ∙ unclosed)
 
   -- [ "(" part { "," part } ")" ]
-  pub maybe_is_longest : (tokens : List Token) (from end stop : ℕ) → from < end → from ≤ stop → HasSymbol tokens from s.LEFT_ROUND →
+  pub maybe_is_longest : (tokens : List Token) (from end stop : ℕ) → from < end → from ≤ stop →
+      HasSymbol tokens from s.LEFT_ROUND →
       IsOnly (λ tokens. SpellsBracketed tokens (spells tokens)) tokens from end stop →
       IsLongest (λ tokens. SpellsMaybeBracketed tokens (spells tokens)) by_bracket tokens from end stop
   maybe_is_longest tokens from end stop ahead near bracket only = λ others agree xs to h.
@@ -121,21 +149,30 @@ module _ {X : Type 0} (spells : List Token → Spelling X) (extends : Option Wha
     where
       by : (others : List Token) → HasSymbol others from s.LEFT_ROUND →
           ((xs : List X) (to : ℕ) → SpellsBracketed others (spells others) from xs to → to ≡ end) →
-          (xs : List X) (to : ℕ) → SpellsMaybeBracketed others (spells others) from xs to → (to ≡ end) ⊎ EndsEarly by_bracket others end to
-      by others bracket one [] to h = inr (omega (arith, h, ahead), subst (λ k. by_bracket (what_at others k) ≡ true) (sym h) (ap by_bracket bracket))
+          (xs : List X) (to : ℕ) → SpellsMaybeBracketed others (spells others) from xs to →
+          (to ≡ end) ⊎ EndsEarly by_bracket others end to
+      by others bracket one [] to h = inr (
+        omega (arith, h, ahead),
+        subst (λ k. by_bracket (what_at others k) ≡ true) (sym h) (ap by_bracket bracket),
+      )
       by others bracket one (x ∷ xs) to h = inl (one (x ∷ xs) to h)
 
-  pub maybe_is_none : (tokens : List Token) (from stop : ℕ) → Stuck (λ tokens. SpellsBracketed tokens (spells tokens)) tokens from stop →
+  pub maybe_is_none : (tokens : List Token) (from stop : ℕ) →
+      Stuck (λ tokens. SpellsBracketed tokens (spells tokens)) tokens from stop →
       IsLongest (λ tokens. SpellsMaybeBracketed tokens (spells tokens)) by_bracket tokens from from stop
-  maybe_is_none tokens from stop stuck = λ others agree xs to h. by others (λ xs to h. stuck others agree xs to h) xs to h
+  maybe_is_none tokens from stop stuck = λ others agree xs to h. by others (λ xs to h. stuck others agree xs to h) xs
+      to h
     where
-      by : (others : List Token) → ((xs : List X) (to : ℕ) → SpellsBracketed others (spells others) from xs to → ⊥) →
-          (xs : List X) (to : ℕ) → SpellsMaybeBracketed others (spells others) from xs to → (to ≡ from) ⊎ EndsEarly by_bracket others from to
+      by : (others : List Token) → ((xs : List X) (to : ℕ) →
+          SpellsBracketed others (spells others) from xs to → ⊥) →
+          (xs : List X) (to : ℕ) → SpellsMaybeBracketed others (spells others) from xs to →
+          (to ≡ from) ⊎ EndsEarly by_bracket others from to
       by others none [] to h = inl h
       by others none (x ∷ xs) to h = absurd (none (x ∷ xs) to h)
 
   -- [ word "(" part { "," part } ")" ]
-  pub headed_is_longest : (tokens : List Token) (from word end stop : ℕ) → from < end → from ≤ stop → is_word word (what_at tokens from) ≡ true →
+  pub headed_is_longest : (tokens : List Token) (from word end stop : ℕ) → from < end → from ≤ stop →
+      is_word word (what_at tokens from) ≡ true →
       IsOnly (λ tokens. SpellsBracketed tokens (spells tokens)) tokens (from + 1) end stop →
       IsLongest (λ tokens. SpellsMaybeHeaded tokens word (spells tokens)) (is_word word) tokens from end stop
   headed_is_longest tokens from word end stop ahead near stands only = λ others agree xs to h.
@@ -143,15 +180,21 @@ module _ {X : Type 0} (spells : List Token → Spelling X) (extends : Option Wha
     where
       by : (others : List Token) → is_word word (what_at others from) ≡ true →
           ((xs : List X) (to : ℕ) → SpellsBracketed others (spells others) (from + 1) xs to → to ≡ end) →
-          (xs : List X) (to : ℕ) → SpellsMaybeHeaded others word (spells others) from xs to → (to ≡ end) ⊎ EndsEarly (is_word word) others end to
-      by others stands one [] to h = inr (omega (arith, h, ahead), subst (λ k. is_word word (what_at others k) ≡ true) (sym h) stands)
+          (xs : List X) (to : ℕ) → SpellsMaybeHeaded others word (spells others) from xs to →
+          (to ≡ end) ⊎ EndsEarly (is_word word) others end to
+      by others stands one [] to h = inr
+          (omega (arith, h, ahead), subst (λ k. is_word word (what_at others k) ≡ true) (sym h) stands)
       by others stands one (x ∷ xs) to h = inl (one (x ∷ xs) to h.1)
 
-  pub headed_is_none : (tokens : List Token) (from word stop : ℕ) → Stuck (λ tokens. SpellsBracketed tokens (spells tokens)) tokens (from + 1) stop →
+  pub headed_is_none : (tokens : List Token) (from word stop : ℕ) →
+      Stuck (λ tokens. SpellsBracketed tokens (spells tokens)) tokens (from + 1) stop →
       IsLongest (λ tokens. SpellsMaybeHeaded tokens word (spells tokens)) (is_word word) tokens from from stop
-  headed_is_none tokens from word stop stuck = λ others agree xs to h. by others (λ xs to h. stuck others agree xs to h) xs to h
+  headed_is_none tokens from word stop stuck = λ others agree xs to h. by others
+      (λ xs to h. stuck others agree xs to h) xs to h
     where
-      by : (others : List Token) → ((xs : List X) (to : ℕ) → SpellsBracketed others (spells others) (from + 1) xs to → ⊥) →
-          (xs : List X) (to : ℕ) → SpellsMaybeHeaded others word (spells others) from xs to → (to ≡ from) ⊎ EndsEarly (is_word word) others from to
+      by : (others : List Token) → ((xs : List X) (to : ℕ) →
+          SpellsBracketed others (spells others) (from + 1) xs to → ⊥) →
+          (xs : List X) (to : ℕ) → SpellsMaybeHeaded others word (spells others) from xs to →
+          (to ≡ from) ⊎ EndsEarly (is_word word) others from to
       by others none [] to h = inl h
       by others none (x ∷ xs) to h = absurd (none (x ∷ xs) to h.1)

@@ -1,5 +1,6 @@
 -- Names, bounds, fields and types that go on as far as a stop.
-use Rattle.std.proofs.Common.{◌≡◌, ℕ, ◌+◌, ◌-◌, ◌<◌, ◌≤◌, ◌^◌, max, List, [], ◌∷◌, length, Some, slice_get, refl, sym, ap, subst, ◌∙◌, arith}
+use Rattle.std.proofs.Common.{◌≡◌, ℕ, ◌+◌, ◌-◌, ◌<◌, ◌≤◌, ◌^◌, max, List, [], ◌∷◌}
+use Rattle.std.proofs.Common.{length, Some, Ok, Err, slice_get, refl, sym, ap, subst, ◌∙◌, arith}
 use Rattle.std.specs.Option.{option_map}
 use Rattle.pearl_tree.specs.Tokens.{IsLawfulWhat}
 use Rattle.pearl_tree.specs.declared.name.Names.{Names}
@@ -8,21 +9,32 @@ use Rattle.pearl_tree.specs.declared.parts.Parts.{Parts}
 use Rattle.pearl_tree.specs.declared.typing.Basic.TheVariants as basic
 use Rattle.pearl_tree.specs.declared.typing.Bound.{Bound}
 use Rattle.pearl_tree.specs.declared.typing.Field.{Field}
+use Rattle.pearl_tree.specs.declared.typing.Typing.{Typing}
 use Rattle.pearl_tree.specs.declared.typing.Typing as typing
 use Rattle.pearl_tree.specs.declared.token.What.TheVariants as what
 use Rattle.pearl_tree.specs.declared.token.Token.{Token}
-use Rattle.pearl_tree.specs.Standing.{Spelling, what_at, place_at, IsAt, HasWord, HasSymbol, SpellsName, SpellsList, SpellsBracketed, SpellsMaybeBracketed}
+use Rattle.pearl_tree.specs.Standing.{Spelling, what_at, place_at, IsAt, HasWord, HasSymbol, SpellsName, SpellsList}
+use Rattle.pearl_tree.specs.Standing.{SpellsBracketed, SpellsMaybeBracketed}
 use Rattle.pearl_tree.specs.Types.{SpellsNames, SpellsBound, SpellsBounds, SpellsBasic, SpellsTyping, SpellsField}
 use Rattle.pearl_tree.specs.declared.symbol.TheConstants as s
 use Rattle.pearl_tree.specs.declared.word_code.TheConstants as w
 use Rattle.pearl_tree.proofs.TypeLists.{spells_struct}
-use Rattle.pearl_parse_expr.specs.Least.{ReachesIn, GoesIn, Reaches}
+use Rattle.pearl_parse_expr.specs.Least.{ReachesIn, Reaches, GoesTo}
 use Rattle.pearl_parse_expr.proofs.Ids.{x_name, x_token, x_lawful}
 use Rattle.pearl_parse_expr.proofs.Local as local
-use Rattle.pearl_parse_expr.proofs.Reaching.{IsLocal, Lawful, begun, completed, reach_of, reaches_max, reaches_as, reaches_as_in, reaches_closed, reaches_closed_in, one_lawful, none_lawful, placed, placed_within, what_stands, place_stands}
+use Rattle.pearl_parse_expr.proofs.Reaching.{IsLocal, Lawful, begun, completed, reach_of, reaches_max, reaches_as}
+use Rattle.pearl_parse_expr.proofs.Reaching.{reaches_as_in, reaches_closed, reaches_closed_in, one_lawful, none_lawful}
+use Rattle.pearl_parse_expr.proofs.Reaching.{placed, placed_within, what_stands, place_stands}
 use Rattle.pearl_parse_expr.proofs.Trees.{parts_of}
-use Rattle.pearl_parse_expr.specs.Stops.{IsAhead}
-use Rattle.pearl_parse_decl.specs.Readings.{IsWithin, IsSelfContained}
+use Rattle.pearl_parse_expr.specs.declared.reading.Halt.{Halt}
+use Rattle.pearl_parse_expr.specs.declared.reading.Reading.{Reading}
+use Rattle.pearl_parse_expr.specs.Reads.{Reads, ReadsOnly}
+use Rattle.pearl_parse_expr.specs.Stops.{IsLongest}
+use Rattle.pearl_parse_expr.proofs.Parts.{shorter}
+use Rattle.pearl_tree.specs.Stops.{BeginAlike}
+use Rattle.pearl_parse_decl.specs.Readings.{IsSelfContained, ReadsMaybePart, by_bracket, behind}
+use Rattle.pearl_parse_decl.proofs.Behind.{halts_max, joined, read_behind}
+use Rattle.pearl_parse_decl.proofs.Types.{field_typing}
 use Rattle.pearl_parse_decl.proofs.Leaves.{word, symbol}
 use Rattle.pearl_parse_decl.proofs.ListReach.{list_is_local, list_after}
 use Rattle.pearl_parse_decl.proofs.LocalLists.{local_of, after_of, contained_of, bracketed_long, maybe_bracketed_long}
@@ -31,20 +43,26 @@ use Rattle.pearl_parse_decl.proofs.LocalDeclarations.{names_keep, bounds_keep, b
 -- ---- names and bounds
 
 module _ (tokens : List Token) (from stop : ℕ) (few : length tokens < 2 ^ 55) (within : stop ≤ length tokens) where
-  pub names_reach : ReachesIn 9 (λ tokens. SpellsBracketed tokens (SpellsName tokens)) tokens from stop → ReachesIn 9 SpellsNames tokens from stop
+  pub names_reach : ReachesIn 9 (λ tokens. SpellsBracketed tokens (SpellsName tokens)) tokens from stop →
+      ReachesIn 9 SpellsNames tokens from stop
   names_reach r =
-      reaches_as_in (λ tokens. SpellsBracketed tokens (SpellsName tokens)) SpellsNames tokens from from 9 9 stop (omega arith)
+      reaches_as_in (λ tokens. SpellsBracketed tokens (SpellsName tokens)) SpellsNames tokens from from 9 9 stop
+      (omega arith)
       (λ others alike long short xs h.
       let at = placed others from (what.Symbol s.LEFT_ROUND) h.1 in
-      let all = bracketed_long others (SpellsName others) (λ from x to g. omega (arith, g.1)) from xs (length others) h in
+      let all = bracketed_long others (SpellsName others) (λ from x to g. omega (arith, g.1)) from xs
+      (length others) h in
       let small : length xs < 2 ^ 63 = omega (arith, all) in
       (Several (parts_of xs small) at.0, (at.1, h))) r
 
-  pub bounds_reach : ReachesIn 9 (λ tokens. SpellsMaybeBracketed tokens (SpellsBound tokens)) tokens from stop → ReachesIn 9 SpellsBounds tokens from stop
+  pub bounds_reach : ReachesIn 9 (λ tokens. SpellsMaybeBracketed tokens (SpellsBound tokens)) tokens from stop →
+      ReachesIn 9 SpellsBounds tokens from stop
   bounds_reach r =
-      reaches_as_in (λ tokens. SpellsMaybeBracketed tokens (SpellsBound tokens)) SpellsBounds tokens from from 9 9 stop (omega arith)
+      reaches_as_in (λ tokens. SpellsMaybeBracketed tokens (SpellsBound tokens)) SpellsBounds tokens from from 9 9 stop
+      (omega arith)
       (λ others alike long short xs h.
-      let all = maybe_bracketed_long others (SpellsBound others) (after_of 1 SpellsBound bound_keeps others) from xs (length others) h in
+      let all = maybe_bracketed_long others (SpellsBound others) (after_of 1 SpellsBound bound_keeps others) from xs
+      (length others) h in
       let small : length xs < 2 ^ 63 = omega (arith, all) in
       (parts_of xs small, h)) r
 
@@ -55,13 +73,23 @@ pub bounds_are_local : IsLocal SpellsBounds
 bounds_are_local = local_of 0 SpellsBounds bounds_keep
 
 -- names and bounds as they were read
-pub names_read : (tokens : List Token) (from a stop : ℕ) (names : Names) → SpellsNames tokens from names a → IsAhead tokens from a stop → GoesIn 9 SpellsNames tokens from a stop →
-    ReachesIn 9 SpellsNames tokens from stop
-names_read tokens from a stop names named ahead g = reach_of SpellsNames tokens names_are_local from names a stop named (omega (arith, ahead)) (omega (arith, ahead)) g
+abbrev pub NamesRead : List Token → ℕ → Reading Names → Type 0
+NamesRead tokens from names = ReadsOnly 9 SpellsNames tokens from (Ok names)
 
-pub bounds_read : (tokens : List Token) (from a stop : ℕ) (bounds : Parts Bound) → SpellsBounds tokens from bounds a → IsWithin tokens from a stop → GoesIn 9 SpellsBounds tokens from a stop →
-    ReachesIn 9 SpellsBounds tokens from stop
-bounds_read tokens from a stop bounds bounded ahead g = reach_of SpellsBounds tokens bounds_are_local from bounds a stop bounded (omega (arith, ahead)) (omega (arith, ahead)) g
+abbrev pub BoundsRead : List Token → ℕ → Reading (Parts Bound) → Type 0
+BoundsRead tokens from bounds = ReadsMaybePart 9 SpellsBounds by_bracket tokens from (Ok bounds)
+
+pub names_read : (tokens : List Token) (from : ℕ) (names : Reading Names) → NamesRead tokens from names →
+    ReachesIn 9 SpellsNames tokens from names.stop
+names_read tokens from names read =
+    reach_of SpellsNames tokens names_are_local from names.part names.end names.stop read.spells
+    (omega (arith, read.ahead)) (omega (arith, read.ahead)) read.least
+
+pub bounds_read : (tokens : List Token) (from : ℕ) (bounds : Reading (Parts Bound)) →
+    BoundsRead tokens from bounds → ReachesIn 9 SpellsBounds tokens from bounds.stop
+bounds_read tokens from bounds read =
+    reach_of SpellsBounds tokens bounds_are_local from bounds.part bounds.end bounds.stop read.spells
+    (omega (arith, read.bounds)) (omega (arith, read.bounds)) read.least
 
 -- this token stands there
 abbrev pub Stands : List Token → ℕ → Token → Type 0
@@ -71,8 +99,10 @@ stands : (others : List Token) (k : ℕ) (t : Token) → slice_get others k ≡ 
 stands others k t here = (ap (option_map (λ token. token.what)) here, ap (option_map (λ token. token.place)) here)
 
 -- names, and a token that completes the whole behind them
-pub names_then : {Y : Type 0} (whole : List Token → Spelling Y) (tokens : List Token) (from stop : ℕ) (t : Token) → IsLawfulWhat t.what →
-    ((others : List Token) (names : Names) (m at : ℕ) → IsAt others from at → SpellsNames others from names m → Stands others m t → (y : Y) × whole others from y (m + 1)) →
+pub names_then : {Y : Type 0} (whole : List Token → Spelling Y) (tokens : List Token) (from stop : ℕ)
+    (t : Token) → IsLawfulWhat t.what →
+    ((others : List Token) (names : Names) (m at : ℕ) → IsAt others from at → SpellsNames others from names m →
+    Stands others m t → (y : Y) × whole others from y (m + 1)) →
     ReachesIn 9 SpellsNames tokens from stop → Reaches whole tokens from stop
 names_then whole tokens from stop t known makes r =
     reaches_closed_in SpellsNames whole tokens from from 9 16 stop t (omega arith) known
@@ -86,15 +116,19 @@ module _ (tokens : List Token) (from : ℕ) (names : Names) (a : ℕ) (named : S
   names_ahead = after_of 1 SpellsNames names_keep tokens from names a named
 
   -- the same, behind bounds
-  pub bounds_then : {Y : Type 0} (whole : List Token → Spelling Y) (stop : ℕ) (t : Token) → IsLawfulWhat t.what → a ≤ stop →
-      ((others : List Token) (bounds : Parts Bound) (b at : ℕ) → IsAt others from at → SpellsNames others from names a → SpellsBounds others a bounds b → Stands others b t →
+  pub bounds_then : {Y : Type 0} (whole : List Token → Spelling Y) (stop : ℕ) (t : Token) →
+      IsLawfulWhat t.what → a ≤ stop →
+      ((others : List Token) (bounds : Parts Bound) (b at : ℕ) → IsAt others from at →
+      SpellsNames others from names a → SpellsBounds others a bounds b → Stands others b t →
       (y : Y) × whole others from y (b + 1)) →
       ReachesIn 9 SpellsBounds tokens a stop → Reaches whole tokens from stop
   bounds_then whole stop t known near makes r =
       reaches_closed_in SpellsBounds whole tokens from a 9 16 stop t (omega (arith, names_ahead)) known
       (λ others alike short m size end x h.
-      let at = placed_within others from (omega (arith, size, names_ahead, after_of 0 SpellsBounds bounds_keep others a x m h)) in
-      makes others x m at.0 at.1 (names_are_local tokens others stop alike from names a named near) h (stands others m t end))
+      let at = placed_within others from
+      (omega (arith, size, names_ahead, after_of 0 SpellsBounds bounds_keep others a x m h)) in
+      makes others x m at.0 at.1 (names_are_local tokens others stop alike from names a named near) h
+      (stands others m t end))
       bounds_are_local r
 
 -- ---- fields
@@ -102,13 +136,16 @@ module _ (tokens : List Token) (from : ℕ) (names : Names) (a : ℕ) (named : S
 abbrev pub clock : Token
 clock = word w.CLOCK
 
-pub clock_stands : (others : List Token) (k : ℕ) → Stands others k clock → SpellsBasic others k (basic.Clock 0) (k + 1)
+pub clock_stands : (others : List Token) (k : ℕ) → Stands others k clock →
+    SpellsBasic others k (basic.Clock 0) (k + 1)
 clock_stands others k here = (here.1, here.0, refl)
 
 pub field_is_contained : (depth : ℕ) → IsSelfContained (λ tokens. SpellsField tokens depth)
-field_is_contained depth = contained_of 2 (λ tokens. SpellsField tokens depth) (omega arith) (λ tokens others k alike. field_keeps tokens others k alike depth)
+field_is_contained depth = contained_of 2 (λ tokens. SpellsField tokens depth) (omega arith)
+    (λ tokens others k alike. field_keeps tokens others k alike depth)
 
-pub field_names : (tokens : List Token) (depth from stop : ℕ) → ReachesIn 9 SpellsNames tokens from stop → Reaches (λ tokens. SpellsField tokens depth) tokens from stop
+pub field_names : (tokens : List Token) (depth from stop : ℕ) → ReachesIn 9 SpellsNames tokens from stop →
+    Reaches (λ tokens. SpellsField tokens depth) tokens from stop
 field_names tokens depth from stop r =
     names_then (λ tokens. SpellsField tokens depth) tokens from stop clock (omega arith)
     (λ others names m at here h last. (
@@ -116,8 +153,10 @@ field_names tokens depth from stop r =
       (m, m, here, h, refl, clock_stands others m last),
     )) r
 
-module _ (tokens : List Token) (depth from : ℕ) (names : Names) (a : ℕ) (named : SpellsNames tokens from names a) where
-  pub field_bounds : (stop : ℕ) → a ≤ stop → ReachesIn 9 SpellsBounds tokens a stop → Reaches (λ tokens. SpellsField tokens depth) tokens from stop
+module _ (tokens : List Token) (depth from : ℕ) (names : Names) (a : ℕ)
+    (named : SpellsNames tokens from names a) where
+  pub field_bounds : (stop : ℕ) → a ≤ stop → ReachesIn 9 SpellsBounds tokens a stop →
+      Reaches (λ tokens. SpellsField tokens depth) tokens from stop
   field_bounds stop near r =
       bounds_then tokens from names a named (λ tokens. SpellsField tokens depth) stop clock (omega arith) near
       (λ others bounds b at here h g last. (
@@ -125,34 +164,87 @@ module _ (tokens : List Token) (depth from : ℕ) (names : Names) (a : ℕ) (nam
         (a, b, here, h, g, clock_stands others b last),
       )) r
 
-  pub field_reaches : (bounds : Parts Bound) (b stop : ℕ) → SpellsBounds tokens a bounds b → b ≤ stop → Reaches (λ tokens. SpellsTyping tokens depth) tokens b stop →
+  pub field_reaches : (bounds : Parts Bound) (b stop : ℕ) → SpellsBounds tokens a bounds b → b ≤ stop →
+      Reaches (λ tokens. SpellsTyping tokens depth) tokens b stop →
       Reaches (λ tokens. SpellsField tokens depth) tokens from stop
   field_reaches bounds b stop bounded near r =
       let ahead = names_ahead tokens from names a named in
       let behind : a ≤ b = omega (arith, after_of 0 SpellsBounds bounds_keep tokens a bounds b bounded) in
-      reaches_as (λ tokens. SpellsTyping tokens depth) (λ tokens. SpellsField tokens depth) tokens from b stop (omega arith)
+      reaches_as (λ tokens. SpellsTyping tokens depth) (λ tokens. SpellsField tokens depth) tokens from b stop
+      (omega arith)
       (λ others alike long short x h.
       let at = placed_within others from (omega arith) in (
         record { names = names; bounds = bounds; typing = x; place = at.0 },
-        (a, b, at.1, names_are_local tokens others stop alike from names a named (omega arith), bounds_are_local tokens others stop alike a bounds b bounded near, h),
+        (
+          a,
+          b,
+          at.1,
+          names_are_local tokens others stop alike from names a named (omega arith),
+          bounds_are_local tokens others stop alike a bounds b bounded near,
+          h,
+        ),
       )) r
 
--- names and bounds as they were read: some field goes on as far as they were stopped
-pub field_before : (tokens : List Token) (depth from a b stop_a stop_b stop : ℕ) (names : Names) (bounds : Parts Bound) → SpellsNames tokens from names a → IsAhead tokens from a stop_a →
-    GoesIn 9 SpellsNames tokens from a stop_a → SpellsBounds tokens a bounds b → IsWithin tokens a b stop_b → GoesIn 9 SpellsBounds tokens a b stop_b → stop ≡ max stop_a stop_b →
-    Reaches (λ tokens. SpellsField tokens depth) tokens from stop
-field_before tokens depth from a b stop_a stop_b stop names bounds named ahead first bounded within second is =
-    reaches_max (λ tokens. SpellsField tokens depth) tokens from stop_a stop_b stop is (field_names tokens depth from stop_a (names_read tokens from a stop_a names named ahead first))
-    (field_bounds tokens depth from names a named stop_b (omega (arith, within)) (bounds_read tokens a b stop_b bounds bounded within second))
+pub typing_is_local : (depth : ℕ) → IsLocal (λ tokens. SpellsTyping tokens depth)
+typing_is_local depth tokens others k alike from x to h near =
+    (typing_keeps tokens others k alike depth from x to h near).1
+
+-- behind the names and the bounds that were read, and were stopped at `stop`
+module _ (tokens : List Token) (depth from : ℕ) (names : Reading Names) (named : NamesRead tokens from names)
+    (bounds : Reading (Parts Bound)) (bounded : BoundsRead tokens names.end bounds)
+    (stop : ℕ) (is : stop ≡ max names.stop bounds.stop) where
+  abbrev TheType : List Token → Spelling Typing
+  TheType tokens = SpellsTyping tokens depth
+
+  abbrev TheField : List Token → Spelling Field
+  TheField tokens = SpellsField tokens depth
+
+  -- some field goes on as far
+  before_type : Reaches TheField tokens from stop
+  before_type =
+      reaches_max TheField tokens from names.stop bounds.stop stop is
+      (field_names tokens depth from names.stop (names_read tokens from names named))
+      (field_bounds tokens depth from names.part names.end named.spells bounds.stop (omega (arith, bounded.bounds))
+      (bounds_read tokens names.end bounds bounded))
+
+  with_type : (k : ℕ) → bounds.end ≤ k → k ≤ length tokens → Reaches TheType tokens bounds.end k →
+      Reaches TheField tokens from k
+  with_type k near within r = field_reaches tokens depth from names.part names.end named.spells bounds.part bounds.end k
+      bounded.spells near r
+
+  type_of : (others : List Token) (k : ℕ) → stop ≤ k → BeginAlike tokens others k →
+      (x : Field) (to : ℕ) → TheField others from x to → TheType others bounds.end x.typing to
+  type_of others k below agree =
+      field_typing tokens others depth from names.end bounds.end names.stop bounds.stop k (omega (arith, is, below))
+      (omega (arith, is, below)) named.only bounded.longest agree
+
+  pub field_unread : (halt result : Halt) → result ≡ behind halt stop →
+      Reads 16 TheType by_bracket tokens bounds.end (Err halt) → Reads 16 TheField by_bracket tokens from (Err result)
+  field_unread halt result same none =
+      read_behind TheType TheField tokens from bounds.end stop halt result same
+      (omega (arith, named.ahead, bounded.bounds)) (omega (arith, is, named.ahead, bounded.bounds))
+      (λ others agree x to h. (x.typing, to, type_of others stop (omega arith) agree x to h)) none.refused
+      (halts_max TheType TheField tokens from bounds.end stop halt before_type with_type none.refused none.least)
+
+  module _ (part : Reading Typing) (read : Reads 16 TheType by_bracket tokens bounds.end (Ok part)) (last : ℕ)
+      (later : last ≡ max part.stop stop) where
+    pub field_ends : IsLongest TheField by_bracket tokens from part.end last
+    field_ends = λ others agree x to h.
+        read.longest others (shorter tokens others part.stop last (omega (arith, later)) agree) x.typing to
+        (type_of others last (omega (arith, later)) agree x to h)
+
+    pub field_goes : GoesTo TheField tokens from part.end last
+    field_goes =
+        joined TheType TheField (typing_is_local depth) tokens from bounds.end with_type part.part part.end part.stop
+        read.spells read.ahead read.least part.end stop last later before_type
 
 -- ---- types
 
-pub typing_is_local : (depth : ℕ) → IsLocal (λ tokens. SpellsTyping tokens depth)
-typing_is_local depth tokens others k alike from x to h near = (typing_keeps tokens others k alike depth from x to h near).1
-
-pub typing_basic : (tokens : List Token) (depth from stop : ℕ) → Reaches SpellsBasic tokens from stop → Reaches (λ tokens. SpellsTyping tokens depth) tokens from stop
+pub typing_basic : (tokens : List Token) (depth from stop : ℕ) → Reaches SpellsBasic tokens from stop →
+    Reaches (λ tokens. SpellsTyping tokens depth) tokens from stop
 typing_basic tokens depth from stop r =
-    reaches_as SpellsBasic (λ tokens. SpellsTyping tokens depth) tokens from from stop (omega arith) (λ others alike long short x h. (typing.Basic x, h)) r
+    reaches_as SpellsBasic (λ tokens. SpellsTyping tokens depth) tokens from from stop (omega arith)
+    (λ others alike long short x h. (typing.Basic x, h)) r
 
 module _ (tokens : List Token) (depth from : ℕ) (struct : HasWord tokens from w.STRUCT) (deep : 0 < depth) where
   abbrev one_field : List Token
@@ -162,22 +254,35 @@ module _ (tokens : List Token) (depth from : ℕ) (struct : HasWord tokens from 
   one_field_lawful =
       one_lawful (symbol s.LEFT_SQUARE) (x_token ∷ clock ∷ symbol s.RIGHT_SQUARE ∷ []) (omega arith)
       (one_lawful x_token (clock ∷ symbol s.RIGHT_SQUARE ∷ []) (x_lawful 0 (omega arith))
-      (one_lawful clock (symbol s.RIGHT_SQUARE ∷ []) (omega arith) (one_lawful (symbol s.RIGHT_SQUARE) [] (omega arith) none_lawful)))
+      (one_lawful clock (symbol s.RIGHT_SQUARE ∷ []) (omega arith)
+      (one_lawful (symbol s.RIGHT_SQUARE) [] (omega arith) none_lawful)))
 
   abbrev the_field : Field
-  the_field = record { names = One x_name; bounds = parts_of [] (omega arith); typing = typing.Basic (basic.Clock 0); place = 0 }
+  the_field =
+      record {
+        names = One x_name;
+        bounds = parts_of [] (omega arith);
+        typing = typing.Basic (basic.Clock 0);
+        place = 0;
+      }
 
   -- STRUCT, and no bracket
-  pub struct_begins : from + 1 ≤ length tokens → Reaches (λ tokens. SpellsTyping tokens depth) tokens from (from + 1)
+  pub struct_begins : from + 1 ≤ length tokens →
+      Reaches (λ tokens. SpellsTyping tokens depth) tokens from (from + 1)
   struct_begins within =
       let at = placed_within tokens from (omega arith) in
-      let what_is = what_stands tokens (from + 1) (symbol s.LEFT_SQUARE ∷ x_token ∷ clock ∷ symbol s.RIGHT_SQUARE ∷ []) within in
-      let place_is = place_stands tokens (from + 1) (symbol s.LEFT_SQUARE ∷ x_token ∷ clock ∷ symbol s.RIGHT_SQUARE ∷ []) within in
-      let others = begun tokens (from + 1) (symbol s.LEFT_SQUARE ∷ x_token ∷ clock ∷ symbol s.RIGHT_SQUARE ∷ []) in
-      completed (λ tokens. SpellsTyping tokens depth) tokens from (from + 1) (symbol s.LEFT_SQUARE ∷ x_token ∷ clock ∷ symbol s.RIGHT_SQUARE ∷ [])
+      let what_is = what_stands tokens (from + 1)
+      (symbol s.LEFT_SQUARE ∷ x_token ∷ clock ∷ symbol s.RIGHT_SQUARE ∷ []) within in
+      let place_is = place_stands tokens (from + 1)
+      (symbol s.LEFT_SQUARE ∷ x_token ∷ clock ∷ symbol s.RIGHT_SQUARE ∷ []) within in
+      let others = begun tokens (from + 1)
+      (symbol s.LEFT_SQUARE ∷ x_token ∷ clock ∷ symbol s.RIGHT_SQUARE ∷ []) in
+      completed (λ tokens. SpellsTyping tokens depth) tokens from (from + 1)
+      (symbol s.LEFT_SQUARE ∷ x_token ∷ clock ∷ symbol s.RIGHT_SQUARE ∷ [])
       (typing.Struct (parts_of (the_field ∷ []) (omega arith)) at.0) within (omega arith) one_field_lawful
       (λ alike.
-      subst (λ X. X) (sym (spells_struct others depth from (parts_of (the_field ∷ []) (omega arith)) at.0 (from + 1 + 4))) (
+      subst (λ X. X)
+      (sym (spells_struct others depth from (parts_of (the_field ∷ []) (omega arith)) at.0 (from + 1 + 4))) (
         from + 4,
         local.place tokens others (from + 1) alike from (omega arith) ∙ at.1,
         local.what tokens others (from + 1) alike from (omega arith) ∙ struct,
@@ -200,12 +305,17 @@ module _ (tokens : List Token) (depth from : ℕ) (struct : HasWord tokens from 
       ))
 
   -- fields behind the bracket
-  pub struct_reaches : (stop : ℕ) → length tokens < 2 ^ 55 → stop ≤ length tokens → HasSymbol tokens (from + 1) s.LEFT_SQUARE → from + 1 < stop →
-      Reaches (λ tokens. SpellsList tokens (SpellsField tokens (depth - 1))) tokens (from + 2) stop → Reaches (λ tokens. SpellsTyping tokens depth) tokens from stop
-  struct_reaches stop few within bracket near r =
-      reaches_closed (λ tokens. SpellsList tokens (SpellsField tokens (depth - 1))) (λ tokens. SpellsTyping tokens depth) tokens from (from + 2) stop (symbol s.RIGHT_SQUARE) (omega arith) (omega arith)
+  pub struct_reaches : length tokens < 2 ^ 55 → HasSymbol tokens (from + 1) s.LEFT_SQUARE →
+      (stop : ℕ) → from + 2 ≤ stop → stop ≤ length tokens →
+      Reaches (λ tokens. SpellsList tokens (SpellsField tokens (depth - 1))) tokens (from + 2) stop →
+      Reaches (λ tokens. SpellsTyping tokens depth) tokens from stop
+  struct_reaches few bracket stop near within r =
+      reaches_closed (λ tokens. SpellsList tokens (SpellsField tokens (depth - 1)))
+      (λ tokens. SpellsTyping tokens depth) tokens from (from + 2) stop (symbol s.RIGHT_SQUARE) (omega arith)
+      (omega arith)
       (λ others alike short m size end xs h.
-      let all = list_after (λ tokens. SpellsField tokens (depth - 1)) (field_is_contained (depth - 1)) others (from + 2) xs m h in
+      let all = list_after (λ tokens. SpellsField tokens (depth - 1)) (field_is_contained (depth - 1)) others
+      (from + 2) xs m h in
       let small : length xs < 2 ^ 63 = omega (arith, all) in
       let at = placed_within others from (omega (arith, size, all)) in (
         typing.Struct (parts_of xs small) at.0,
@@ -214,7 +324,7 @@ module _ (tokens : List Token) (depth from : ℕ) (struct : HasWord tokens from 
           at.1,
           local.what tokens others stop alike from (omega arith) ∙ struct,
           deep,
-          local.what tokens others stop alike (from + 1) near ∙ bracket,
+          local.what tokens others stop alike (from + 1) (omega arith) ∙ bracket,
           h,
           ap (option_map (λ token. token.what)) end,
           refl,

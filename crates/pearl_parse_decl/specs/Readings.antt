@@ -1,5 +1,6 @@
 -- With which tokens a part goes on that could end before them, and what is told of a part that is not read.
-use Rattle.std.specs.Prelude.{ℕ, ◌+◌, ◌≤◌, ◌||◌, max, Bool, false, List, length, Option}
+use Rattle.std.specs.Prelude.{ℕ, ◌+◌, ◌≤◌, ◌||◌, max, Bool, false, List, length}
+use Rattle.std.specs.Prelude.{Option, Result, Ok, Err}
 use Rattle.pearl_tree.specs.declared.token.What.{What}
 use Rattle.pearl_tree.specs.declared.token.Token.{Token}
 use Rattle.pearl_tree.specs.Standing.{Spelling}
@@ -8,7 +9,9 @@ use Rattle.pearl_tree.specs.declared.word_code.TheConstants as w
 use Rattle.pearl_parse_expr.specs.declared.reading.Halt.{Halt}
 use Rattle.pearl_parse_expr.specs.declared.reading.Halt.TheVariants.{Refused, NoMemory}
 use Rattle.pearl_parse_expr.specs.Stops.{is_name, is_symbol, is_word}
+use Rattle.pearl_parse_expr.specs.declared.reading.Reading.{Reading}
 use Rattle.pearl_parse_expr.specs.Least.{AlikeBefore, ReachesIn}
+use Rattle.pearl_parse_expr.specs.Reads.{ReadsMaybe}
 
 -- a part that has one end
 abbrev pub never : Option What → Bool
@@ -52,9 +55,21 @@ extends_param token = by_bracket token || is_word w.IDENT token
 abbrev pub extends_head : Option What → Bool
 extends_head token = is_word w.PRIO token || is_word w.MAIN token
 
--- what was read, which may be nothing, was stopped at its end or behind it within the tokens
-abbrev pub IsWithin : List Token → ℕ → ℕ → ℕ → Type 0
-IsWithin tokens from end stop = (from ≤ end) × (end ≤ stop) × (stop ≤ length tokens)
+-- of a part that may be empty: what is read, all that begins where it does, and what goes on are told alike
+abbrev pub ReadsMaybePart : {X : Type 0} → ℕ → (List Token → Spelling X) →
+    (Option What → Bool) → List Token → ℕ →
+    Result (Reading X) Halt → Type 0
+ReadsMaybePart room part extends tokens from result = ReadsMaybe room part part part extends tokens from result
+
+-- what is read, or the number of the token with which nothing is, as any reader tells it
+abbrev pub or_refused : {X : Type 0} → Result (Reading X) ℕ → Result (Reading X) Halt
+or_refused (Ok reading) = Ok reading
+or_refused (Err stop) = Err (Refused stop)
+
+-- the same of a part that ends at `end` wherever it is read, and is stopped there
+abbrev pub read_to : {X : Type 0} → ℕ → Result X ℕ → Result (Reading X) Halt
+read_to end (Ok part) = Ok (record { part = part; end = end; stop = end })
+read_to end (Err stop) = Err (Refused stop)
 
 -- a part is refused where another one before it was stopped
 abbrev pub behind : Halt → ℕ → Halt
@@ -69,9 +84,11 @@ IsPast at (Refused stop) = at ≤ stop
 -- a part is not empty, and whether tokens spell it depends on those before its end alone
 abbrev pub IsSelfContained : {X : Type 0} → (List Token → Spelling X) → Type 0
 IsSelfContained {X} spells =
-    (tokens others : List Token) (k : ℕ) → AlikeBefore tokens others k → (from : ℕ) (x : X) (to : ℕ) → spells tokens from x to →
+    (tokens others : List Token) (k : ℕ) → AlikeBefore tokens others k →
+    (from : ℕ) (x : X) (to : ℕ) → spells tokens from x to →
     to ≤ k → (from + 1 ≤ to) × spells others from x to
 
 -- wherever a part may begin, a few tokens make one
 abbrev pub BeginsAnywhere : {X : Type 0} → (List Token → Spelling X) → Type 0
-BeginsAnywhere spells = (tokens : List Token) (from : ℕ) → from ≤ length tokens → ReachesIn 9 spells tokens from from
+BeginsAnywhere spells = (tokens : List Token) (from : ℕ) → from ≤ length tokens →
+    ReachesIn 9 spells tokens from from

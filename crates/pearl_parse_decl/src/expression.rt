@@ -1,6 +1,6 @@
 // Expressions and references of statements, as parts of a list.
 
-ghost use Rattle.std.specs.Prelude.{◌≤◌, length, IfOk, IfErr, refl};
+ghost use Rattle.std.specs.Prelude.{◌≤◌, length, refl};
 ghost use Rattle.pearl_tree.specs.Expressions.{SpellsWhole, SpellsOwnRef};
 ghost use Rattle.pearl_tree.specs.declared.limit.TheConstants as limit;
 ghost use Rattle.pearl_parse_expr.specs.Stops as stops;

@@ -12,9 +12,7 @@ use pearl_tree::token::Token;
 /// `[ word ]`
 pub fn flag(tokens: &[Token], from: usize, word: u8) -> Reading<bool>
     requires { from ≤ length tokens.now }
-    ensures spells { SpellsFlag tokens.now word from result.part result.end }
-    ensures longest { stops.IsLongest (λ tokens. SpellsFlag tokens word) (stops.is_word word) tokens.now from result.end result.stop }
-    ensures ahead { spec.IsWithin tokens.now from result.end result.stop }
+    ensures reads { spec.ReadsMaybePart 16 (λ tokens. SpellsFlag tokens word) (stops.is_word word) tokens.now from (Ok result) }
     ensures once { result.stop ≡ result.end }
 {
     if is_word(tokens, from, word) {

@@ -1,12 +1,11 @@
 // Items of formats.
 
-ghost use Rattle.std.specs.Prelude.{◌≡◌, ◌≢◌, ◌+◌, ◌<◌, ◌≤◌, List, Some, None, length, IfOk, IfErr, IfSome, refl};
-ghost use Rattle.pearl_tree.specs.Standing.{what_at, HasId, HasSymbol, SpellsMaybe, SpellsBracketedNumber};
+ghost use Rattle.std.specs.Prelude.{◌≡◌, ◌≢◌, ◌+◌, ◌<◌, ◌≤◌, Some, None, length, IfErr, IfSome, refl};
+ghost use Rattle.pearl_tree.specs.Standing.{HasId};
 ghost use Rattle.pearl_tree.specs.Formats as grammar;
 ghost use Rattle.pearl_tree.specs.declared.format.FreeCode.{FreeCode};
 ghost use Rattle.pearl_tree.specs.declared.format.WideCode.{WideCode};
 ghost use Rattle.pearl_parse_expr.specs.declared.reading.Halt.{Halt};
-ghost use Rattle.pearl_parse_expr.specs.Stops as stops;
 ghost use Rattle.pearl_parse_expr.specs.Reads.{Reads};
 ghost use Rattle.pearl_parse_expr.proofs.PartsBegin as parts;
 ghost use Rattle.pearl_parse_decl.specs.Readings as spec;

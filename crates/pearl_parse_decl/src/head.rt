@@ -1,13 +1,12 @@
 // Heads of tasks and procedures.
 
-ghost use Rattle.std.specs.Prelude.{◌≡◌, ◌+◌, ◌<◌, ◌≤◌, List, None, length, max, IfOk, IfErr, IfSome, refl};
-ghost use Rattle.pearl_tree.specs.Standing.{HasWord, SpellsMaybe};
+ghost use Rattle.std.specs.Prelude.{◌+◌, ◌≤◌, None, length, refl};
+ghost use Rattle.pearl_tree.specs.Standing.{SpellsMaybe};
 ghost use Rattle.pearl_tree.specs.Declarations as grammar;
 ghost use Rattle.pearl_tree.specs.Modules as modules;
 ghost use Rattle.pearl_tree.specs.declared.word_code.TheConstants as w;
 ghost use Rattle.pearl_parse_expr.specs.Stops as stops;
-ghost use Rattle.pearl_parse_expr.specs.Least.{Reaches, GoesTo};
-ghost use Rattle.pearl_parse_expr.specs.Reads.{Reads};
+ghost use Rattle.pearl_parse_expr.specs.Reads.{Reads, ReadsOnly};
 ghost use Rattle.pearl_parse_expr.proofs.PartsBegin as parts;
 ghost use Rattle.pearl_parse_decl.specs.Readings as spec;
 
@@ -70,11 +69,7 @@ impl Readable for Param {
 // `PRIO number`, or the number of a token with which none begins.
 fn prio(tokens: &[Token], from: usize) -> Result<Prio, usize>
     requires { from ≤ length tokens.now }
-    ensures spells { IfOk result (λ part. grammar.SpellsPrio tokens.now from part (from + 2)) }
-    ensures within { IfOk result (λ _. from + 2 ≤ length tokens.now) }
-    ensures refused { IfErr result (λ stop. stops.Stuck grammar.SpellsPrio tokens.now from stop) }
-    ensures held { IfErr result (λ stop. (from ≤ stop) × (stop ≤ length tokens.now)) }
-    ensures begun { IfErr result (λ stop. Reaches grammar.SpellsPrio tokens.now from stop) }
+    ensures { ReadsOnly 16 grammar.SpellsPrio tokens.now from (spec.read_to (from + 2) result) }
 {
     if !is_word(tokens, from, PRIO) {
         return Err(from);
@@ -91,10 +86,7 @@ fn prio(tokens: &[Token], from: usize) -> Result<Prio, usize>
 /// `[ prio ] [ MAIN ] | MAIN prio`
 pub fn task_head(tokens: &[Token], from: usize) -> Reading<TaskHead>
     requires { from ≤ length tokens.now }
-    ensures spells { modules.SpellsTaskHead tokens.now from result.part result.end }
-    ensures longest { stops.IsLongest modules.SpellsTaskHead spec.extends_head tokens.now from result.end result.stop }
-    ensures ahead { spec.IsWithin tokens.now from result.end result.stop }
-    ensures least { GoesTo modules.SpellsTaskHead tokens.now from result.end result.stop }
+    ensures { spec.ReadsMaybePart 16 modules.SpellsTaskHead spec.extends_head tokens.now from (Ok result) }
 {
     if is_word(tokens, from, MAIN) {
         return match prio(tokens, from + 1) {
@@ -139,14 +131,7 @@ pub fn task_head(tokens: &[Token], from: usize) -> Reading<TaskHead>
 // `RETURNS "(" basic ")"`, or the number of a token with which none begins.
 fn returned(tokens: &[Token], from: usize) -> Result<Reading<Basic>, usize>
     requires { from ≤ length tokens.now }
-    ensures spells { IfOk result (λ reading. modules.SpellsReturns tokens.now from reading.part reading.end) }
-    ensures longest { IfOk result (λ reading. stops.IsOnly modules.SpellsReturns tokens.now from reading.end reading.stop) }
-    ensures ahead { IfOk result (λ reading. stops.IsAhead tokens.now from reading.end reading.stop) }
-    ensures word { IfOk result (λ _. HasWord tokens.now from w.RETURNS) }
-    ensures refused { IfErr result (λ stop. stops.Stuck modules.SpellsReturns tokens.now from stop) }
-    ensures held { IfErr result (λ stop. (from ≤ stop) × (stop ≤ length tokens.now)) }
-    ensures least { IfOk result (λ reading. GoesTo modules.SpellsReturns tokens.now from reading.end reading.stop) }
-    ensures begun { IfErr result (λ stop. Reaches modules.SpellsReturns tokens.now from stop) }
+    ensures { ReadsOnly 16 modules.SpellsReturns tokens.now from (spec.or_refused result) }
 {
     if !is_word(tokens, from, RETURNS) {
         return Err(from);
@@ -171,10 +156,7 @@ fn returned(tokens: &[Token], from: usize) -> Result<Reading<Basic>, usize>
 /// `[ RETURNS "(" basic ")" ]`
 pub fn returns(tokens: &[Token], from: usize) -> Reading<Option<Basic>>
     requires { from ≤ length tokens.now }
-    ensures spells { SpellsMaybe (modules.SpellsReturns tokens.now) from result.part result.end }
-    ensures longest { stops.IsLongest (λ tokens. SpellsMaybe (modules.SpellsReturns tokens)) (stops.is_word w.RETURNS) tokens.now from result.end result.stop }
-    ensures ahead { spec.IsWithin tokens.now from result.end result.stop }
-    ensures least { GoesTo (λ tokens. SpellsMaybe (modules.SpellsReturns tokens)) tokens.now from result.end result.stop }
+    ensures { spec.ReadsMaybePart 16 (λ tokens. SpellsMaybe (modules.SpellsReturns tokens)) (stops.is_word w.RETURNS) tokens.now from (Ok result) }
 {
     match returned(tokens, from) {
         Ok(basic) => Reading {

@@ -1,11 +1,8 @@
 // Variables and semaphores of a declaration.
 
-ghost use Rattle.std.specs.Prelude.{◌≡◌, ◌+◌, ◌≤◌, List, length, max, IfOk, IfErr, Ok, refl};
-ghost use Rattle.pearl_tree.specs.Standing.{HasWord};
+ghost use Rattle.std.specs.Prelude.{◌+◌, ◌≤◌, length, IfOk, IfErr, Ok, refl};
 ghost use Rattle.pearl_tree.specs.Types as types;
 ghost use Rattle.pearl_tree.specs.Declarations as grammar;
-ghost use Rattle.pearl_tree.specs.declared.word_code.TheConstants as w;
-ghost use Rattle.pearl_parse_expr.specs.Stops as stops;
 ghost use Rattle.pearl_parse_expr.specs.Reads.{Reads, ReadsOnly};
 ghost use Rattle.pearl_parse_expr.proofs.PartsBegin as parts;
 ghost use Rattle.pearl_parse_decl.specs.Readings as spec;

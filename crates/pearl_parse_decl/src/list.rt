@@ -1,15 +1,14 @@
 // Lists of parts with commas between them.
 
-ghost use Rattle.std.specs.Prelude.{◌≡◌, ◌≢◌, ℕ, ◌+◌, ◌<◌, ◌≤◌, List, Bool, Option, Some, length, IfOk, IfErr, false};
+ghost use Rattle.std.specs.Prelude.{◌≡◌, ◌≢◌, ◌+◌, ◌≤◌, List, Bool, Option, Some, length, IfErr, false};
 ghost use Rattle.pearl_tree.specs.declared.token.Token.{Token};
 ghost use Rattle.pearl_tree.specs.declared.token.What.{What};
 ghost use Rattle.pearl_tree.specs.declared.token.What.TheVariants as what;
-ghost use Rattle.pearl_tree.specs.Standing.{Spelling, HasWord, HasSymbol, SpellsList, SpellsBracketed, SpellsMaybeBracketed, SpellsMaybeHeaded};
+ghost use Rattle.pearl_tree.specs.Standing.{Spelling, SpellsList, SpellsBracketed, SpellsMaybeBracketed, SpellsMaybeHeaded};
 ghost use Rattle.pearl_tree.specs.declared.symbol.TheConstants as s;
 ghost use Rattle.pearl_parse_expr.specs.declared.reading.Halt.{Halt};
 ghost use Rattle.pearl_parse_expr.specs.Stops as stops;
-ghost use Rattle.pearl_parse_expr.specs.Least.{IsLeastIn};
-ghost use Rattle.pearl_parse_expr.specs.Reads.{Reads, ReadsList, ReadsOnlyList};
+ghost use Rattle.pearl_parse_expr.specs.Reads.{Reads, ReadsList, ReadsOnlyList, ReadsMaybeList};
 ghost use Rattle.pearl_parse_decl.specs.Readings as spec;
 
 use pearl_parse_expr::reading::{Halt, Reading, append};
@@ -131,11 +130,8 @@ pub fn maybe_bracketed<P: Readable>(
     from: usize,
 ) -> Result<Reading<Vec<P>>, Halt>
     requires { from ≤ length tokens.now }
-    ensures spells { IfOk result (λ reading. SpellsMaybeBracketed tokens.now (P.spelling tokens.now) from reading.part.items reading.end) }
-    ensures longest { IfOk result (λ reading. stops.IsLongest (λ tokens. SpellsMaybeBracketed tokens (P.spelling tokens)) spec.by_bracket tokens.now from reading.end reading.stop) }
-    ensures ahead { IfOk result (λ reading. spec.IsWithin tokens.now from reading.end reading.stop) }
-    ensures refused { IfErr result (λ halt. halt ≡ Halt.NoMemory) }
-    ensures least { IsLeastIn 9 (λ tokens. SpellsMaybeBracketed tokens (P.spelling tokens)) tokens.now from result }
+    ensures reads { ReadsMaybeList 9 (λ tokens. SpellsMaybeBracketed tokens (P.spelling tokens)) spec.by_bracket tokens.now from result }
+    ensures memory { IfErr result (λ halt. halt ≡ Halt.NoMemory) }
 {
     match bracketed(alloc, tokens, from) {
         Ok(list) => Ok(list),
@@ -158,11 +154,8 @@ pub fn maybe_headed<P: Readable>(
     word: u8,
 ) -> Result<Reading<Vec<P>>, Halt>
     requires { from ≤ length tokens.now }
-    ensures spells { IfOk result (λ reading. SpellsMaybeHeaded tokens.now word (P.spelling tokens.now) from reading.part.items reading.end) }
-    ensures longest { IfOk result (λ reading. stops.IsLongest (λ tokens. SpellsMaybeHeaded tokens word (P.spelling tokens)) (stops.is_word word) tokens.now from reading.end reading.stop) }
-    ensures ahead { IfOk result (λ reading. spec.IsWithin tokens.now from reading.end reading.stop) }
-    ensures refused { IfErr result (λ halt. halt ≡ Halt.NoMemory) }
-    ensures least { IsLeastIn 9 (λ tokens. SpellsMaybeHeaded tokens word (P.spelling tokens)) tokens.now from result }
+    ensures reads { ReadsMaybeList 9 (λ tokens. SpellsMaybeHeaded tokens word (P.spelling tokens)) (stops.is_word word) tokens.now from result }
+    ensures memory { IfErr result (λ halt. halt ≡ Halt.NoMemory) }
 {
     if !is_word(tokens, from, word) {
         return Ok(Reading {

@@ -1,11 +1,9 @@
 // Names, and numbers in brackets.
 
-ghost use Rattle.std.specs.Prelude.{◌≡◌, ◌≢◌, ◌+◌, ◌<◌, ◌≤◌, ◌⊎◌, List, Some, None, length, IfOk, IfErr, IfSome, refl};
-ghost use Rattle.pearl_tree.specs.Standing.{what_at, HasSymbol, SpellsName, SpellsNumber, SpellsMaybe, SpellsBracketedNumber};
+ghost use Rattle.std.specs.Prelude.{◌≢◌, ◌+◌, ◌≤◌, Some, None, length, IfErr, refl};
+ghost use Rattle.pearl_tree.specs.Standing.{SpellsName, SpellsNumber, SpellsMaybe, SpellsBracketedNumber};
 ghost use Rattle.pearl_tree.specs.Types as grammar;
 ghost use Rattle.pearl_parse_expr.specs.declared.reading.Halt.{Halt};
-ghost use Rattle.pearl_parse_expr.specs.Stops as stops;
-ghost use Rattle.pearl_parse_expr.specs.Least.{Reaches, GoesTo};
 ghost use Rattle.pearl_parse_expr.specs.Reads.{ReadsOnly};
 ghost use Rattle.pearl_parse_expr.proofs.PartsBegin as parts;
 ghost use Rattle.pearl_parse_decl.specs.Readings as spec;
@@ -86,11 +84,7 @@ impl Readable for Number {
 /// The number that stands here in brackets, or the number of a token with which none does.
 pub fn bracketed_number(tokens: &[Token], from: usize) -> Result<Number, usize>
     requires { from ≤ length tokens.now }
-    ensures spells { IfOk result (λ part. SpellsBracketedNumber tokens.now from part (from + 3)) }
-    ensures within { IfOk result (λ _. from + 3 ≤ length tokens.now) }
-    ensures refused { IfErr result (λ stop. stops.Stuck SpellsBracketedNumber tokens.now from stop) }
-    ensures held { IfErr result (λ stop. (from ≤ stop) × (stop ≤ length tokens.now)) }
-    ensures begun { IfErr result (λ stop. Reaches SpellsBracketedNumber tokens.now from stop) }
+    ensures { ReadsOnly 16 SpellsBracketedNumber tokens.now from (spec.read_to (from + 3) result) }
 {
     if !is_symbol(tokens, from, LEFT_ROUND) {
         return Err(from);
@@ -110,10 +104,7 @@ pub fn bracketed_number(tokens: &[Token], from: usize) -> Result<Number, usize>
 /// The number that stands here in brackets, if one does.
 pub fn maybe_number(tokens: &[Token], from: usize) -> Reading<Option<Number>>
     requires { from ≤ length tokens.now }
-    ensures spells { SpellsMaybe (SpellsBracketedNumber tokens.now) from result.part result.end }
-    ensures longest { stops.IsLongest (λ tokens. SpellsMaybe (SpellsBracketedNumber tokens)) spec.by_bracket tokens.now from result.end result.stop }
-    ensures ahead { spec.IsWithin tokens.now from result.end result.stop }
-    ensures least { GoesTo (λ tokens. SpellsMaybe (SpellsBracketedNumber tokens)) tokens.now from result.end result.stop }
+    ensures { spec.ReadsMaybePart 16 (λ tokens. SpellsMaybe (SpellsBracketedNumber tokens)) spec.by_bracket tokens.now from (Ok result) }
 {
     match bracketed_number(tokens, from) {
         Ok(number) => Reading {

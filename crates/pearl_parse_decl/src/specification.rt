@@ -1,6 +1,6 @@
 // Specifications of interrupts and dations, and devices.
 
-ghost use Rattle.std.specs.Prelude.{◌≡◌, ◌≢◌, ◌+◌, ◌<◌, ◌≤◌, List, None, Ok, true, false, codes, length, max, IfOk, IfErr, IfSome, refl};
+ghost use Rattle.std.specs.Prelude.{◌≡◌, ◌≢◌, ◌+◌, ◌<◌, ◌≤◌, None, Ok, true, false, codes, length, IfErr, IfSome, refl};
 ghost use Rattle.pearl_tree.specs.Standing.{what_at, HasWord, HasId};
 ghost use Rattle.pearl_tree.specs.Types as types;
 ghost use Rattle.pearl_tree.specs.Declarations as grammar;
@@ -8,7 +8,6 @@ ghost use Rattle.pearl_tree.specs.declared.declaration.Direction.{Direction};
 ghost use Rattle.pearl_tree.specs.declared.word_code.TheConstants as w;
 ghost use Rattle.pearl_parse_expr.specs.declared.reading.Halt.{Halt};
 ghost use Rattle.pearl_parse_expr.specs.Stops as stops;
-ghost use Rattle.pearl_parse_expr.specs.Least.{GoesTo};
 ghost use Rattle.pearl_parse_expr.specs.Reads.{Reads, ReadsOnly};
 ghost use Rattle.pearl_parse_expr.proofs.PartsBegin as parts;
 ghost use Rattle.pearl_parse_decl.specs.Readings as spec;
@@ -100,10 +99,7 @@ fn is_control(tokens: &[Token], at: usize) -> bool
 /// `[ "CONTROL" "(" ALL ")" ]`
 fn control(tokens: &[Token], from: usize) -> Reading<bool>
     requires { from ≤ length tokens.now }
-    ensures spells { grammar.SpellsControl tokens.now from result.part result.end }
-    ensures longest { stops.IsLongest grammar.SpellsControl stops.is_name tokens.now from result.end result.stop }
-    ensures ahead { spec.IsWithin tokens.now from result.end result.stop }
-    ensures least { GoesTo grammar.SpellsControl tokens.now from result.end result.stop }
+    ensures { spec.ReadsMaybePart 16 grammar.SpellsControl stops.is_name tokens.now from (Ok result) }
 {
     if !is_control(tokens, from) {
         return Reading {

@@ -1,16 +1,13 @@
 // Bounds and types.
 
-ghost use Rattle.std.specs.Prelude.{◌≡◌, ◌≢◌, ℕ, ◌+◌, ◌-◌, ◌<◌, ◌≤◌, List, Bool, Option, Some, None, length, max, IfOk, IfErr, IfSome, refl, true, false};
-ghost use Rattle.pearl_tree.specs.Standing.{what_at, HasWord, HasSymbol, SpellsMaybe, SpellsMaybeBracketed, SpellsList};
+ghost use Rattle.std.specs.Prelude.{◌≡◌, ◌≢◌, ◌+◌, ◌-◌, ◌<◌, ◌≤◌, Option, Some, None, length, IfOk, IfErr, IfSome, refl, true, false};
+ghost use Rattle.pearl_tree.specs.Standing.{HasWord, SpellsMaybe, SpellsList};
 ghost use Rattle.pearl_tree.specs.Types as grammar;
 ghost use Rattle.pearl_tree.specs.declared.typing.Sort.{Sort};
 ghost use Rattle.pearl_tree.specs.declared.typing.Field.{Field};
-ghost use Rattle.pearl_tree.specs.declared.symbol.TheConstants as s;
 ghost use Rattle.pearl_tree.specs.declared.word_code.TheConstants as w;
 ghost use Rattle.pearl_parse_expr.specs.declared.reading.Halt.{Halt};
-ghost use Rattle.pearl_parse_expr.specs.Stops as stops;
-ghost use Rattle.pearl_parse_expr.specs.Least.{Reaches, GoesTo, IsLeastIn};
-ghost use Rattle.pearl_parse_expr.specs.Reads.{Reads, ReadsList};
+ghost use Rattle.pearl_parse_expr.specs.Reads.{Reads, ReadsOnly, ReadsList};
 ghost use Rattle.pearl_parse_expr.proofs.PartsBegin as parts;
 ghost use Rattle.pearl_parse_decl.specs.Readings as spec;
 
@@ -29,13 +26,8 @@ use std::alloc::Global;
 /// `[ "-" ] number`, or the number of a token with which none begins.
 pub fn int(tokens: &[Token], from: usize) -> Result<Reading<Int>, usize>
     requires { from ≤ length tokens.now }
-    ensures spells { IfOk result (λ reading. grammar.SpellsInt tokens.now from reading.part reading.end) }
-    ensures longest { IfOk result (λ reading. stops.IsOnly grammar.SpellsInt tokens.now from reading.end reading.stop) }
-    ensures ahead { IfOk result (λ reading. stops.IsAhead tokens.now from reading.end reading.stop) }
-    ensures refused { IfErr result (λ stop. stops.Stuck grammar.SpellsInt tokens.now from stop) }
-    ensures held { IfErr result (λ stop. (from ≤ stop) × (stop ≤ length tokens.now)) }
+    ensures reads { ReadsOnly 16 grammar.SpellsInt tokens.now from (spec.or_refused result) }
     ensures once { IfOk result (λ reading. reading.stop ≡ reading.end) }
-    ensures begun { IfErr result (λ stop. Reaches grammar.SpellsInt tokens.now from stop) }
 {
     if let Some(number) = number_at(tokens, from) {
         return Ok(Reading {
@@ -68,10 +60,7 @@ pub fn int(tokens: &[Token], from: usize) -> Result<Reading<Int>, usize>
 // `[ ":" int ]`
 fn upper(tokens: &[Token], from: usize) -> Reading<Option<Int>>
     requires { from ≤ length tokens.now }
-    ensures spells { SpellsMaybe (grammar.SpellsUpper tokens.now) from result.part result.end }
-    ensures longest { stops.IsLongest (λ tokens. SpellsMaybe (grammar.SpellsUpper tokens)) spec.by_colon tokens.now from result.end result.stop }
-    ensures ahead { spec.IsWithin tokens.now from result.end result.stop }
-    ensures least { GoesTo (λ tokens. SpellsMaybe (grammar.SpellsUpper tokens)) tokens.now from result.end result.stop }
+    ensures { spec.ReadsMaybePart 16 (λ tokens. SpellsMaybe (grammar.SpellsUpper tokens)) spec.by_colon tokens.now from (Ok result) }
 {
     if !is_symbol(tokens, from, COLON) {
         return Reading {
@@ -135,11 +124,8 @@ impl Readable for Bound {
 /// The bounds that begin here, if any do.
 pub fn bounds(alloc: Global, tokens: &[Token], from: usize) -> Result<Reading<Parts<Bound>>, Halt>
     requires { from ≤ length tokens.now }
-    ensures spells { IfOk result (λ reading. grammar.SpellsBounds tokens.now from reading.part reading.end) }
-    ensures longest { IfOk result (λ reading. stops.IsLongest grammar.SpellsBounds spec.by_bracket tokens.now from reading.end reading.stop) }
-    ensures ahead { IfOk result (λ reading. spec.IsWithin tokens.now from reading.end reading.stop) }
-    ensures refused { IfErr result (λ halt. halt ≡ Halt.NoMemory) }
-    ensures least { IsLeastIn 9 grammar.SpellsBounds tokens.now from result }
+    ensures reads { spec.ReadsMaybePart 9 grammar.SpellsBounds spec.by_bracket tokens.now from result }
+    ensures memory { IfErr result (λ halt. halt ≡ Halt.NoMemory) }
 {
     match maybe_bracketed(alloc, tokens, from) {
         Ok(list) => Ok(Reading {

@@ -1,5 +1,6 @@
 -- Operands with operators between them: what other tokens can spell that begin as these do, read up to some operand.
-use Rattle.std.proofs.Common.{◌≡◌, ℕ, zero, suc, ◌+◌, ◌<◌, ◌≤◌, Bool, true, false, ◌||◌, List, Option, Some, None, is_some, ◌⊎◌, inl, inr, refl, sym, ap, subst, ◌∙◌, arith, true≢false, eqb-true, ◌==◌}
+use Rattle.std.proofs.Common.{◌≡◌, ℕ, zero, suc, ◌+◌, ◌<◌, ◌≤◌, Bool, true, false, ◌||◌, List, Option, Some, None}
+use Rattle.std.proofs.Common.{is_some, ◌⊎◌, inl, inr, refl, sym, ap, subst, ◌∙◌, arith, true≢false, eqb-true, ◌==◌}
 use Rattle.std.specs.Option.{option_and_then}
 use Rattle.pearl_value.specs.declared.operator.Dyad.{Dyad}
 use Rattle.pearl_tree.specs.declared.expression.Expr.{Expr, Operand', Dyadic'}
@@ -15,7 +16,8 @@ use Rattle.pearl_parse_expr.specs.declared.reading.Halt.{Halt}
 use Rattle.pearl_parse_expr.specs.declared.reading.Halt.TheVariants.{Refused, NoMemory}
 use Rattle.pearl_tree.specs.Following.{lengthens_operand}
 use Rattle.pearl_tree.specs.Stops.{BeginAlike}
-use Rattle.pearl_parse_expr.specs.Stops.{IsHalted, IsLongest, Stuck, EndsEarly, extends_operand, extends_expression, SpellsSigned}
+use Rattle.pearl_parse_expr.specs.Stops.{IsHalted, IsLongest, Stuck, EndsEarly, extends_operand, extends_expression}
+use Rattle.pearl_parse_expr.specs.Stops.{SpellsSigned}
 use Rattle.pearl_parse_expr.proofs.Primaries.{clash, or_absurd}
 use Rattle.pearl_parse_expr.proofs.Parts.{shorter, or_first, or_second}
 
@@ -26,9 +28,11 @@ is_dyad token = is_some (option_and_then dyad_of token)
 abbrev pub Rest : List Token → ℕ → ℕ → ℕ → ℕ → Type 0
 Rest tokens depth zero from to = to ≡ from
 Rest tokens depth (suc n) from to =
-    (m : ℕ) × (is_dyad (what_at tokens from) ≡ true) × ((x : Primary) × SpellsSigned tokens depth (from + 1) x m) × Rest tokens depth n m to
+    (m : ℕ) × (is_dyad (what_at tokens from) ≡ true) × ((x : Primary) × SpellsSigned tokens depth (from + 1) x m) ×
+    Rest tokens depth n m to
 
-join : (tokens : List Token) (depth a b from m to : ℕ) → Rest tokens depth a from m → Rest tokens depth b m to → Rest tokens depth (a + b) from to
+join : (tokens : List Token) (depth a b from m to : ℕ) → Rest tokens depth a from m → Rest tokens depth b m to →
+    Rest tokens depth (a + b) from to
 join tokens depth zero b from m to h rest =
     let none : b ≡ zero + b = omega arith in
     subst (λ n. Rest tokens depth n from to) none (subst (λ k. Rest tokens depth b k to) h rest)
@@ -64,7 +68,8 @@ dyad_is_behind : (token : Option What) → extends_operand token ≡ true → is
 dyad_is_behind (Some (what.Word code)) extends dyad =
     let none = λ (k : ℕ) (no_dyad : is_dyad (Some (what.Word k)) ≡ false) (h : (code == k) ≡ true).
     clash _ dyad (ap (λ k. is_dyad (Some (what.Word k))) (eqb-true code k h) ∙ no_dyad) in
-    or_absurd (code == w.HRS) ((code == w.MIN) || ((code == w.SEC) || ((code == w.LWB) || (code == w.UPB)))) (none w.HRS refl)
+    or_absurd (code == w.HRS) ((code == w.MIN) || ((code == w.SEC) || ((code == w.LWB) || (code == w.UPB))))
+    (none w.HRS refl)
     (or_absurd (code == w.MIN) ((code == w.SEC) || ((code == w.LWB) || (code == w.UPB))) (none w.MIN refl)
     (or_absurd (code == w.SEC) ((code == w.LWB) || (code == w.UPB)) (none w.SEC refl)
     (or_absurd (code == w.LWB) (code == w.UPB) (none w.LWB refl) (none w.UPB refl)))) extends
@@ -83,7 +88,8 @@ dyad_is_behind None extends dyad = true≢false (sym extends)
 -- a chain from `from` ends early, or goes through `end` with all but `count` of its operators
 abbrev pub ChainGoes : List Token → ℕ → ℕ → ℕ → ℕ → ℕ → Type 0
 ChainGoes tokens depth from end stop count =
-    (others : List Token) → BeginAlike tokens others stop → (m n to : ℕ) (x : Primary) → SpellsSigned others depth from x m → Rest others depth n m to →
+    (others : List Token) → BeginAlike tokens others stop → (m n to : ℕ) (x : Primary) →
+    SpellsSigned others depth from x m → Rest others depth n m to →
     EndsEarly extends_expression others end to ⊎ ((j : ℕ) × (count + j ≡ n) × Rest others depth j end to)
 
 module _ (tokens : List Token) (depth from : ℕ) where
@@ -91,36 +97,54 @@ module _ (tokens : List Token) (depth from : ℕ) where
   after_operand : (others : List Token) (end m to count j n : ℕ) → Rest others depth j m to → count + j ≡ n →
       (m ≡ end) ⊎ EndsEarly extends_operand others end m →
       EndsEarly extends_expression others end to ⊎ ((j : ℕ) × (count + j ≡ n) × Rest others depth j end to)
-  after_operand others end m to count j n h size (inl same) = inr (j, size, subst (λ k. Rest others depth j k to) same h)
+  after_operand others end m to count j n h size (inl same) = inr (
+    j,
+    size,
+    subst (λ k. Rest others depth j k to) same h,
+  )
   after_operand others end m to count zero n h size (inr early) =
-      inl (omega (arith, h, early.0), subst (λ k. extends_expression (what_at others k) ≡ true) (sym h) (operand_extends (what_at others m) early.1))
-  after_operand others end m to count (suc j) n h size (inr early) = absurd (dyad_is_behind (what_at others m) early.1 h.1)
+      inl (
+        omega (arith, h, early.0),
+        subst (λ k. extends_expression (what_at others k) ≡ true) (sym h)
+            (operand_extends (what_at others m) early.1),
+      )
+  after_operand others end m to count (suc j) n h size (inr early) =
+      absurd (dyad_is_behind (what_at others m) early.1 h.1)
 
-  pub chain_begins : (end stop : ℕ) → IsLongest (λ tokens. SpellsSigned tokens depth) extends_operand tokens from end stop →
+  pub chain_begins : (end stop : ℕ) →
+      IsLongest (λ tokens. SpellsSigned tokens depth) extends_operand tokens from end stop →
       ChainGoes tokens depth from end stop 0
   chain_begins end stop longest = λ others agree m n to x first rest.
       after_operand others end m to 0 n n rest (omega arith) (longest others agree x m first)
 
   step : (others : List Token) (end next count n to : ℕ) → end < next → is_dyad (what_at others end) ≡ true →
-      ((x : Primary) (to : ℕ) → SpellsSigned others depth (end + 1) x to → (to ≡ next) ⊎ EndsEarly extends_operand others next to) →
+      ((x : Primary) (to : ℕ) → SpellsSigned others depth (end + 1) x to →
+      (to ≡ next) ⊎ EndsEarly extends_operand others next to) →
       EndsEarly extends_expression others end to ⊎ ((j : ℕ) × (count + j ≡ n) × Rest others depth j end to) →
       EndsEarly extends_expression others next to ⊎ ((j : ℕ) × (count + 1 + j ≡ n) × Rest others depth j next to)
   step others end next count n to ahead dyad longest (inl early) = inl (omega (arith, early.0), early.1)
   step others end next count n to ahead dyad longest (inr (zero, size, h)) =
-      inl (omega (arith, h), subst (λ k. extends_expression (what_at others k) ≡ true) (sym h) (dyad_extends (what_at others end) dyad))
+      inl (
+        omega (arith, h),
+        subst (λ k. extends_expression (what_at others k) ≡ true) (sym h)
+            (dyad_extends (what_at others end) dyad),
+      )
   step others end next count n to ahead dyad longest (inr (suc j, size, h)) =
       after_operand others next h.0 to (count + 1) j n h.3 (omega arith) (longest h.2.0 h.0 h.2.1)
 
-  pub chain_goes_on : (end stop next last new count : ℕ) (operator : Dyad) → ChainGoes tokens depth from end stop count →
+  pub chain_goes_on : (end stop next last new count : ℕ) (operator : Dyad) →
+      ChainGoes tokens depth from end stop count →
       end ≤ stop → end < next → stop ≤ new → last ≤ new → HasDyad tokens end operator →
       IsLongest (λ tokens. SpellsSigned tokens depth) extends_operand tokens (end + 1) next last →
       ChainGoes tokens depth from next new (count + 1)
-  chain_goes_on end stop next last new count operator go near ahead below reach dyad longest = λ others agree m n to x first rest.
+  chain_goes_on end stop next last new count operator go near ahead below reach dyad longest =
+      λ others agree m n to x first rest.
       step others end next count n to ahead (ap is_dyad (sym (agree end (omega arith))) ∙ ap is_some dyad)
       (λ x to h. longest others (shorter tokens others last new reach agree) x to h)
       (go others (shorter tokens others stop new below agree) m n to x first rest)
 
-  stops : (others : List Token) (end count n to : ℕ) → ((j : ℕ) → count + suc j ≡ n → Rest others depth (suc j) end to → ⊥) →
+  stops : (others : List Token) (end count n to : ℕ) →
+      ((j : ℕ) → count + suc j ≡ n → Rest others depth (suc j) end to → ⊥) →
       EndsEarly extends_expression others end to ⊎ ((j : ℕ) × (count + j ≡ n) × Rest others depth j end to) →
       (to ≡ end) ⊎ EndsEarly extends_expression others end to
   stops others end count n to stuck (inl early) = inr early
@@ -138,7 +162,8 @@ module _ (tokens : List Token) (depth from : ℕ) where
       (go others agree chain.0 (dyad_count x) to chain.1.0 chain.1.1 chain.2)
 
   -- no operand follows the operator
-  pub chain_is_stuck : (end stop last new count : ℕ) → ChainGoes tokens depth from end stop count → stop ≤ new → last ≤ new →
+  pub chain_is_stuck : (end stop last new count : ℕ) → ChainGoes tokens depth from end stop count →
+      stop ≤ new → last ≤ new →
       Stuck (λ tokens. SpellsSigned tokens depth) tokens (end + 1) last →
       IsLongest (λ tokens. SpellsExpr tokens depth) extends_expression tokens from end new
   chain_is_stuck end stop last new count go below reach stuck = λ others agree x to h.
@@ -157,13 +182,15 @@ module _ (tokens : List Token) (depth from : ℕ) where
       (go others agree chain.0 (dyad_count x) to chain.1.0 chain.1.1 chain.2)
 
   -- no operand begins it
-  pub no_chain : (stop : ℕ) → Stuck (λ tokens. SpellsSigned tokens depth) tokens from stop → Stuck (λ tokens. SpellsExpr tokens depth) tokens from stop
+  pub no_chain : (stop : ℕ) → Stuck (λ tokens. SpellsSigned tokens depth) tokens from stop →
+      Stuck (λ tokens. SpellsExpr tokens depth) tokens from stop
   no_chain stop stuck = λ others agree x to h.
       let chain = flat others depth from x to h.0 in
       stuck others agree chain.1.0 chain.0 chain.1.1
 
 -- why no expression is read, where no operand is
-pub no_chain_halted : (tokens : List Token) (depth from : ℕ) (halt : Halt) → IsHalted (λ tokens. SpellsSigned tokens depth) tokens from halt →
+pub no_chain_halted : (tokens : List Token) (depth from : ℕ) (halt : Halt) →
+    IsHalted (λ tokens. SpellsSigned tokens depth) tokens from halt →
     IsHalted (λ tokens. SpellsExpr tokens depth) tokens from halt
 no_chain_halted tokens depth from NoMemory h = tt
 no_chain_halted tokens depth from (Refused stop) h = (no_chain tokens depth from stop h.0, h.1, h.2)

@@ -1,5 +1,6 @@
 -- The ids that stand where one is missing: one letter is no word.
-use Rattle.std.proofs.Common.{◌≡◌, ◌≢◌, ℕ, zero, suc, Bool, true, false, true≢false, if◌then◌else◌, List, [], ◌∷◌, All, inl, inr, refl, sym, ap, ◌∙◌, arith}
+use Rattle.std.proofs.Common.{◌≡◌, ◌≢◌, ℕ, zero, suc, Bool, true, false, true≢false, if◌then◌else◌, List, [], ◌∷◌, All}
+use Rattle.std.proofs.Common.{inl, inr, refl, sym, ap, ◌∙◌, arith}
 use Rattle.pearl_tree.specs.Words.{words, meanings}
 use Rattle.pearl_tree.specs.Tokens.{IsLetter, IsIdByte, IsLawfulWhat}
 use Rattle.pearl_tree.specs.declared.name.Name.{Name}
@@ -34,8 +35,10 @@ both false c h = absurd (true≢false (sym h))
 
 unlike : (letter : ℕ) (rows : List (List ℕ × ℕ)) → all_long rows ≡ true → All (λ row. row.0 ≢ letter ∷ []) rows
 unlike letter [] h k d below = absurd (omega arith)
-unlike letter (row ∷ rows) h zero d below = λ same. true≢false (sym (both (two row.0) (all_long rows) h).0 ∙ ap two same)
-unlike letter (row ∷ rows) h (suc k) d below = unlike letter rows (both (two row.0) (all_long rows) h).1 k d (omega arith)
+unlike letter (row ∷ rows) h zero d below =
+    λ same. true≢false (sym (both (two row.0) (all_long rows) h).0 ∙ ap two same)
+unlike letter (row ∷ rows) h (suc k) d below = unlike letter rows (both (two row.0) (all_long rows) h).1 k d
+    (omega arith)
 
 words_are_long : all_long words ≡ true
 unfolding words meanings
@@ -46,7 +49,12 @@ letter_bytes letter is zero d below = inl is
 letter_bytes letter is (suc k) d below = absurd (omega arith)
 
 pub letter_lawful : (letter : ℕ) → IsLetter letter → IsLawfulWhat (letter_token letter).what
-letter_lawful letter is = record { begins = is; bytes = letter_bytes letter is; length = omega arith; no_word = unlike letter words words_are_long }
+letter_lawful letter is = record {
+  begins = is;
+  bytes = letter_bytes letter is;
+  length = omega arith;
+  no_word = unlike letter words words_are_long;
+}
 
 pub x_lawful : Lawful (x_token ∷ [])
 x_lawful = one_lawful x_token [] (letter_lawful 120 (inr (omega arith, omega arith))) none_lawful

@@ -1,6 +1,7 @@
--- Lists, brackets, references and operands with operators that go on as far as a stop: made of what was read and of a part
--- that goes on so far.
-use Rattle.std.proofs.Common.{◌≡◌, ℕ, zero, suc, ◌+◌, ◌-◌, ◌<◌, ◌≤◌, ◌^◌, List, [], ◌∷◌, ◌++◌, length, Option, Some, None, refl, sym, ap, subst, ◌∙◌, arith, inl, inr, ◌⊎◌, true, true≢false, Bool}
+-- Lists, brackets, references and operands with operators that go on as far as a stop: made of what was read and of
+-- a part that goes on so far.
+use Rattle.std.proofs.Common.{◌≡◌, ℕ, zero, suc, ◌+◌, ◌-◌, ◌<◌, ◌≤◌, ◌^◌, List, [], ◌∷◌, ◌++◌, length, Option, Some}
+use Rattle.std.proofs.Common.{None, Ok, Vec, refl, sym, ap, subst, ◌∙◌, arith, inl, inr, ◌⊎◌, true, true≢false, Bool}
 use Rattle.std.specs.Option.{option_map}
 use Rattle.pearl_tree.specs.declared.name.Name.{Name}
 use Rattle.pearl_tree.specs.declared.name.Number.{Number}
@@ -18,122 +19,170 @@ use Rattle.pearl_tree.specs.declared.expression.Selector as selector
 use Rattle.pearl_tree.specs.declared.token.What.{What}
 use Rattle.pearl_tree.specs.declared.token.What.TheVariants as what
 use Rattle.pearl_tree.specs.declared.token.Token.{Token}
-use Rattle.pearl_tree.specs.Standing.{Spelling, what_at, IsAt, IsName, HasWord, HasSymbol, SpellsEach, SpellsMore, SpellsList, SpellsMaybe, SpellsNumber}
-use Rattle.pearl_tree.specs.Expressions.{SpellsMonadic, SpellsTerms, SpellsExpr, SpellsPrimary, SpellsSelector, SpellsRef, HasDyad, dyad_count, side_word}
+use Rattle.pearl_tree.specs.Standing.{Spelling, what_at, IsAt, IsName, HasWord, HasSymbol, SpellsEach, SpellsMore}
+use Rattle.pearl_tree.specs.Standing.{SpellsList, SpellsMaybe, SpellsNumber}
+use Rattle.pearl_tree.specs.Expressions.{SpellsMonadic, SpellsTerms, SpellsExpr, SpellsPrimary, SpellsSelector}
+use Rattle.pearl_tree.specs.Expressions.{SpellsRef, HasDyad, dyad_count, side_word}
 use Rattle.pearl_tree.specs.declared.symbol.TheConstants as s
 use Rattle.pearl_tree.specs.declared.word_code.TheConstants as w
 use Rattle.pearl_tree.proofs.ExpressionLists.{spells_ref, spells_limit, spells_subscripts}
 use Rattle.pearl_tree.proofs.ExpressionsForward.{terms_after, selector_after, primary_after, monadics_after}
-use Rattle.pearl_parse_expr.specs.Stops.{EndsEarly, IsAhead, SpellsSigned, SpellsNamed, SpellsSelectorsList, SpellsSubscriptsList, SomeGoesOn, is_name}
+use Rattle.pearl_parse_expr.specs.Stops.{EndsEarly, IsAhead, SpellsSigned, SpellsOperand, SpellsNamed}
+use Rattle.pearl_parse_expr.specs.Stops.{SpellsSelectorsList, SpellsSubscriptsList, SomeGoesOn, extends_operand}
+use Rattle.pearl_parse_expr.specs.Stops.{extends_expression, extends_list, is_name}
+use Rattle.pearl_parse_expr.specs.declared.reading.Reading.{Reading}
 use Rattle.pearl_parse_expr.specs.Least.{AlikeBefore, Reaches, GoesTo}
+use Rattle.pearl_parse_expr.specs.Reads.{Reads, ReadsAs, ReadsList, ReadsOnly}
 use Rattle.pearl_parse_expr.proofs.Lists.{each_one_more, list_one_more}
 use Rattle.pearl_parse_expr.proofs.Local as local
-use Rattle.pearl_parse_expr.proofs.Reaching.{IsLocal, placed, placed_within, token_of, reached, reaches_as, reaches_closed, reach_of}
+use Rattle.pearl_parse_expr.proofs.Reaching.{IsLocal, placed, placed_within, token_of, reached, reaches_as}
+use Rattle.pearl_parse_expr.proofs.Reaching.{reaches_closed, reach_of}
 use Rattle.pearl_parse_expr.proofs.Trees.{boxed, parts_of, joins}
-use Rattle.pearl_parse_expr.proofs.Leaves.{primary_begins}
+use Rattle.pearl_parse_expr.proofs.PrimariesBegin.{primary_begins}
 
 -- ---- which parts are local
 
 pub selector_is_local : (depth : ℕ) → IsLocal (λ tokens. SpellsSelector tokens depth)
-selector_is_local depth tokens others k alike from x to h near = local.selector_local tokens others k alike depth from x to h near
+selector_is_local depth tokens others k alike from x to h near = local.selector_local tokens others k
+    alike depth from x to h near
 
 pub expr_is_local : (depth : ℕ) → IsLocal (λ tokens. SpellsExpr tokens depth)
-expr_is_local depth tokens others k alike from x to h near = (local.terms_local tokens others k alike depth from x to h.0 near, h.1)
+expr_is_local depth tokens others k alike from x to h near =
+    (local.terms_local tokens others k alike depth from x to h.0 near, h.1)
 
 -- ---- lists are local where their parts are
 
 module _ {X : Type 0} (spells : List Token → Spelling X) (is_local : IsLocal spells)
     (after : (tokens : List Token) (from : ℕ) (x : X) (to : ℕ) → spells tokens from x to → from < to) where
-  each_after : (tokens : List Token) (from : ℕ) (xs : List X) (to : ℕ) → SpellsEach (spells tokens) from xs to → from + length xs ≤ to
+  each_after : (tokens : List Token) (from : ℕ) (xs : List X) (to : ℕ) → SpellsEach (spells tokens) from xs to →
+      from + length xs ≤ to
   each_after tokens from [] to h = omega (arith, h)
   each_after tokens from (x ∷ xs) to h = omega (arith, after tokens from x h.0 h.1, each_after tokens h.0 xs to h.2)
 
   pub each_is_local : IsLocal (λ tokens. SpellsEach (spells tokens))
   each_is_local tokens others k alike from [] to h near = h
-  each_is_local tokens others k alike from (x ∷ xs) to h near =
-      (h.0, is_local tokens others k alike from x h.0 h.1 (omega (arith, each_after tokens h.0 xs to h.2)), each_is_local tokens others k alike h.0 xs to h.2 near)
+  each_is_local tokens others k alike from (x ∷ xs) to h near = (
+    h.0,
+    is_local tokens others k alike from x h.0 h.1 (omega (arith, each_after tokens h.0 xs to h.2)),
+    each_is_local tokens others k alike h.0 xs to h.2 near,
+  )
 
-  more_after : (tokens : List Token) (from : ℕ) (xs : List X) (to : ℕ) → SpellsMore tokens (spells tokens) from xs to → from + length xs ≤ to
+  more_after : (tokens : List Token) (from : ℕ) (xs : List X) (to : ℕ) → SpellsMore tokens (spells tokens) from xs to →
+      from + length xs ≤ to
   more_after tokens from [] to h = omega (arith, h)
-  more_after tokens from (x ∷ xs) to h = omega (arith, after tokens (from + 1) x h.0 h.2, more_after tokens h.0 xs to h.3)
+  more_after tokens from (x ∷ xs) to h = omega (
+    arith,
+    after tokens (from + 1) x h.0 h.2,
+    more_after tokens h.0 xs to h.3,
+  )
 
   more_is_local : IsLocal (λ tokens. SpellsMore tokens (spells tokens))
   more_is_local tokens others k alike from [] to h near = h
   more_is_local tokens others k alike from (x ∷ xs) to h near =
       let behind = more_after tokens h.0 xs to h.3 in
-      let inside = after tokens (from + 1) x h.0 h.2 in
-      (h.0, local.what tokens others k alike from (omega arith) ∙ h.1, is_local tokens others k alike (from + 1) x h.0 h.2 (omega arith), more_is_local tokens others k alike h.0 xs to h.3 near)
+      let inside = after tokens (from + 1) x h.0 h.2 in (
+        h.0,
+        local.what tokens others k alike from (omega arith) ∙ h.1,
+        is_local tokens others k alike (from + 1) x h.0 h.2 (omega arith),
+        more_is_local tokens others k alike h.0 xs to h.3 near,
+      )
 
-  pub list_after : (tokens : List Token) (from : ℕ) (xs : List X) (to : ℕ) → SpellsList tokens (spells tokens) from xs to → from + length xs ≤ to
+  pub list_after : (tokens : List Token) (from : ℕ) (xs : List X) (to : ℕ) →
+      SpellsList tokens (spells tokens) from xs to → from + length xs ≤ to
   list_after tokens from [] to h = absurd h
   list_after tokens from (x ∷ xs) to h = omega (arith, after tokens from x h.0 h.1, more_after tokens h.0 xs to h.2)
 
   pub list_is_local : IsLocal (λ tokens. SpellsList tokens (spells tokens))
   list_is_local tokens others k alike from [] to h near = h
-  list_is_local tokens others k alike from (x ∷ xs) to h near =
-      (h.0, is_local tokens others k alike from x h.0 h.1 (omega (arith, more_after tokens h.0 xs to h.2)), more_is_local tokens others k alike h.0 xs to h.2 near)
+  list_is_local tokens others k alike from (x ∷ xs) to h near = (
+    h.0,
+    is_local tokens others k alike from x h.0 h.1 (omega (arith, more_after tokens h.0 xs to h.2)),
+    more_is_local tokens others k alike h.0 xs to h.2 near,
+  )
 
 pub selectors_are_local : (depth : ℕ) → IsLocal (λ tokens. SpellsSelectorsList tokens depth)
-selectors_are_local depth = each_is_local (λ tokens. SpellsSelector tokens depth) (selector_is_local depth) (λ tokens from x to h. selector_after tokens depth from x to h)
+selectors_are_local depth = each_is_local (λ tokens. SpellsSelector tokens depth) (selector_is_local depth)
+    (λ tokens from x to h. selector_after tokens depth from x to h)
 
 pub subscripts_are_local : (depth : ℕ) → IsLocal (λ tokens. SpellsSubscriptsList tokens depth)
-subscripts_are_local depth = list_is_local (λ tokens. SpellsExpr tokens depth) (expr_is_local depth) (λ tokens from x to h. terms_after tokens depth from x to h.0)
+subscripts_are_local depth = list_is_local (λ tokens. SpellsExpr tokens depth) (expr_is_local depth)
+    (λ tokens from x to h. terms_after tokens depth from x to h.0)
 
-subscripts_after : (tokens : List Token) (depth from : ℕ) (xs : List Expr) (to : ℕ) → SpellsSubscriptsList tokens depth from xs to → from + length xs ≤ to
-subscripts_after tokens depth = list_after (λ tokens. SpellsExpr tokens depth) (expr_is_local depth) (λ tokens from x to h. terms_after tokens depth from x to h.0) tokens
+subscripts_after : (tokens : List Token) (depth from : ℕ) (xs : List Expr) (to : ℕ) →
+    SpellsSubscriptsList tokens depth from xs to → from + length xs ≤ to
+subscripts_after tokens depth = list_after (λ tokens. SpellsExpr tokens depth) (expr_is_local depth)
+    (λ tokens from x to h. terms_after tokens depth from x to h.0) tokens
 
-pub selectors_after : (tokens : List Token) (depth from : ℕ) (xs : List Selector) (to : ℕ) → SpellsSelectorsList tokens depth from xs to → from + length xs ≤ to
-selectors_after tokens depth = each_after (λ tokens. SpellsSelector tokens depth) (selector_is_local depth) (λ tokens from x to h. selector_after tokens depth from x to h) tokens
+pub selectors_after : (tokens : List Token) (depth from : ℕ) (xs : List Selector) (to : ℕ) →
+    SpellsSelectorsList tokens depth from xs to → from + length xs ≤ to
+selectors_after tokens depth = each_after (λ tokens. SpellsSelector tokens depth) (selector_is_local depth)
+    (λ tokens from x to h. selector_after tokens depth from x to h) tokens
 
 -- ---- loops
 
-pub subscripts_first : (tokens : List Token) (depth from stop : ℕ) → Reaches (λ tokens. SpellsExpr tokens depth) tokens from stop →
+pub subscripts_first : (tokens : List Token) (depth from stop : ℕ) →
+    Reaches (λ tokens. SpellsExpr tokens depth) tokens from stop →
     Reaches (λ tokens. SpellsSubscriptsList tokens depth) tokens from stop
 subscripts_first tokens depth from stop r =
-    reaches_as (λ tokens. SpellsExpr tokens depth) (λ tokens. SpellsSubscriptsList tokens depth) tokens from from stop (omega arith)
+    reaches_as (λ tokens. SpellsExpr tokens depth) (λ tokens. SpellsSubscriptsList tokens depth) tokens
+    from from stop (omega arith)
     (λ others alike long short x h. (x ∷ [], (length others, h, refl))) r
 
-pub subscripts_goes_on : (tokens : List Token) (depth from end stop : ℕ) (xs : List Expr) → SpellsSubscriptsList tokens depth from xs end → HasSymbol tokens end s.COMMA →
-    from ≤ end → end < stop → Reaches (λ tokens. SpellsExpr tokens depth) tokens (end + 1) stop → Reaches (λ tokens. SpellsSubscriptsList tokens depth) tokens from stop
+pub subscripts_goes_on : (tokens : List Token) (depth from end stop : ℕ) (xs : List Expr) →
+    SpellsSubscriptsList tokens depth from xs end → HasSymbol tokens end s.COMMA →
+    from ≤ end → end < stop → Reaches (λ tokens. SpellsExpr tokens depth) tokens (end + 1) stop →
+    Reaches (λ tokens. SpellsSubscriptsList tokens depth) tokens from stop
 subscripts_goes_on tokens depth from end stop xs list comma ahead near r =
-    reaches_as (λ tokens. SpellsExpr tokens depth) (λ tokens. SpellsSubscriptsList tokens depth) tokens from (end + 1) stop (omega arith)
+    reaches_as (λ tokens. SpellsExpr tokens depth) (λ tokens. SpellsSubscriptsList tokens depth) tokens from
+    (end + 1) stop (omega arith)
     (λ others alike long short x h. (
       xs ++ x ∷ [],
       list_one_more others (SpellsExpr others depth) xs from end (length others) x
-          (subscripts_are_local depth tokens others stop alike from xs end list (omega arith)) (local.what tokens others stop alike end near ∙ comma) h,
+          (subscripts_are_local depth tokens others stop alike from xs end list (omega arith))
+          (local.what tokens others stop alike end near ∙ comma) h,
     )) r
 
-pub selectors_go_on : (tokens : List Token) (depth from end stop : ℕ) (xs : List Selector) → SpellsSelectorsList tokens depth from xs end →
-    from ≤ end → end ≤ stop → Reaches (λ tokens. SpellsSelector tokens depth) tokens end stop → Reaches (λ tokens. SpellsSelectorsList tokens depth) tokens from stop
+pub selectors_go_on : (tokens : List Token) (depth from end stop : ℕ) (xs : List Selector) →
+    SpellsSelectorsList tokens depth from xs end →
+    from ≤ end → end ≤ stop → Reaches (λ tokens. SpellsSelector tokens depth) tokens end stop →
+    Reaches (λ tokens. SpellsSelectorsList tokens depth) tokens from stop
 selectors_go_on tokens depth from end stop xs list ahead near r =
-    reaches_as (λ tokens. SpellsSelector tokens depth) (λ tokens. SpellsSelectorsList tokens depth) tokens from end stop (omega arith)
+    reaches_as (λ tokens. SpellsSelector tokens depth) (λ tokens. SpellsSelectorsList tokens depth) tokens
+    from end stop (omega arith)
     (λ others alike long short x h. (
       xs ++ x ∷ [],
-      each_one_more (SpellsSelector others depth) xs from end (length others) x (selectors_are_local depth tokens others stop alike from xs end list near) h,
+      each_one_more (SpellsSelector others depth) xs from end (length others) x
+          (selectors_are_local depth tokens others stop alike from xs end list near) h,
     )) r
 
 -- ---- brackets
 
-module _ (tokens : List Token) (depth from stop : ℕ) (few : length tokens < 2 ^ 55) (deep : 0 < depth) (bracket : HasSymbol tokens from s.LEFT_ROUND)
+module _ (tokens : List Token) (depth from stop : ℕ) (few : length tokens < 2 ^ 55) (deep : 0 < depth)
+    (bracket : HasSymbol tokens from s.LEFT_ROUND)
     (near : from < stop) (within : stop ≤ length tokens) where
-  opens : (others : List Token) → AlikeBefore tokens others stop → (place : ℕ) × IsAt others from place × HasSymbol others from s.LEFT_ROUND
+  opens : (others : List Token) → AlikeBefore tokens others stop →
+      (place : ℕ) × IsAt others from place × HasSymbol others from s.LEFT_ROUND
   opens others alike =
       let stands = local.what tokens others stop alike from near ∙ bracket in
       let at = placed others from (what.Symbol s.LEFT_ROUND) stands in
       (at.0, at.1, stands)
 
-  pub group_reaches : Reaches (λ tokens. SpellsExpr tokens (depth - 1)) tokens (from + 1) stop → Reaches (λ tokens. SpellsPrimary tokens depth) tokens from stop
+  pub group_reaches : Reaches (λ tokens. SpellsExpr tokens (depth - 1)) tokens (from + 1) stop →
+      Reaches (λ tokens. SpellsPrimary tokens depth) tokens from stop
   group_reaches r =
-      reaches_closed (λ tokens. SpellsExpr tokens (depth - 1)) (λ tokens. SpellsPrimary tokens depth) tokens from (from + 1) stop (token_of (what.Symbol s.RIGHT_ROUND)) (omega arith) (omega arith)
+      reaches_closed (λ tokens. SpellsExpr tokens (depth - 1)) (λ tokens. SpellsPrimary tokens depth) tokens from
+      (from + 1) stop (token_of (what.Symbol s.RIGHT_ROUND)) (omega arith) (omega arith)
       (λ others alike short m size end x h.
       let open_ = opens others alike in (
         primary.Group (boxed x) open_.0,
         (m, open_.1, open_.2, deep, h, ap (option_map (λ token. token.what)) end, refl),
       )) (expr_is_local (depth - 1)) r
 
-  pub bracketed_reaches : Reaches (λ tokens. SpellsSubscriptsList tokens (depth - 1)) tokens (from + 1) stop → Reaches (λ tokens. SpellsSelector tokens depth) tokens from stop
+  pub bracketed_reaches : Reaches (λ tokens. SpellsSubscriptsList tokens (depth - 1)) tokens (from + 1) stop →
+      Reaches (λ tokens. SpellsSelector tokens depth) tokens from stop
   bracketed_reaches r =
-      reaches_closed (λ tokens. SpellsSubscriptsList tokens (depth - 1)) (λ tokens. SpellsSelector tokens depth) tokens from (from + 1) stop (token_of (what.Symbol s.RIGHT_ROUND)) (omega arith) (omega arith)
+      reaches_closed (λ tokens. SpellsSubscriptsList tokens (depth - 1)) (λ tokens. SpellsSelector tokens depth) tokens
+      from (from + 1) stop (token_of (what.Symbol s.RIGHT_ROUND)) (omega arith) (omega arith)
       (λ others alike short m size end xs h.
       let open_ = opens others alike in
       let short : length xs < 2 ^ 63 = omega (arith, subscripts_after others (depth - 1) (from + 1) xs m h) in (
@@ -162,7 +211,8 @@ name_of tokens k h =
     (record { text = n.0.text; place = at.0 }, (n.1, at.1))
 
 -- the reference that a name and selectors make
-pub named : (tokens : List Token) (depth from : ℕ) (xs : List Selector) (to : ℕ) → SpellsNamed tokens depth from xs to → length xs < 2 ^ 63 →
+pub named : (tokens : List Token) (depth from : ℕ) (xs : List Selector) (to : ℕ) → SpellsNamed tokens depth from xs to →
+    length xs < 2 ^ 63 →
     (r : Ref) × SpellsRef tokens depth from r to
 named tokens depth from xs to h few =
     let n = name_of tokens from h.0 in
@@ -170,45 +220,65 @@ named tokens depth from xs to h few =
 
 module _ (tokens : List Token) (depth : ℕ) where
   pub named_reaches : (from stop : ℕ) → is_name (what_at tokens from) ≡ true → from < stop →
-      Reaches (λ tokens. SpellsSelectorsList tokens depth) tokens (from + 1) stop → Reaches (λ tokens. SpellsNamed tokens depth) tokens from stop
+      Reaches (λ tokens. SpellsSelectorsList tokens depth) tokens (from + 1) stop →
+      Reaches (λ tokens. SpellsNamed tokens depth) tokens from stop
   named_reaches from stop name near r =
-      reaches_as (λ tokens. SpellsSelectorsList tokens depth) (λ tokens. SpellsNamed tokens depth) tokens from (from + 1) stop (omega arith)
+      reaches_as (λ tokens. SpellsSelectorsList tokens depth) (λ tokens. SpellsNamed tokens depth) tokens from
+      (from + 1) stop (omega arith)
       (λ others alike long short xs h. (xs, (ap is_name (local.what tokens others stop alike from near) ∙ name, h))) r
 
-  pub ref_reaches : (from stop : ℕ) → length tokens < 2 ^ 55 → stop ≤ length tokens → Reaches (λ tokens. SpellsNamed tokens depth) tokens from stop → Reaches (λ tokens. SpellsPrimary tokens depth) tokens from stop
+  pub ref_reaches : (from stop : ℕ) → length tokens < 2 ^ 55 → stop ≤ length tokens →
+      Reaches (λ tokens. SpellsNamed tokens depth) tokens from stop →
+      Reaches (λ tokens. SpellsPrimary tokens depth) tokens from stop
   ref_reaches from stop few within r =
-      reaches_as (λ tokens. SpellsNamed tokens depth) (λ tokens. SpellsPrimary tokens depth) tokens from from stop (omega arith)
+      reaches_as (λ tokens. SpellsNamed tokens depth) (λ tokens. SpellsPrimary tokens depth) tokens
+      from from stop (omega arith)
       (λ others alike long short xs h.
       let small : length xs < 2 ^ 63 = omega (arith, selectors_after others depth (from + 1) xs (length others) h.1) in
       let ref = named others depth from xs (length others) h small in
       (primary.Ref ref.0, subst (λ X. X) (sym (spells_ref others depth from ref.0 (length others))) ref.1)) r
 
-  dimension_within : (others : List Token) (from word : ℕ) (dimension : Option Number) → SpellsMaybe (SpellsNumber others) from dimension word → from ≤ word
+  dimension_within : (others : List Token) (from word : ℕ) (dimension : Option Number) →
+      SpellsMaybe (SpellsNumber others) from dimension word → from ≤ word
   dimension_within others from word None h = omega (arith, h)
   dimension_within others from word (Some x) h = omega (arith, h.1)
 
-  pub limit_reaches : (from word stop : ℕ) (dimension : Option Number) (side : Side) → SpellsMaybe (SpellsNumber tokens) from dimension word →
+  pub limit_reaches : (from word stop : ℕ) (dimension : Option Number) (side : Side) →
+      SpellsMaybe (SpellsNumber tokens) from dimension word →
       HasWord tokens word (side_word side) → word < stop → length tokens < 2 ^ 55 → stop ≤ length tokens →
-      Reaches (λ tokens. SpellsNamed tokens depth) tokens (word + 1) stop → Reaches (λ tokens. SpellsPrimary tokens depth) tokens from stop
+      Reaches (λ tokens. SpellsNamed tokens depth) tokens (word + 1) stop →
+      Reaches (λ tokens. SpellsPrimary tokens depth) tokens from stop
   limit_reaches from word stop dimension side number stands near few within r =
       let before = dimension_within tokens from word dimension number in
-      reaches_as (λ tokens. SpellsNamed tokens depth) (λ tokens. SpellsPrimary tokens depth) tokens from (word + 1) stop (omega arith)
+      reaches_as (λ tokens. SpellsNamed tokens depth) (λ tokens. SpellsPrimary tokens depth) tokens from
+      (word + 1) stop (omega arith)
       (λ others alike long short xs h.
-      let small : length xs < 2 ^ 63 = omega (arith, selectors_after others depth (word + 1 + 1) xs (length others) h.1) in
+      let small : length xs < 2 ^ 63 = omega (arith, selectors_after others depth (word + 1 + 1) xs (length others) h.1)
+      in
       let ref = named others depth (word + 1) xs (length others) h small in
       let at = placed_within others from (omega arith) in (
         primary.Limit dimension side (boxed ref.0) at.0,
-        subst (λ X. X) (sym (spells_limit others depth from dimension side (boxed ref.0) at.0 (length others)))
-            (word, at.1, local.dimension_local tokens others stop alike from dimension word number (omega arith), local.what tokens others stop alike word near ∙ stands, ref.1),
+        subst (λ X. X) (sym (spells_limit others depth from dimension side (boxed ref.0) at.0 (length others))) (
+          word,
+          at.1,
+          local.dimension_local tokens others stop alike from dimension word number (omega arith),
+          local.what tokens others stop alike word near ∙ stands,
+          ref.1,
+        ),
       )) r
 
   -- ---- operands and chains
 
-  pub operand_reaches : (from at stop : ℕ) (list : List Monadic) → SpellsEach (SpellsMonadic tokens) from list at → length list ≤ 8 → from ≤ at → at ≤ stop →
-      Reaches (λ tokens. SpellsPrimary tokens depth) tokens at stop → Reaches (λ tokens. SpellsSigned tokens depth) tokens from stop
+  pub operand_reaches : (from at stop : ℕ) (list : List Monadic) → SpellsEach (SpellsMonadic tokens) from list at →
+      length list ≤ 8 → from ≤ at → at ≤ stop →
+      Reaches (λ tokens. SpellsPrimary tokens depth) tokens at stop →
+      Reaches (λ tokens. SpellsSigned tokens depth) tokens from stop
   operand_reaches from at stop list each few before near r =
       reaches_as (λ tokens. SpellsPrimary tokens depth) (λ tokens. SpellsSigned tokens depth) tokens from at stop before
-      (λ others alike long short x h. (x, (at, list, few, local.monadics_local tokens others stop alike from list at each near, h))) r
+      (λ others alike long short x h. (
+        x,
+        (at, list, few, local.monadics_local tokens others stop alike from list at each near, h),
+      )) r
 
   as_operand : (others : List Token) (from : ℕ) (x : Primary) → SpellsSigned others depth from x (length others) →
       (operand : Operand) × SpellsTerms others depth from (tree.Operand operand) (length others)
@@ -219,20 +289,29 @@ module _ (tokens : List Token) (depth : ℕ) where
       let few : length h.1 < 2 ^ 63 = omega (arith, h.2) in
       (record { monadics = parts_of h.1 few; primary = x; place = at.0 }, (h.0, at.1, h.2, h.3, h.4))
 
-  pub chain_reaches : (from stop : ℕ) → Reaches (λ tokens. SpellsSigned tokens depth) tokens from stop → Reaches (λ tokens. SpellsExpr tokens depth) tokens from stop
+  pub chain_reaches : (from stop : ℕ) → Reaches (λ tokens. SpellsSigned tokens depth) tokens from stop →
+      Reaches (λ tokens. SpellsExpr tokens depth) tokens from stop
   chain_reaches from stop r =
-      reaches_as (λ tokens. SpellsSigned tokens depth) (λ tokens. SpellsExpr tokens depth) tokens from from stop (omega arith)
-      (λ others alike long short x h. let operand = as_operand others from x h in (tree.Operand operand.0, (operand.1, omega arith))) r
+      reaches_as (λ tokens. SpellsSigned tokens depth) (λ tokens. SpellsExpr tokens depth) tokens
+      from from stop (omega arith)
+      (λ others alike long short x h. let operand = as_operand others from x h in (
+        tree.Operand operand.0,
+        (operand.1, omega arith),
+      )) r
 
-  pub chain_goes_further : (from end stop : ℕ) (expr : Expr) (dyadic : Dyadic) → SpellsTerms tokens depth from expr end → dyad_count expr < 100 →
+  pub chain_goes_further : (from end stop : ℕ) (expr : Expr) (dyadic : Dyadic) →
+      SpellsTerms tokens depth from expr end → dyad_count expr < 100 →
       HasDyad tokens end dyadic.operator → IsAt tokens end dyadic.place → from ≤ end → end < stop →
-      Reaches (λ tokens. SpellsSigned tokens depth) tokens (end + 1) stop → Reaches (λ tokens. SpellsExpr tokens depth) tokens from stop
+      Reaches (λ tokens. SpellsSigned tokens depth) tokens (end + 1) stop →
+      Reaches (λ tokens. SpellsExpr tokens depth) tokens from stop
   chain_goes_further from end stop expr dyadic h few has at before near r =
-      reaches_as (λ tokens. SpellsSigned tokens depth) (λ tokens. SpellsExpr tokens depth) tokens from (end + 1) stop (omega arith)
+      reaches_as (λ tokens. SpellsSigned tokens depth) (λ tokens. SpellsExpr tokens depth) tokens from
+      (end + 1) stop (omega arith)
       (λ others alike long short x g.
       let operand = as_operand others (end + 1) x g in
       let joined = joins others depth from end (length others) expr dyadic operand.0
-      (local.terms_local tokens others stop alike depth from expr end h (omega arith)) (local.dyad tokens others stop alike end dyadic.operator near has)
+      (local.terms_local tokens others stop alike depth from expr end h (omega arith))
+      (local.dyad tokens others stop alike end dyadic.operator near has)
       (local.place tokens others stop alike end near ∙ at) operand.1 in
       (joined.expr, (joined.spelled, omega (arith, joined.counted)))) r
 
@@ -240,32 +319,62 @@ module _ (tokens : List Token) (depth : ℕ) where
 
 signed_is_local : (depth : ℕ) → IsLocal (λ tokens. SpellsSigned tokens depth)
 signed_is_local depth tokens others k alike from x to h near =
-    let behind = primary_after tokens depth h.0 x to h.4 in
-    (h.0, h.1, h.2, local.monadics_local tokens others k alike from h.1 h.0 h.3 (omega arith), local.primary_local tokens others k alike depth h.0 x to h.4 near)
+    let behind = primary_after tokens depth h.0 x to h.4 in (
+      h.0,
+      h.1,
+      h.2,
+      local.monadics_local tokens others k alike from h.1 h.0 h.3 (omega arith),
+      local.primary_local tokens others k alike depth h.0 x to h.4 near,
+    )
 
-module _ (tokens : List Token) (depth from end stop : ℕ) (ahead : IsAhead tokens from end stop) where
-  pub expr_reach : (x : Expr) → SpellsExpr tokens depth from x end → GoesTo (λ tokens. SpellsExpr tokens depth) tokens from end stop →
-      Reaches (λ tokens. SpellsExpr tokens depth) tokens from stop
-  expr_reach x h g = reach_of (λ tokens. SpellsExpr tokens depth) tokens (expr_is_local depth) from x end stop h (omega (arith, ahead)) (omega (arith, ahead)) g
+-- a part that was read to `end` goes on as far as it was stopped
+read_reaches : {X : Type 0} (spells : List Token → Spelling X) → IsLocal spells →
+    (tokens : List Token) (from end stop : ℕ) (x : X) →
+    spells tokens from x end → IsAhead tokens from end stop → GoesTo spells tokens from end stop →
+    Reaches spells tokens from stop
+read_reaches spells local tokens from end stop x h ahead least =
+    reach_of spells tokens local from x end stop h (omega (arith, ahead)) (omega (arith, ahead)) least
 
-  pub selector_reach : (x : Selector) → SpellsSelector tokens depth from x end → GoesTo (λ tokens. SpellsSelector tokens depth) tokens from end stop →
-      Reaches (λ tokens. SpellsSelector tokens depth) tokens from stop
-  selector_reach x h g = reach_of (λ tokens. SpellsSelector tokens depth) tokens (selector_is_local depth) from x end stop h (omega (arith, ahead)) (omega (arith, ahead)) g
+module _ (tokens : List Token) (depth from : ℕ) where
+  pub expr_reach : (reading : Reading Expr) →
+      Reads 16 (λ tokens. SpellsExpr tokens depth) extends_expression tokens from (Ok reading) →
+      Reaches (λ tokens. SpellsExpr tokens depth) tokens from reading.stop
+  expr_reach reading read =
+      read_reaches (λ tokens. SpellsExpr tokens depth) (expr_is_local depth) tokens from reading.end
+      reading.stop reading.part
+      read.spells read.ahead read.least
 
-  pub subscripts_reach : (xs : List Expr) → SpellsSubscriptsList tokens depth from xs end → GoesTo (λ tokens. SpellsSubscriptsList tokens depth) tokens from end stop →
-      Reaches (λ tokens. SpellsSubscriptsList tokens depth) tokens from stop
-  subscripts_reach xs h g = reach_of (λ tokens. SpellsSubscriptsList tokens depth) tokens (subscripts_are_local depth) from xs end stop h (omega (arith, ahead)) (omega (arith, ahead)) g
+  pub selector_reach : (reading : Reading Selector) →
+      ReadsOnly 16 (λ tokens. SpellsSelector tokens depth) tokens from (Ok reading) →
+      Reaches (λ tokens. SpellsSelector tokens depth) tokens from reading.stop
+  selector_reach reading read =
+      read_reaches (λ tokens. SpellsSelector tokens depth) (selector_is_local depth) tokens from reading.end
+      reading.stop reading.part
+      read.spells read.ahead read.least
+
+  pub subscripts_reach : {A : Type 0} (reading : Reading (Vec Expr A)) →
+      ReadsList 16 (λ tokens. SpellsSubscriptsList tokens depth) extends_list tokens from (Ok reading) →
+      Reaches (λ tokens. SpellsSubscriptsList tokens depth) tokens from reading.stop
+  subscripts_reach reading read =
+      read_reaches (λ tokens. SpellsSubscriptsList tokens depth) (subscripts_are_local depth) tokens from
+      reading.end reading.stop
+      reading.part.items read.spells read.ahead read.least
 
   -- an operand, as it was read
-  pub signed_reach : (operand : Operand) → SpellsTerms tokens depth from (tree.Operand operand) end → GoesTo (λ tokens. SpellsSigned tokens depth) tokens from end stop →
-      Reaches (λ tokens. SpellsSigned tokens depth) tokens from stop
-  signed_reach operand h g =
-      reach_of (λ tokens. SpellsSigned tokens depth) tokens (signed_is_local depth) from operand.primary end stop (h.0, operand.monadics.items.items, h.2, h.3, h.4)
-      (omega (arith, ahead)) (omega (arith, ahead)) g
+  pub signed_reach : (reading : Reading Operand) →
+      ReadsAs 16 (λ tokens. SpellsOperand tokens depth) (λ tokens. SpellsSigned tokens depth) extends_operand
+      tokens from (Ok reading) →
+      Reaches (λ tokens. SpellsSigned tokens depth) tokens from reading.stop
+  signed_reach reading read =
+      let h = read.spells in
+      read_reaches (λ tokens. SpellsSigned tokens depth) (signed_is_local depth) tokens from reading.end reading.stop
+      reading.part.primary (h.0, reading.part.monadics.items.items, h.2, h.3, h.4) read.ahead read.least
 
-pub selectors_begin : (tokens : List Token) (depth from : ℕ) → from ≤ length tokens → Reaches (λ tokens. SpellsSelectorsList tokens depth) tokens from from
+pub selectors_begin : (tokens : List Token) (depth from : ℕ) → from ≤ length tokens →
+    Reaches (λ tokens. SpellsSelectorsList tokens depth) tokens from from
 selectors_begin tokens depth from within =
-    reached (λ tokens. SpellsSelectorsList tokens depth) tokens (selectors_are_local depth) from [] from refl (omega arith) within
+    reached (λ tokens. SpellsSelectorsList tokens depth) tokens (selectors_are_local depth) from [] from
+    refl (omega arith) within
 
 -- ---- an expression for a stop past the tokens
 
@@ -277,15 +386,26 @@ pad_length : (n : ℕ) → length (pad n) ≡ n
 pad_length zero = refl
 pad_length (suc n) = ap suc (pad_length n)
 
-pub goes_on : (tokens : List Token) (from stop : ℕ) → Reaches (λ tokens. SpellsExpr tokens 32) tokens from stop → SomeGoesOn tokens from stop
-goes_on tokens from stop r = (r.part, length r.others, r.others, (λ j above below. r.alike j below), r.spelled, r.long, r.lawful)
+pub goes_on : (tokens : List Token) (from stop : ℕ) → Reaches (λ tokens. SpellsExpr tokens 32) tokens from stop →
+    SomeGoesOn tokens from stop
+goes_on tokens from stop r = (
+  r.part,
+  length r.others,
+  r.others,
+  (λ j above below. r.alike j below),
+  r.spelled,
+  r.long,
+  r.lawful,
+)
 
 pub goes_on_past : (tokens : List Token) (from : ℕ) → SomeGoesOn tokens from from
 goes_on_past tokens from =
     let within : from ≤ length (pad from) = omega (arith, pad_length from) in
-    let r = chain_reaches (pad from) 32 from from (operand_reaches (pad from) 32 from from from [] refl (omega arith) (omega arith) (omega arith) (primary_begins (pad from) 32 from within)) in
+    let r = chain_reaches (pad from) 32 from from (operand_reaches (pad from) 32 from from from [] refl (omega arith)
+    (omega arith) (omega arith) (primary_begins (pad from) 32 from within)) in
     (r.part, length r.others, r.others, (λ j above below. absurd (omega arith)), r.spelled, r.long, r.lawful)
 
-pub ends_within : (extends : Option What → Bool) (others : List Token) (end stop to : ℕ) → end ≤ stop → (to ≡ end) ⊎ EndsEarly extends others end to → to ≤ stop
+pub ends_within : (extends : Option What → Bool) (others : List Token) (end stop to : ℕ) → end ≤ stop →
+    (to ≡ end) ⊎ EndsEarly extends others end to → to ≤ stop
 ends_within extends others end stop to near (inl e) = omega (arith, e)
 ends_within extends others end stop to near (inr e) = omega (arith, e.0)

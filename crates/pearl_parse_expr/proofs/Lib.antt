@@ -7,13 +7,16 @@ pub mod Halts
 pub mod Readings
 pub mod Limits
 pub mod Closings
+pub mod Loops
+pub mod Operands
 pub mod PastEnd
 pub mod Between
 pub mod Local
 pub mod Reaching
 pub mod Ids
 pub mod Trees
-pub mod Leaves
+pub mod Durations
+pub mod PrimariesBegin
 pub mod Joining
 pub mod PartsBegin
 pub mod OneStop

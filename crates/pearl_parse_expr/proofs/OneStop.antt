@@ -1,5 +1,6 @@
 -- Which tokens settle the stop of expressions: those from where they begin. So they have one stop.
-use Rattle.std.proofs.Common.{◌≡◌, ◌⊎◌, inl, inr, ℕ, zero, suc, ◌+◌, ◌-◌, ◌<◌, ◌≤◌, List, [], ◌∷◌, length, drop, slice_get, refl, sym, ap, ◌∙◌, arith}
+use Rattle.std.proofs.Common.{◌≡◌, ◌⊎◌, inl, inr, ℕ, zero, suc, ◌+◌, ◌-◌, ◌<◌, ◌≤◌, List, [], ◌∷◌, length, drop}
+use Rattle.std.proofs.Common.{slice_get, refl, sym, ap, ◌∙◌, arith}
 use Rattle.std.specs.Option.{option_map}
 use Rattle.pearl_tree.specs.declared.token.Token.{Token}
 use Rattle.pearl_tree.specs.declared.expression.Expr.{Expr}
@@ -25,10 +26,12 @@ module _ (tokens : List Token) (from k : ℕ) (within : from ≤ length tokens) 
   behind : (others : List Token) (j : ℕ) → from ≤ j → slice_get (spliced others) j ≡ slice_get others j
   behind others j above =
       let place : j ≡ from + (j - from) = omega arith in
-      stands tokens from (drop from others) within (j - from) j place ∙ rest_at others from (j - from) ∙ ap (slice_get others) (sym place)
+      stands tokens from (drop from others) within (j - from) j place ∙ rest_at others from (j - from) ∙
+      ap (slice_get others) (sym place)
 
   pub none_goes_on :
-      ((others : List Token) → BeginAlike tokens others k → (expr : Expr) (to : ℕ) → SpellsWhole others from expr to → to ≤ k) →
+      ((others : List Token) → BeginAlike tokens others k → (expr : Expr) (to : ℕ) →
+      SpellsWhole others from expr to → to ≤ k) →
       NoneGoesOn tokens from k
   none_goes_on none expr to others agree h = none (spliced others) alike expr to moved
     where
@@ -39,12 +42,16 @@ module _ (tokens : List Token) (from k : ℕ) (within : from ≤ length tokens) 
       alike j near = by (order j from)
         where
           by : (j < from) ⊎ (from ≤ j) → what_at tokens j ≡ what_at (spliced others) j
-          by (inl before) = ap (option_map (λ token. token.what)) (begun_alike tokens from (drop from others) within j before)
+          by (inl before) = ap (option_map (λ token. token.what))
+              (begun_alike tokens from (drop from others) within j before)
           by (inr above) = agree j above near ∙ sym (what j above)
 
       moved : SpellsWhole (spliced others) from expr to
-      moved =
-          (terms_local others (spliced others) from to (λ j above below. sym (behind others j above)) 32 from expr to h.0 (omega arith) (omega arith), h.1)
+      moved = (
+        terms_local others (spliced others) from to (λ j above below. sym (behind others j above)) 32 from expr to
+            h.0 (omega arith) (omega arith),
+        h.1,
+      )
 
 not_less : (tokens : List Token) (from k n : ℕ) → NoneGoesOn tokens from k → SomeGoesOn tokens from n → k < n → ⊥
 not_less tokens from k n none some below =
@@ -62,6 +69,7 @@ equal k n less more = by (order k n) (order n k)
 
 pub one_stop : HasOneStop
 one_stop tokens from place other one two =
-    let same : one.token ≡ two.token = equal one.token two.token (not_less tokens from one.token two.token one.none two.some)
+    let same : one.token ≡ two.token =
+    equal one.token two.token (not_less tokens from one.token two.token one.none two.some)
     (not_less tokens from two.token one.token two.none one.some) in
     one.stands ∙ ap (stop_place tokens) same ∙ sym two.stands

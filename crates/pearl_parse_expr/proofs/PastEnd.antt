@@ -1,5 +1,6 @@
 -- Past the last token nothing begins.
-use Rattle.std.proofs.Common.{◌≡◌, ℕ, zero, suc, ◌-◌, ◌≤◌, ◌^◌, List, [], ◌∷◌, length, Some, None, slice_get, unwrap_or, refl, sym, ap, subst, ◌∙◌, arith, true≢false}
+use Rattle.std.proofs.Common.{◌≡◌, ℕ, zero, suc, ◌-◌, ◌≤◌, ◌^◌, List, [], ◌∷◌, length, Some, None, slice_get, unwrap_or}
+use Rattle.std.proofs.Common.{refl, sym, ap, subst, ◌∙◌, arith, true≢false}
 use Rattle.std.specs.Option.{option_map}
 use Rattle.pearl_tree.specs.declared.expression.Expr.{Expr}
 use Rattle.pearl_tree.specs.declared.expression.Monadic.{Monadic}
@@ -21,7 +22,8 @@ pub no_token : (tokens : List Token) (k : ℕ) → length tokens ≤ k → what_
 no_token tokens k past = ap (option_map (λ token. token.what)) (nothing tokens k past)
 
 pub no_place : (tokens : List Token) (k : ℕ) → length tokens ≤ k → stop_place tokens k ≡ 2 ^ 32 - 1
-no_place tokens k past = ap (λ token. unwrap_or (option_map (λ token. token.place) token) (2 ^ 32 - 1)) (nothing tokens k past)
+no_place tokens k past = ap (λ token. unwrap_or (option_map (λ token. token.place) token) (2 ^ 32 - 1))
+    (nothing tokens k past)
 
 no_head : (x : Primary) → Head x None → ⊥
 no_head (primary.Literal part) h = true≢false (sym h)
@@ -32,13 +34,17 @@ no_head (primary.Try name place) h = true≢false (sym h)
 no_head (primary.Limit' None side _ name _ list ref_place place) h = true≢false (sym h)
 no_head (primary.Limit' (Some number) side _ name _ list ref_place place) h = true≢false (sym h)
 
-no_operand : (tokens : List Token) (depth from m to : ℕ) (list : List Monadic) (x : Primary) → what_at tokens from ≡ None →
+no_operand : (tokens : List Token) (depth from m to : ℕ) (list : List Monadic) (x : Primary) →
+    what_at tokens from ≡ None →
     SpellsEach (SpellsMonadic tokens) from list m → SpellsPrimary tokens depth m x to → ⊥
 no_operand tokens depth from m to [] x none each part =
-    no_head x (subst (Head x) none (first_token tokens depth from x to (subst (λ k. SpellsPrimary tokens depth k x to) each part)))
+    no_head x
+    (subst (Head x) none
+    (first_token tokens depth from x to (subst (λ k. SpellsPrimary tokens depth k x to) each part)))
 no_operand tokens depth from m to (y ∷ ys) x none each part = cc (sym none ∙ each.1.0)
 
-pub no_expression : (tokens : List Token) (depth from : ℕ) → what_at tokens from ≡ None → (x : Expr) (to : ℕ) → SpellsExpr tokens depth from x to → ⊥
+pub no_expression : (tokens : List Token) (depth from : ℕ) → what_at tokens from ≡ None → (x : Expr) (to : ℕ) →
+    SpellsExpr tokens depth from x to → ⊥
 no_expression tokens depth from none x to h =
     let chain = flat tokens depth from x to h.0 in
     let operand = chain.1.1 in

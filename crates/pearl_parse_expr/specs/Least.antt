@@ -15,9 +15,10 @@ AlikeBefore tokens others k = (j : ℕ) → j < k → slice_get tokens j ≡ sli
 abbrev pub LawfulFrom : List Token → ℕ → Type 0
 LawfulFrom tokens k = (j : ℕ) → k ≤ j → IfSome (what_at tokens j) IsLawfulWhat
 
--- some tokens that are these before number `stop`, and lawful ones from there on, spell a part from `from` that ends with
--- them; from there on stand at most eight for each token of the part before it, and `room` more
-pub record ReachesIn {X : Type 0} (room : ℕ) (spells : List Token → Spelling X) (tokens : List Token) (from stop : ℕ) : Type 0 where
+-- some tokens that are these before number `stop`, and lawful ones from there on, spell a part from `from` that ends
+-- with them; from there on stand at most eight for each token of the part before it, and `room` more
+pub record ReachesIn {X : Type 0} (room : ℕ) (spells : List Token → Spelling X) (tokens : List Token)
+    (from stop : ℕ) : Type 0 where
   pub others : List Token
   pub alike : AlikeBefore tokens others stop
   pub long : stop ≤ length others
@@ -27,7 +28,8 @@ pub record ReachesIn {X : Type 0} (room : ℕ) (spells : List Token → Spelling
   pub spelled : spells others from part (length others)
 
 -- a part that ends at `end` was read, and it or some other one goes on as far as `stop`
-pub record GoesIn {X : Type 0} (room : ℕ) (spells : List Token → Spelling X) (tokens : List Token) (from end stop : ℕ) : Type 0 where
+pub record GoesIn {X : Type 0} (room : ℕ) (spells : List Token → Spelling X) (tokens : List Token)
+    (from end stop : ℕ) : Type 0 where
   pub goes : (stop ≡ end) ⊎ ReachesIn room spells tokens from stop
 
 -- some part goes on as far as the token at which none is read
@@ -36,7 +38,8 @@ HaltsIn room spells tokens from NoMemory = Unit {0}
 HaltsIn room spells tokens from (Refused stop) = ReachesIn room spells tokens from stop
 
 -- some part goes on as far as the stop that is told, whether a part is read or not
-abbrev pub IsLeastIn : {X Y : Type 0} → ℕ → (List Token → Spelling X) → List Token → ℕ → Result (Reading Y) Halt → Type 0
+abbrev pub IsLeastIn : {X Y : Type 0} → ℕ → (List Token → Spelling X) → List Token → ℕ →
+    Result (Reading Y) Halt → Type 0
 IsLeastIn room spells tokens from (Ok reading) = GoesIn room spells tokens from reading.end reading.stop
 IsLeastIn room spells tokens from (Err halt) = HaltsIn room spells tokens from halt
 

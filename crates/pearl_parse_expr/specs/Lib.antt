@@ -1,4 +1,5 @@
--- with which tokens a part goes on, and what is known of all tokens that begin alike: where a part ends, or that none begins
+-- with which tokens a part goes on, and what is known of all tokens that begin alike: where a part ends, or that
+-- none begins
 pub mod Stops
 -- that a stop is the least one: some part begins with the tokens before it
 pub mod Least

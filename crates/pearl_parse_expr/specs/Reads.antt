@@ -5,11 +5,11 @@ use Rattle.pearl_tree.specs.declared.token.Token.{Token}
 use Rattle.pearl_tree.specs.Standing.{Spelling}
 use Rattle.pearl_parse_expr.specs.declared.reading.Halt.{Halt}
 use Rattle.pearl_parse_expr.specs.declared.reading.Reading.{Reading}
-use Rattle.pearl_parse_expr.specs.Stops.{IsLongest, IsOnly, IsAhead, IsHalted}
+use Rattle.pearl_parse_expr.specs.Stops.{IsLongest, IsOnly, IsAhead, IsHalted, StopsWithin}
 use Rattle.pearl_parse_expr.specs.Least.{IsLeastIn}
 
--- of a part that has one end: the tokens up to this end spell what is read, as `told` says it; where none is read, no `part`
--- begins; and some part goes on as far as the stop that is told
+-- of a part that has one end: the tokens up to this end spell what is read, as `told` says it; where none is read, no
+-- `part` begins; and some part goes on as far as the stop that is told
 pub record ReadsOnlyAs {X Y : Type 0} (room : ℕ) (told : List Token → Spelling Y) (part : List Token → Spelling X)
     (tokens : List Token) (from : ℕ) (result : Result (Reading Y) Halt) : Type 0 where
   pub spells : IfOk result (λ reading. told tokens from reading.part reading.end)
@@ -46,3 +46,29 @@ abbrev pub ReadsList : {X A : Type 0} → ℕ → (List Token → Spelling (List
     Result (Reading (Vec X A)) Halt → Type 0
 ReadsList room part extends tokens from result =
     ReadsAs room (λ tokens from list to. part tokens from list.items to) part extends tokens from result
+
+-- of a part that has one end and may be empty: `told` is what the tokens up to there spell of what is read, `part` all
+-- that begins where it does, and `some` what goes on as far as the stop
+pub record ReadsOnlyMaybe {X Y Z : Type 0} (room : ℕ) (told : List Token → Spelling Y) (part : List Token → Spelling X)
+    (some : List Token → Spelling Z) (tokens : List Token) (from : ℕ) (result : Result (Reading Y) Halt) : Type 0 where
+  pub spells : IfOk result (λ reading. told tokens from reading.part reading.end)
+  pub only : IfOk result (λ reading. IsOnly part tokens from reading.end reading.stop)
+  pub bounds : IfOk result (λ reading. StopsWithin tokens from from reading.end reading.stop)
+  pub refused : IfErr result (λ halt. IsHalted part tokens from halt)
+  pub least : IsLeastIn room some tokens from result
+
+-- the same of a part that a token of `extends` may go on with
+pub record ReadsMaybe {X Y Z : Type 0} (room : ℕ) (told : List Token → Spelling Y) (part : List Token → Spelling X)
+    (some : List Token → Spelling Z) (extends : Option What → Bool) (tokens : List Token) (from : ℕ)
+    (result : Result (Reading Y) Halt) : Type 0 where
+  pub spells : IfOk result (λ reading. told tokens from reading.part reading.end)
+  pub longest : IfOk result (λ reading. IsLongest part extends tokens from reading.end reading.stop)
+  pub bounds : IfOk result (λ reading. StopsWithin tokens from from reading.end reading.stop)
+  pub refused : IfErr result (λ halt. IsHalted part tokens from halt)
+  pub least : IsLeastIn room some tokens from result
+
+-- a list is read that may be empty
+abbrev pub ReadsMaybeList : {X A : Type 0} → ℕ → (List Token → Spelling (List X)) → (Option What → Bool) →
+    List Token → ℕ → Result (Reading (Vec X A)) Halt → Type 0
+ReadsMaybeList room part extends tokens from result =
+    ReadsMaybe room (λ tokens from list to. part tokens from list.items to) part part extends tokens from result

@@ -1,5 +1,6 @@
 -- What tokens that begin alike have in common: which token goes on with a part, and with which none goes on.
-use Rattle.std.specs.Prelude.{if◌then◌else◌, ◌≡◌, ℕ, ◌+◌, slice_get, ◌<◌, ◌≤◌, ◌⊎◌, ◌==◌, ◌||◌, ◌&&◌, ◌-◌, ◌^◌, unwrap_or, Bool, true, false, List, length, Option, Some, None}
+use Rattle.std.specs.Prelude.{if◌then◌else◌, ◌≡◌, ℕ, ◌+◌, slice_get, ◌<◌, ◌≤◌, ◌⊎◌, ◌==◌, ◌||◌, ◌&&◌, ◌-◌, ◌^◌}
+use Rattle.std.specs.Prelude.{unwrap_or, Bool, true, false, List, length, Option, Some, None}
 use Rattle.pearl_value.specs.declared.operator.Monad.{Monad}
 use Rattle.pearl_value.specs.declared.operator.Monad.TheVariants as monad
 use Rattle.pearl_tree.specs.declared.token.What.{What}
@@ -14,7 +15,8 @@ use Rattle.pearl_tree.specs.declared.expression.Operand.{Operand}
 use Rattle.pearl_tree.specs.declared.expression.Primary.{Primary}
 use Rattle.pearl_tree.specs.declared.expression.Selector.{Selector}
 use Rattle.pearl_tree.specs.Standing.{Spelling, SpellsMaybe, SpellsEach, SpellsList, what_at, place_at}
-use Rattle.pearl_tree.specs.Expressions.{SpellsSeconds, SpellsMonadic, SpellsTerms, SpellsPrimary, SpellsSelector, SpellsExpr, SpellsWhole}
+use Rattle.pearl_tree.specs.Expressions.{SpellsSeconds, SpellsMonadic, SpellsTerms, SpellsPrimary, SpellsSelector}
+use Rattle.pearl_tree.specs.Expressions.{SpellsExpr, SpellsWhole}
 use Rattle.pearl_parse_expr.specs.declared.fault.ParseFault.{ParseFault}
 use Rattle.pearl_parse_expr.specs.declared.fault.ParseFault.TheVariants as fault
 use Rattle.pearl_parse_expr.specs.declared.reading.Halt.{Halt}
@@ -57,6 +59,12 @@ Stuck {X} spells tokens from stop =
 -- what was read is not empty, and was stopped behind it within the tokens
 abbrev pub IsAhead : List Token → ℕ → ℕ → ℕ → Type 0
 IsAhead tokens from end stop = (from < end) × (end ≤ stop) × (stop ≤ length tokens)
+
+-- what was read may be empty: it ends at `from` or behind it, and was stopped within the tokens, no earlier than at
+-- `least_stop`, where what stands before it was stopped
+abbrev pub StopsWithin : List Token → ℕ → ℕ → ℕ → ℕ → Type 0
+StopsWithin tokens from least_stop end stop =
+    (from ≤ end) × (end ≤ stop) × (least_stop ≤ stop) × (stop ≤ length tokens)
 
 -- the number or the decimal that may stand before SEC
 abbrev pub is_secs : Option What → Bool
@@ -121,6 +129,11 @@ IsHalted {X} spells tokens from NoMemory = Unit {0}
 IsHalted {X} spells tokens from (Refused stop) =
     Stuck spells tokens from stop × (from ≤ stop) × (stop ≤ length tokens)
 
+-- nothing was read, for want of a token and not of memory: it is told no later than at this number
+abbrev pub IsToldBy : ℕ → Halt → Type 0
+IsToldBy last NoMemory = ⊥
+IsToldBy last (Refused stop) = stop ≤ last
+
 -- the first token of a literal
 abbrev pub is_literal : Option What → Bool
 is_literal token = is_plain token || is_secs token
@@ -137,8 +150,8 @@ extends_list token = extends_expression token || is_symbol s.COMMA token
 -- { + | - | ABS | SIGN | NOT } primary
 abbrev pub SpellsSigned : List Token → ℕ → Spelling Primary
 SpellsSigned tokens depth from part to =
-    (m : ℕ) × (monadics : List Monadic) × (length monadics ≤ limit.MONADS_MAX) × SpellsEach (SpellsMonadic tokens) from monadics m ×
-    SpellsPrimary tokens depth m part to
+    (m : ℕ) × (monadics : List Monadic) × (length monadics ≤ limit.MONADS_MAX) ×
+    SpellsEach (SpellsMonadic tokens) from monadics m × SpellsPrimary tokens depth m part to
 
 -- the same, as the operand that it is
 abbrev pub SpellsOperand : List Token → ℕ → Spelling Operand
@@ -171,8 +184,8 @@ NoneGoesOn tokens from k =
 abbrev pub SomeGoesOn : List Token → ℕ → ℕ → Type 0
 SomeGoesOn tokens from k =
     (expr : Expr) × (to : ℕ) × (others : List Token) ×
-    ((j : ℕ) → from ≤ j → j < k → slice_get tokens j ≡ slice_get others j) × SpellsWhole others from expr to × (k ≤ to) ×
-    LawfulFrom others k
+    ((j : ℕ) → from ≤ j → j < k → slice_get tokens j ≡ slice_get others j) ×
+    SpellsWhole others from expr to × (k ≤ to) × LawfulFrom others k
 
 -- the place of the first token with which, up to and with it, no expression goes on from `from`
 pub record IsStop (tokens : List Token) (from place : ℕ) : Type 0 where

@@ -1,30 +1,26 @@
 // Expressions and references. Only a bracket begins another level of them.
 
-ghost use Rattle.std.specs.Prelude.{◌≡◌, ℕ, ◌+◌, ◌-◌, ◌<◌, ◌≤◌, ◌⊎◌, List, [], ◌∷◌, ◌++◌, length, max, IfOk, IfErr, IfSome, OnOk, Some, None, true, false};
-ghost use Rattle.std.specs.Option.{option_and_then};
+ghost use Rattle.std.specs.Prelude.{◌≡◌, ℕ, ◌+◌, ◌-◌, ◌<◌, ◌≤◌, ◌⊎◌, length, max, IfOk, IfErr, Some, None};
 ghost use Rattle.pearl_tree.specs.declared.token.Token.{Token};
-ghost use Rattle.pearl_tree.specs.declared.expression.Expr as tree;
 ghost use Rattle.pearl_tree.specs.declared.expression.Expr.{Expr};
-ghost use Rattle.pearl_tree.specs.Standing.{what_at, IsAt, HasWord, HasSymbol, SpellsEach, SpellsMaybe, SpellsNumber};
+ghost use Rattle.pearl_tree.specs.Standing.{HasWord, HasSymbol, SpellsMaybe, SpellsNumber};
 ghost use Rattle.pearl_tree.specs.Expressions as grammar;
 ghost use Rattle.pearl_tree.specs.Following.{lengthens_expr, HasOneOf};
-ghost use Rattle.pearl_tree.specs.declared.word_code.TheConstants as w;
 ghost use Rattle.pearl_tree.specs.declared.symbol.TheConstants as s;
 ghost use Rattle.pearl_parse_expr.specs.declared.reading.Halt.{Halt};
 ghost use Rattle.pearl_parse_expr.specs.Stops as spec;
-ghost use Rattle.pearl_parse_expr.specs.Least.{IsLeast};
-ghost use Rattle.pearl_parse_expr.specs.Reads.{Reads, ReadsAs, ReadsList, ReadsOnly};
+ghost use Rattle.pearl_parse_expr.specs.Reads.{Reads, ReadsAs, ReadsList, ReadsMaybeList, ReadsOnly};
 
+use crate::dyadic::with_operand;
 use crate::fault::ParseFault;
-use crate::grouping::with_operand;
-use crate::leaf::{
-    LimitHead, availability, component, limit_head, literal_primary, monadics, without_array,
-};
-use crate::operator::dyadic_at;
+use crate::operator::{dyadic_at, monadics};
+use crate::primary::{LimitHead, availability, limit_head, literal_primary};
 use crate::reading::{Halt, Reading, append, boxed};
+use crate::selector::component;
 use crate::standing::{is_name, is_symbol, is_word, name_at, place_at};
 use pearl_tree::expression::{Expr, Operand, Primary, Ref, Selector};
 use pearl_tree::limit::{BRACKETS_MAX, DYADS_MAX};
+use pearl_tree::literal::Literal;
 use pearl_tree::parts::Parts;
 use pearl_tree::symbol::{COMMA, LEFT_ROUND, PERIOD, RIGHT_ROUND};
 use pearl_tree::token::Token;
@@ -131,11 +127,9 @@ fn selectors(
     depth: u8,
 ) -> Result<Reading<Vec<Selector>>, Halt>
     requires { from ≤ length tokens.now }
-    ensures spells { IfOk result (λ reading. spec.SpellsSelectorsList tokens.now depth from reading.part.items reading.end) }
-    ensures longest { IfOk result (λ reading. spec.IsLongest (λ tokens. spec.SpellsSelectorsList tokens depth) spec.extends_operand tokens.now from reading.end reading.stop) }
-    ensures ahead { IfOk result (λ reading. (from ≤ reading.end) × (reading.end ≤ reading.stop) × (reading.stop ≤ length tokens.now)) }
-    ensures least { IsLeast (λ tokens. spec.SpellsSelectorsList tokens depth) tokens.now from result }
-    ensures fault { IfErr result (λ halt. halt ≡ Halt.NoMemory) }
+    ensures reads { ReadsMaybeList 16 (λ tokens. spec.SpellsSelectorsList tokens depth) spec.extends_operand
+        tokens.now from result }
+    ensures memory { IfErr result (λ halt. halt ≡ Halt.NoMemory) }
 {
     let mut list = Vec::new(alloc);
     let mut end = from;
@@ -170,7 +164,8 @@ pub fn reference(
     depth: u8,
 ) -> Result<Reading<Ref>, Halt>
     requires { from ≤ length tokens.now }
-    ensures { ReadsAs 16 (λ tokens. grammar.SpellsRef tokens depth) (λ tokens. spec.SpellsNamed tokens depth) spec.extends_operand tokens.now from result }
+    ensures { ReadsAs 16 (λ tokens. grammar.SpellsRef tokens depth) (λ tokens. spec.SpellsNamed tokens depth)
+        spec.extends_operand tokens.now from result }
 {
     match name_at(tokens, from) {
         Some(name) => {
@@ -245,7 +240,14 @@ fn limit(
             })
         }
         Err(halt) => match halt {
-            Halt::Refused(stop) => without_array(tokens, from, head, stop),
+            Halt::Refused(stop) => match head.dimension {
+                Some(number) => Ok(Reading {
+                    part: Primary::Literal(Literal::Number(number)),
+                    end: from + 1,
+                    stop,
+                }),
+                None => Err(Halt::Refused(stop)),
+            },
             Halt::NoMemory => Err(Halt::NoMemory),
         },
     }
@@ -300,7 +302,8 @@ fn operand(
     depth: u8,
 ) -> Result<Reading<Operand>, Halt>
     requires { from ≤ length tokens.now }
-    ensures { ReadsAs 16 (λ tokens. spec.SpellsOperand tokens depth) (λ tokens. spec.SpellsSigned tokens depth) spec.extends_operand tokens.now from result }
+    ensures { ReadsAs 16 (λ tokens. spec.SpellsOperand tokens depth) (λ tokens. spec.SpellsSigned tokens depth)
+        spec.extends_operand tokens.now from result }
 {
     let monadics = monadics(alloc, tokens, from)?;
     match primary(alloc, tokens, from + monadics.len(), depth) {
@@ -380,7 +383,8 @@ pub fn expression(
     from: usize,
 ) -> Result<(Expr, usize, u32), ParseFault>
     ensures spells { IfOk result (λ found. grammar.SpellsWhole tokens.now from found.0 found.1) }
-    ensures longest { IfOk result (λ found. (expr : Expr) (to : ℕ) → grammar.SpellsWhole tokens.now from expr to → (to ≡ found.1) ⊎ ((to < found.1) × HasOneOf lengthens_expr tokens.now to)) }
+    ensures longest { IfOk result (λ found. (expr : Expr) (to : ℕ) → grammar.SpellsWhole tokens.now from expr to →
+        (to ≡ found.1) ⊎ ((to < found.1) × HasOneOf lengthens_expr tokens.now to)) }
     ensures stop { IfOk result (λ found. spec.IsStop tokens.now from found.2) }
     ensures refused { IfErr result (λ fault. spec.IsRefused tokens.now from fault) }
     ensures within { IfOk result (λ found. (from < found.1) × (found.1 ≤ length tokens.now)) }

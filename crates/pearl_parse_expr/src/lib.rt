@@ -1,12 +1,13 @@
 // Expressions and references, read from the tokens of a source.
 #![tactic(auto)]
 
+mod dyadic;
 pub mod expression;
 pub mod fault;
-mod grouping;
 pub mod laws;
-mod leaf;
 pub mod literal;
 mod operator;
+mod primary;
 pub mod reading;
+mod selector;
 pub mod standing;

@@ -6,12 +6,12 @@ ghost use Rattle.pearl_tree.specs.Expressions.{SpellsSecs, SpellsSeconds, Spells
 ghost use Rattle.pearl_tree.specs.declared.word_code.TheConstants as w;
 ghost use Rattle.pearl_tree.specs.declared.literal.Duration.{Duration};
 ghost use Rattle.pearl_parse_expr.specs.declared.reading.Halt.{Halt};
-ghost use Rattle.pearl_parse_expr.specs.Least.{Reaches, GoesTo};
-ghost use Rattle.pearl_parse_expr.specs.Reads.{Reads};
-ghost use Rattle.pearl_parse_expr.specs.Stops.{IsLongest, Stuck, IsAhead, IsHalted, extends_operand, is_plain, is_secs, is_counted, SpellsMaybeSeconds};
+ghost use Rattle.pearl_parse_expr.specs.Reads.{Reads, ReadsMaybe};
+ghost use Rattle.pearl_parse_expr.specs.Stops.{IsToldBy, extends_operand, is_plain, is_secs, is_counted};
+ghost use Rattle.pearl_parse_expr.specs.Stops.{SpellsMaybeSeconds};
 
 use crate::reading::{Halt, Reading, boxed};
-use crate::standing::{is_word, number_at};
+use crate::standing::{is_word, number_at, place_at};
 use pearl_tree::literal::{Duration, Literal, Secs};
 use pearl_tree::name::Number;
 use pearl_tree::token::{Token, What};
@@ -77,12 +77,8 @@ fn secs_at(tokens: &[Token], at: usize) -> Option<Secs>
 // The seconds that may end a duration.
 fn seconds_at(tokens: &[Token], at: usize) -> Reading<Option<Secs>>
     requires { at ≤ length tokens.now }
-    ensures spells { SpellsMaybeSeconds tokens.now at result.part result.end }
-    ensures longest { IsLongest SpellsMaybeSeconds extends_operand tokens.now at result.end result.stop }
-    ensures ahead { (at ≤ result.end) × (result.end ≤ result.stop) × (result.stop ≤ length tokens.now) }
-    ensures least { GoesTo SpellsSeconds tokens.now at result.end result.stop }
-    ensures begun { result.part ≡ None → Reaches SpellsSeconds tokens.now at result.stop }
-    ensures stuck { result.part ≡ None → Stuck SpellsSeconds tokens.now at result.stop }
+    ensures reads { ReadsMaybe 16 SpellsMaybeSeconds SpellsMaybeSeconds SpellsSeconds extends_operand
+        tokens.now at (Ok result) }
     ensures near { result.part ≡ None → result.stop ≤ at + 1 }
     ensures far { is_secs (what_at tokens.now at) ≡ true → at + 1 ≤ result.stop }
 {
@@ -180,41 +176,31 @@ fn from_minutes(tokens: &[Token], from: usize, minutes: Number) -> Reading<Durat
     }
 }
 
-fn from_seconds(tokens: &[Token], from: usize) -> Result<Reading<Duration>, usize>
+fn from_seconds(tokens: &[Token], from: usize) -> Result<Reading<Duration>, Halt>
     requires within { from ≤ length tokens.now }
     requires hours { is_counted w.HRS tokens.now from ≡ false }
     requires minutes { is_counted w.MIN tokens.now from ≡ false }
-    ensures spells { IfOk result (λ reading. SpellsDuration tokens.now from reading.part reading.end) }
-    ensures longest { IfOk result (λ reading. IsLongest SpellsDuration extends_operand tokens.now from reading.end reading.stop) }
-    ensures ahead { IfOk result (λ reading. IsAhead tokens.now from reading.end reading.stop) }
-    ensures least { IfOk result (λ reading. GoesTo SpellsDuration tokens.now from reading.end reading.stop) }
-    ensures begun { IfErr result (λ stop. Reaches SpellsDuration tokens.now from stop) }
-    ensures refused { IfErr result (λ stop. Stuck SpellsDuration tokens.now from stop) }
-    ensures held { IfErr result (λ stop. (from ≤ stop) × (stop ≤ from + 1) × (stop ≤ length tokens.now)) }
+    ensures reads { Reads 16 SpellsDuration extends_operand tokens.now from result }
+    ensures close { IfErr result (λ halt. IsToldBy (from + 1) halt) }
 {
     let seconds = seconds_at(tokens, from);
     match seconds.part {
         Some(seconds) => Ok(Reading {
             part: Duration::Seconds {
                 seconds,
-                place: tokens[from].place,
+                place: place_at(tokens, from),
             },
             end: from + 2,
             stop: from + 2,
         }),
-        None => Err(seconds.stop),
+        None => Err(Halt::Refused(seconds.stop)),
     }
 }
 
-fn duration(tokens: &[Token], from: usize) -> Result<Reading<Duration>, usize>
+fn duration(tokens: &[Token], from: usize) -> Result<Reading<Duration>, Halt>
     requires { from ≤ length tokens.now }
-    ensures spells { IfOk result (λ reading. SpellsDuration tokens.now from reading.part reading.end) }
-    ensures longest { IfOk result (λ reading. IsLongest SpellsDuration extends_operand tokens.now from reading.end reading.stop) }
-    ensures ahead { IfOk result (λ reading. IsAhead tokens.now from reading.end reading.stop) }
-    ensures least { IfOk result (λ reading. GoesTo SpellsDuration tokens.now from reading.end reading.stop) }
-    ensures begun { IfErr result (λ stop. Reaches SpellsDuration tokens.now from stop) }
-    ensures refused { IfErr result (λ stop. Stuck SpellsDuration tokens.now from stop) }
-    ensures held { IfErr result (λ stop. (from ≤ stop) × (stop ≤ from + 1) × (stop ≤ length tokens.now)) }
+    ensures reads { Reads 16 SpellsDuration extends_operand tokens.now from result }
+    ensures close { IfErr result (λ halt. IsToldBy (from + 1) halt) }
 {
     if let Some(hours) = counted_at(tokens, from, HRS) {
         return Ok(from_hours(tokens, from, hours));
@@ -237,13 +223,13 @@ pub fn literal(alloc: Global, tokens: &[Token], from: usize) -> Result<Reading<L
             end: duration.end,
             stop: duration.stop,
         }),
-        Err(stop) => match plain_at(alloc, tokens, from)? {
+        Err(halt) => match plain_at(alloc, tokens, from)? {
             Some(part) => Ok(Reading {
                 part,
                 end: from + 1,
                 stop: from + 1,
             }),
-            None => Err(Halt::Refused(stop)),
+            None => Err(halt),
         },
     }
 }

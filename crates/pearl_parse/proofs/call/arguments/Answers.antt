@@ -1,3 +1,4 @@
+-- That the arguments of a call are read with the semicolon behind them, or the least stop is told.
 use Rattle.std.proofs.Common.{◌+◌, refl, ap, ◌<◌, ◌^◌, length, rules, arith}
 use Rattle.pearl_tree.specs.Standing.{SpellsList}
 use Rattle.pearl_tree.specs.Expressions.{SpellsWhole}
@@ -22,16 +23,25 @@ returns-in_err-symbol-in-Ok c =
     let list = c.in-Ok.list in
     let read = c.in-Ok.ensures.reads in
     let stop = c.max-in-Ok.result in
-    let go = arguments_go tokens from list.end list.stop stop (c.if-not-is_symbol.ensures.stands refl) (omega (arith, c.max-in-Ok.ensures, read.ahead)) (omega (arith, c.max-in-Ok.ensures)) read.longest in
+    let go = arguments_go tokens from list.end list.stop stop (c.if-not-is_symbol.ensures.stands refl)
+    (omega (arith, c.max-in-Ok.ensures, read.ahead)) (omega (arith, c.max-in-Ok.ensures)) read.longest in
     let low = c.args.least_stop in
     let few : length tokens < 2 ^ 55 = search rules in
-    let at = arguments_past tokens from low (omega (arith, c.requires.from)) few (c.if-not-is_symbol.ensures.stands refl) (c.if-not-is_symbol.ensures.within refl) list.part.items list.end list.stop stop read.spells (omega (arith, read.ahead)) (omega (arith, read.ahead)) (omega (arith, c.max-in-Ok.ensures, read.ahead, c.requires.least_stop)) read.least
+    let at = arguments_past tokens from low (omega (arith, c.requires.from)) few
+    (c.if-not-is_symbol.ensures.stands refl) (c.if-not-is_symbol.ensures.within refl) list.part.items list.end
+    list.stop stop read.spells (omega (arith, read.ahead)) (omega (arith, read.ahead))
+    (omega (arith, c.max-in-Ok.ensures, read.ahead, c.requires.least_stop)) read.least
     (omega (arith, c.max-in-Ok.ensures)) in
-    unread_only_behind _ c.in_err-symbol-in-Ok.field-0.0 c.from_residual-in_err-symbol-in-Ok.result c.from_residual-in_err-symbol-in-Ok.ensures (λ e is. is)
-    (missing_behind SpellsArguments tokens from c.args.least_stop (is_symbol s.RIGHT_ROUND) closed_rest list.end stop list.end c.in_err-symbol-in-Ok.field-0.0 go
-    (λ others to h. ap (is_symbol s.RIGHT_ROUND) h.0) (omega (arith, c.max-in-Ok.ensures, read.ahead)) (omega (arith, c.max-in-Ok.ensures)) (omega (arith, read.ahead)) (omega (arith, c.max-in-Ok.ensures, read.ahead, c.requires.least_stop))
+    unread_only_behind _ c.in_err-symbol-in-Ok.field-0.0 c.from_residual-in_err-symbol-in-Ok.result
+    c.from_residual-in_err-symbol-in-Ok.ensures (λ e is. is)
+    (missing_behind SpellsArguments tokens from c.args.least_stop (is_symbol s.RIGHT_ROUND) closed_rest list.end stop
+    list.end c.in_err-symbol-in-Ok.field-0.0 go
+    (λ others to h. ap (is_symbol s.RIGHT_ROUND) h.0) (omega (arith, c.max-in-Ok.ensures, read.ahead))
+    (omega (arith, c.max-in-Ok.ensures)) (omega (arith, read.ahead))
+    (omega (arith, c.max-in-Ok.ensures, read.ahead, c.requires.least_stop))
     c.in_err-symbol-in-Ok.ensures.missing)
-    (halt_token 24 SpellsArguments tokens from low 2 closed closed_fills (omega arith) (is_symbol s.RIGHT_ROUND) list.end stop c.in_err-symbol-in-Ok.field-0.0 at c.in_err-symbol-in-Ok.ensures.missing)
+    (halt_token 24 SpellsArguments tokens from low 2 closed closed_fills (omega arith) (is_symbol s.RIGHT_ROUND)
+    list.end stop c.in_err-symbol-in-Ok.field-0.0 at c.in_err-symbol-in-Ok.ensures.missing)
 
 pub returns-in_err-symbol-in-Ok-2 : goal.returns-in_err-symbol-in-Ok-2
 returns-in_err-symbol-in-Ok-2 c =
@@ -40,17 +50,27 @@ returns-in_err-symbol-in-Ok-2 c =
     let list = c.in-Ok.list in
     let read = c.in-Ok.ensures.reads in
     let stop = c.max-in-Ok-2.result in
-    let go = arguments_go tokens from list.end list.stop stop (c.if-not-is_symbol.ensures.stands refl) (omega (arith, c.max-in-Ok-2.ensures, read.ahead)) (omega (arith, c.max-in-Ok-2.ensures)) read.longest in
+    let go = arguments_go tokens from list.end list.stop stop (c.if-not-is_symbol.ensures.stands refl)
+    (omega (arith, c.max-in-Ok-2.ensures, read.ahead)) (omega (arith, c.max-in-Ok-2.ensures)) read.longest in
     let low = c.args.least_stop in
     let few : length tokens < 2 ^ 55 = search rules in
-    let at = arguments_past tokens from low (omega (arith, c.requires.from)) few (c.if-not-is_symbol.ensures.stands refl) (c.if-not-is_symbol.ensures.within refl) list.part.items list.end list.stop stop read.spells (omega (arith, read.ahead)) (omega (arith, read.ahead)) (omega (arith, c.max-in-Ok-2.ensures, read.ahead, c.requires.least_stop)) read.least
+    let at = arguments_past tokens from low (omega (arith, c.requires.from)) few
+    (c.if-not-is_symbol.ensures.stands refl) (c.if-not-is_symbol.ensures.within refl) list.part.items list.end
+    list.stop stop read.spells (omega (arith, read.ahead)) (omega (arith, read.ahead))
+    (omega (arith, c.max-in-Ok-2.ensures, read.ahead, c.requires.least_stop)) read.least
     (omega (arith, c.max-in-Ok-2.ensures)) in
-    let at_close = past_symbol 24 SpellsArguments tokens from low s.RIGHT_ROUND semicolon list.end stop (list.end + 1) (omega arith) at c.in_ok-symbol-in-Ok.ensures.stands c.in_ok-symbol-in-Ok.ensures.within in
-    unread_only_behind _ c.in_err-symbol-in-Ok-2.field-0.0 c.from_residual-in_err-symbol-in-Ok-2.result c.from_residual-in_err-symbol-in-Ok-2.ensures (λ e is. is)
-    (missing_behind SpellsArguments tokens from c.args.least_stop (is_symbol s.SEMICOLON) closed_rest list.end stop (list.end + 1) c.in_err-symbol-in-Ok-2.field-0.0 go
-    (λ others to h. ap (is_symbol s.SEMICOLON) h.1) (omega (arith, c.max-in-Ok-2.ensures, read.ahead)) (omega (arith, c.max-in-Ok-2.ensures)) (omega (arith, c.in_ok-symbol-in-Ok.ensures.within)) (omega (arith, c.max-in-Ok-2.ensures, read.ahead, c.requires.least_stop))
+    let at_close = past_symbol 24 SpellsArguments tokens from low s.RIGHT_ROUND semicolon list.end stop (list.end + 1)
+    (omega arith) at c.in_ok-symbol-in-Ok.ensures.stands c.in_ok-symbol-in-Ok.ensures.within in
+    unread_only_behind _ c.in_err-symbol-in-Ok-2.field-0.0 c.from_residual-in_err-symbol-in-Ok-2.result
+    c.from_residual-in_err-symbol-in-Ok-2.ensures (λ e is. is)
+    (missing_behind SpellsArguments tokens from c.args.least_stop (is_symbol s.SEMICOLON) closed_rest list.end stop
+    (list.end + 1) c.in_err-symbol-in-Ok-2.field-0.0 go
+    (λ others to h. ap (is_symbol s.SEMICOLON) h.1) (omega (arith, c.max-in-Ok-2.ensures, read.ahead))
+    (omega (arith, c.max-in-Ok-2.ensures)) (omega (arith, c.in_ok-symbol-in-Ok.ensures.within))
+    (omega (arith, c.max-in-Ok-2.ensures, read.ahead, c.requires.least_stop))
     c.in_err-symbol-in-Ok-2.ensures.missing)
-    (halt_token 24 SpellsArguments tokens from low 1 semicolon semicolon_fills (omega arith) (is_symbol s.SEMICOLON) (list.end + 1) stop c.in_err-symbol-in-Ok-2.field-0.0 at_close c.in_err-symbol-in-Ok-2.ensures.missing)
+    (halt_token 24 SpellsArguments tokens from low 1 semicolon semicolon_fills (omega arith) (is_symbol s.SEMICOLON)
+    (list.end + 1) stop c.in_err-symbol-in-Ok-2.field-0.0 at_close c.in_err-symbol-in-Ok-2.ensures.missing)
 
 pub returns-in_ok-symbol-in-Ok-2 : goal.returns-in_ok-symbol-in-Ok-2
 returns-in_ok-symbol-in-Ok-2 c =
@@ -61,24 +81,33 @@ returns-in_ok-symbol-in-Ok-2 c =
     let list = c.in-Ok.list in
     let read = c.in-Ok.ensures.reads in
     let stop = c.max-in-Ok-3.result in
-    let at = arguments_past tokens from low (omega (arith, c.requires.from)) few (c.if-not-is_symbol.ensures.stands refl) (c.if-not-is_symbol.ensures.within refl) list.part.items list.end list.stop stop read.spells (omega (arith, read.ahead)) (omega (arith, read.ahead)) (omega (arith, c.max-in-Ok-3.ensures, read.ahead, c.requires.least_stop)) read.least
+    let at = arguments_past tokens from low (omega (arith, c.requires.from)) few
+    (c.if-not-is_symbol.ensures.stands refl) (c.if-not-is_symbol.ensures.within refl) list.part.items list.end
+    list.stop stop read.spells (omega (arith, read.ahead)) (omega (arith, read.ahead))
+    (omega (arith, c.max-in-Ok-3.ensures, read.ahead, c.requires.least_stop)) read.least
     (omega (arith, c.max-in-Ok-3.ensures)) in
-    let at_close = past_symbol 24 SpellsArguments tokens from low s.RIGHT_ROUND semicolon list.end stop (list.end + 1) (omega arith) at c.in_ok-symbol-in-Ok.ensures.stands c.in_ok-symbol-in-Ok.ensures.within in
-    let go = arguments_go tokens from list.end list.stop stop (c.if-not-is_symbol.ensures.stands refl) (omega (arith, c.max-in-Ok-3.ensures, read.ahead)) (omega (arith, c.max-in-Ok-3.ensures)) read.longest in
+    let at_close = past_symbol 24 SpellsArguments tokens from low s.RIGHT_ROUND semicolon list.end stop (list.end + 1)
+    (omega arith) at c.in_ok-symbol-in-Ok.ensures.stands c.in_ok-symbol-in-Ok.ensures.within in
+    let go = arguments_go tokens from list.end list.stop stop (c.if-not-is_symbol.ensures.stands refl)
+    (omega (arith, c.max-in-Ok-3.ensures, read.ahead)) (omega (arith, c.max-in-Ok-3.ensures)) read.longest in
     record {
       spells = search rules;
-      only = ends SpellsArguments tokens from closed_rest list.end stop c.max-in-Ok-4.result (list.end + 2) go (omega (arith, c.max-in-Ok-4.ensures)) (λ others to h. h.2);
+      only = ends SpellsArguments tokens from closed_rest list.end stop c.max-in-Ok-4.result (list.end + 2) go
+          (omega (arith, c.max-in-Ok-4.ensures)) (λ others to h. h.2);
       bounds = search rules;
       refused = tt;
       least = done 24 SpellsArguments tokens from low (list.end + 2) stop c.max-in-Ok-4.result
-          (past_symbol 24 SpellsArguments tokens from low s.SEMICOLON Ends (list.end + 1) stop (list.end + 2) (omega arith) at_close c.in_ok-symbol-in-Ok-2.ensures.stands c.in_ok-symbol-in-Ok-2.ensures.within) (omega (arith, c.max-in-Ok-4.ensures));
+          (past_symbol 24 SpellsArguments tokens from low s.SEMICOLON Ends (list.end + 1) stop (list.end + 2)
+          (omega arith) at_close c.in_ok-symbol-in-Ok-2.ensures.stands c.in_ok-symbol-in-Ok-2.ensures.within)
+          (omega (arith, c.max-in-Ok-4.ensures));
     }
 
 pub returns-in-Refused : goal.returns-in-Refused
 returns-in-Refused c =
     let tokens = c.args.tokens.now in
     let from = c.args.from in
-    let stuck = stuck_of (λ tokens. SpellsList tokens (SpellsWhole tokens)) tokens (from + 1) c.in-Refused.stop c.in-Err.halt c.in-Refused.is c.in-Err.ensures.reads.refused in
+    let stuck = stuck_of (λ tokens. SpellsList tokens (SpellsWhole tokens)) tokens (from + 1) c.in-Refused.stop
+    c.in-Err.halt c.in-Refused.is c.in-Err.ensures.reads.refused in
     let new = c.max-in-Refused.result in
     let low = c.args.least_stop in
     let few : length tokens < 2 ^ 55 = search rules in
@@ -87,14 +116,19 @@ returns-in-Refused c =
       only = tt;
       bounds = tt;
       refused = (
-        arguments_stuck tokens from c.in-Refused.stop new (c.if-not-is_symbol.ensures.stands refl) (omega (arith, c.max-in-Refused.ensures, stuck.1)) (omega (arith, c.max-in-Refused.ensures)) stuck.0,
+        arguments_stuck tokens from c.in-Refused.stop new (c.if-not-is_symbol.ensures.stands refl)
+            (omega (arith, c.max-in-Refused.ensures, stuck.1)) (omega (arith, c.max-in-Refused.ensures)) stuck.0,
         omega (arith, c.max-in-Refused.ensures, stuck.1),
         omega (arith, c.max-in-Refused.ensures),
         omega (arith, c.max-in-Refused.ensures, stuck.2, c.requires.least_stop),
       );
-      least = halt_part 24 SpellsArguments tokens from low 2 16 (λ tokens. SpellsList tokens (SpellsWhole tokens)) closed exprs_are_local closed_fills (omega arith) (from + 1) low (omega arith)
-          (arguments_begun tokens from low (omega (arith, c.requires.from)) few (c.if-not-is_symbol.ensures.stands refl) (c.if-not-is_symbol.ensures.within refl)) (Refused c.max-in-Refused.result)
-          (halted_behind (λ tokens. SpellsList tokens (SpellsWhole tokens)) tokens (from + 1) c.in-Err.halt c.in-Refused.stop low c.max-in-Refused.result c.in-Refused.is c.in-Err.ensures.reads.refused c.in-Err.ensures.reads.least (omega (arith, c.max-in-Refused.ensures)));
+      least = halt_part 24 SpellsArguments tokens from low 2 16 (λ tokens. SpellsList tokens (SpellsWhole tokens))
+          closed exprs_are_local closed_fills (omega arith) (from + 1) low (omega arith)
+          (arguments_begun tokens from low (omega (arith, c.requires.from)) few (c.if-not-is_symbol.ensures.stands refl)
+          (c.if-not-is_symbol.ensures.within refl)) (Refused c.max-in-Refused.result)
+          (halted_behind (λ tokens. SpellsList tokens (SpellsWhole tokens)) tokens (from + 1) c.in-Err.halt
+          c.in-Refused.stop low c.max-in-Refused.result c.in-Refused.is c.in-Err.ensures.reads.refused
+          c.in-Err.ensures.reads.least (omega (arith, c.max-in-Refused.ensures)));
     }
 
 pub returns-in_err-symbol : goal.returns-in_err-symbol
@@ -105,7 +139,9 @@ returns-in_err-symbol c =
     let few : length tokens < 2 ^ 55 = search rules in
     unread_only_behind _ c.in_err-symbol.field-0.0 c.from_residual.result c.from_residual.ensures (λ e is. is)
     (search rules)
-    (halt_token 24 SpellsArguments tokens from low 1 semicolon semicolon_fills (omega arith) (is_symbol s.SEMICOLON) from low c.in_err-symbol.field-0.0 (no_arguments tokens from low (omega (arith, c.requires.from)) few) c.in_err-symbol.ensures.missing)
+    (halt_token 24 SpellsArguments tokens from low 1 semicolon semicolon_fills (omega arith) (is_symbol s.SEMICOLON)
+    from low c.in_err-symbol.field-0.0 (no_arguments tokens from low (omega (arith, c.requires.from)) few)
+    c.in_err-symbol.ensures.missing)
 
 pub returns-then-not-is_symbol : goal.returns-then-not-is_symbol
 returns-then-not-is_symbol c =
@@ -119,5 +155,7 @@ returns-then-not-is_symbol c =
       bounds = search rules;
       refused = tt;
       least = done 24 SpellsArguments tokens from low (from + 1) low c.max.result
-          (past_symbol 24 SpellsArguments tokens from low s.SEMICOLON Ends from low (from + 1) (omega arith) (no_arguments tokens from low (omega (arith, c.requires.from)) few) c.in_ok-symbol.ensures.stands c.in_ok-symbol.ensures.within) (omega (arith, c.max.ensures));
+          (past_symbol 24 SpellsArguments tokens from low s.SEMICOLON Ends from low (from + 1) (omega arith)
+          (no_arguments tokens from low (omega (arith, c.requires.from)) few) c.in_ok-symbol.ensures.stands
+          c.in_ok-symbol.ensures.within) (omega (arith, c.max.ensures));
     }

@@ -1,14 +1,15 @@
+-- That CALL is read with its name and arguments, or the least stop is told.
 use Rattle.std.proofs.Common.{◌+◌, ◌<◌, ◌^◌, length, rules, arith}
 use Rattle.pearl_parse_expr.specs.Stops.{is_name}
 use Rattle.pearl_parse.specs.Calls.{SpellsArguments}
 use Rattle.pearl_parse.proofs.Steps.{Ends, past_only, missing, no_part, Then}
-use Rattle.pearl_parse.proofs.LeafRests.{Spelled}
+use Rattle.pearl_parse.proofs.StatementRests.{Spelled}
 use Rattle.pearl_parse.proofs.CallRests.{call_rest, call_goes, call_goes_on}
 use Rattle.pearl_tree.specs.Standing.{SpellsName}
 use Rattle.pearl_parse.proofs.Comes.{ends_fill}
 use Rattle.pearl_parse.proofs.Tails.{call_fills}
 use Rattle.pearl_parse.proofs.CallLeast.{arguments_are_local}
-use Rattle.pearl_parse.proofs.LeafLeast.{call_begun, ended}
+use Rattle.pearl_parse.proofs.StatementLeast.{call_begun, ended}
 use Rattle.pearl_parse.proofs.States.{past_name, past_part, halt_part, halt_token}
 use Rattle.pearl_parse.proofs.Unread.{unread}
 use Rattle.pearl_parse.proofs.call.call.Goals as goal
@@ -19,10 +20,14 @@ returns-in_err-called c = λ depth.
     let from = c.args.from in
     let few : length tokens < 2 ^ 55 = search rules in
     let begun = call_begun tokens depth from c.requires.within few c.requires.word in
-    unread 24 (Spelled depth) tokens from _ c.in_err-called.field-0.0 c.from_residual.result c.from_residual.ensures (λ e is. is)
-    (missing (Spelled depth) tokens from is_name call_rest (from + 1) from (from + 1) c.in_err-called.field-0.0 (call_goes tokens depth from c.requires.word)
-    (λ others to h. h.0) (omega arith) (omega (arith, c.requires.within)) (omega (arith, c.requires.within)) c.in_err-called.ensures.missing)
-    (halt_token 24 (Spelled depth) tokens from 0 2 (Then SpellsName (Then SpellsArguments Ends)) call_fills (omega arith) is_name (from + 1) from c.in_err-called.field-0.0 begun c.in_err-called.ensures.missing)
+    unread 24 (Spelled depth) tokens from _ c.in_err-called.field-0.0 c.from_residual.result c.from_residual.ensures
+    (λ e is. is)
+    (missing (Spelled depth) tokens from is_name call_rest (from + 1) from (from + 1) c.in_err-called.field-0.0
+    (call_goes tokens depth from c.requires.word)
+    (λ others to h. h.0) (omega arith) (omega (arith, c.requires.within)) (omega (arith, c.requires.within))
+    c.in_err-called.ensures.missing)
+    (halt_token 24 (Spelled depth) tokens from 0 2 (Then SpellsName (Then SpellsArguments Ends)) call_fills
+    (omega arith) is_name (from + 1) from c.in_err-called.field-0.0 begun c.in_err-called.ensures.missing)
 
 pub returns-in_err-arguments : goal.returns-in_err-arguments
 returns-in_err-arguments c = λ depth.
@@ -30,10 +35,14 @@ returns-in_err-arguments c = λ depth.
     let from = c.args.from in
     let few : length tokens < 2 ^ 55 = search rules in
     let begun = call_begun tokens depth from c.requires.within few c.requires.word in
-    let at = past_name 24 (Spelled depth) tokens from 0 c.in_ok-called.called (Then SpellsArguments Ends) (from + 1) from (from + 2) (omega arith) begun c.in_ok-called.ensures.stands c.in_ok-called.ensures.within in
-    unread 24 (Spelled depth) tokens from _ c.in_err-arguments.field-0.0 c.from_residual-in_err-arguments.result c.from_residual-in_err-arguments.ensures (λ e is. is)
-    (no_part (Spelled depth) tokens from SpellsArguments Ends (from + 2) from c.in_err-arguments.field-0.0 (call_goes_on tokens depth from c.requires.word) (omega arith) c.in_err-arguments.ensures.refused)
-    (halt_part 24 (Spelled depth) tokens from 0 0 24 SpellsArguments Ends arguments_are_local ends_fill (omega arith) (from + 2) from (omega arith) at c.in_err-arguments.field-0.0 c.in_err-arguments.ensures.least)
+    let at = past_name 24 (Spelled depth) tokens from 0 c.in_ok-called.called (Then SpellsArguments Ends) (from + 1)
+    from (from + 2) (omega arith) begun c.in_ok-called.ensures.stands c.in_ok-called.ensures.within in
+    unread 24 (Spelled depth) tokens from _ c.in_err-arguments.field-0.0 c.from_residual-in_err-arguments.result
+    c.from_residual-in_err-arguments.ensures (λ e is. is)
+    (no_part (Spelled depth) tokens from SpellsArguments Ends (from + 2) from c.in_err-arguments.field-0.0
+    (call_goes_on tokens depth from c.requires.word) (omega arith) c.in_err-arguments.ensures.refused)
+    (halt_part 24 (Spelled depth) tokens from 0 0 24 SpellsArguments Ends arguments_are_local ends_fill (omega arith)
+    (from + 2) from (omega arith) at c.in_err-arguments.field-0.0 c.in_err-arguments.ensures.least)
 
 pub returns : goal.returns
 returns c = λ depth.
@@ -43,13 +52,17 @@ returns c = λ depth.
     let last = c.in_ok-arguments.ensures in
     let few : length tokens < 2 ^ 55 = search rules in
     let begun = call_begun tokens depth from c.requires.within few c.requires.word in
-    let at = past_name 24 (Spelled depth) tokens from 0 c.in_ok-called.called (Then SpellsArguments Ends) (from + 1) from (from + 2) (omega arith) begun c.in_ok-called.ensures.stands c.in_ok-called.ensures.within in
+    let at = past_name 24 (Spelled depth) tokens from 0 c.in_ok-called.called (Then SpellsArguments Ends) (from + 1)
+    from (from + 2) (omega arith) begun c.in_ok-called.ensures.stands c.in_ok-called.ensures.within in
     record {
       spells = search rules;
-      only = past_only (Spelled depth) tokens from SpellsArguments Ends (from + 2) from arguments.end arguments.stop (call_goes_on tokens depth from c.requires.word) last.bounds.2 last.only;
+      only = past_only (Spelled depth) tokens from SpellsArguments Ends (from + 2) from arguments.end arguments.stop
+          (call_goes_on tokens depth from c.requires.word) last.bounds.2 last.only;
       ahead = search rules;
       refused = tt;
       least = ended tokens depth from arguments.end arguments.stop arguments.stop
-          (past_part 24 (Spelled depth) tokens from 0 0 24 SpellsArguments Ends arguments_are_local ends_fill (omega arith) (from + 2) from (omega arith) at arguments.part.items arguments.end arguments.stop last.spells
+          (past_part 24 (Spelled depth) tokens from 0 0 24 SpellsArguments Ends arguments_are_local ends_fill
+          (omega arith) (from + 2) from (omega arith) at arguments.part.items arguments.end arguments.stop
+          last.spells
           (omega (arith, last.bounds)) (omega (arith, last.bounds)) last.least) (omega (arith, last.bounds));
     }

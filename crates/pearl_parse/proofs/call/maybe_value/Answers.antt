@@ -1,3 +1,4 @@
+-- That an expression in brackets is read where a bracket begins one.
 use Rattle.std.proofs.Common.{rules, sym, refl, inl, arith}
 use Rattle.pearl_tree.specs.Statements.{SpellsValue}
 use Rattle.pearl_tree.specs.declared.symbol.TheConstants as s
@@ -13,11 +14,14 @@ returns-in-Ok c =
     let from = c.args.from in
     record {
       spells = search rules;
-      only = optional_is_only (is_symbol s.LEFT_ROUND) SpellsValue c.args.tokens.now c.args.from c.in-Ok.read.end c.in-Ok.read.stop (sym c.if-not-is_symbol.ensures.value)
+      only = optional_is_only (is_symbol s.LEFT_ROUND) SpellsValue c.args.tokens.now c.args.from c.in-Ok.read.end
+          c.in-Ok.read.stop (sym c.if-not-is_symbol.ensures.value)
           (omega (arith, c.in-Ok.ensures.ahead)) c.in-Ok.ensures.only;
       bounds = search rules;
       refused = tt;
-      least = goes_as 16 16 SpellsValue (Maybe SpellsValue) tokens from from (omega arith) (some_reaches 16 SpellsValue tokens from) c.in-Ok.read.end c.in-Ok.read.stop (omega (arith, c.in-Ok.ensures.ahead)) c.in-Ok.ensures.least;
+      least = goes_as 16 16 SpellsValue (Maybe SpellsValue) tokens from from (omega arith)
+          (some_reaches 16 SpellsValue tokens from) c.in-Ok.read.end c.in-Ok.read.stop
+          (omega (arith, c.in-Ok.ensures.ahead)) c.in-Ok.ensures.least;
     }
 
 pub returns-in-Err : goal.returns-in-Err
@@ -28,8 +32,10 @@ returns-in-Err c =
       spells = tt;
       only = tt;
       bounds = tt;
-      refused = optional_is_halted (is_symbol s.LEFT_ROUND) SpellsValue c.args.tokens.now c.args.from c.in-Err.halt (sym c.if-not-is_symbol.ensures.value) c.in-Err.ensures.refused;
-      least = halts_as 16 16 SpellsValue (Maybe SpellsValue) tokens from from (omega arith) (some_reaches 16 SpellsValue tokens from) c.in-Err.halt c.in-Err.ensures.refused c.in-Err.ensures.least;
+      refused = optional_is_halted (is_symbol s.LEFT_ROUND) SpellsValue c.args.tokens.now c.args.from c.in-Err.halt
+          (sym c.if-not-is_symbol.ensures.value) c.in-Err.ensures.refused;
+      least = halts_as 16 16 SpellsValue (Maybe SpellsValue) tokens from from (omega arith)
+          (some_reaches 16 SpellsValue tokens from) c.in-Err.halt c.in-Err.ensures.refused c.in-Err.ensures.least;
     }
 
 pub returns-then-not-is_symbol : goal.returns-then-not-is_symbol

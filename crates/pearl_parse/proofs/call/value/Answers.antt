@@ -1,3 +1,4 @@
+-- That an expression in brackets is read, or the least stop is told.
 use Rattle.std.proofs.Common.{◌+◌, ap, ◌<◌, ◌^◌, length, rules, arith}
 use Rattle.pearl_tree.specs.Expressions.{SpellsWhole}
 use Rattle.pearl_tree.specs.Statements.{SpellsValue}
@@ -6,7 +7,7 @@ use Rattle.pearl_parse_expr.specs.Stops.{extends_expression, is_symbol}
 use Rattle.pearl_parse.proofs.Steps.{Ends, past, missing}
 use Rattle.pearl_parse.proofs.Comes.{BehindSymbol}
 use Rattle.pearl_parse.proofs.Tails.{bracket_fills}
-use Rattle.pearl_parse.proofs.LeafLeast.{expr_is_local}
+use Rattle.pearl_parse.proofs.StatementLeast.{expr_is_local}
 use Rattle.pearl_parse.proofs.States.{past_symbol, halt_part, halt_token, done, goes_in_told}
 use Rattle.pearl_parse.proofs.CallLeast.{value_begun, value_past}
 use Rattle.pearl_parse.proofs.Unread.{unread}
@@ -18,9 +19,11 @@ returns-in_err-value c =
     let from = c.args.from in
     let few : length tokens < 2 ^ 55 = search rules in
     let begun = value_begun tokens from c.requires.within few c.requires.bracket in
-    unread 16 SpellsValue tokens from _ c.in_err-value.field-0.0 c.from_residual.result c.from_residual.ensures (λ e is. is)
+    unread 16 SpellsValue tokens from _ c.in_err-value.field-0.0 c.from_residual.result c.from_residual.ensures
+    (λ e is. is)
     (search rules)
-    (halt_part 16 SpellsValue tokens from 0 1 16 SpellsWhole (BehindSymbol s.RIGHT_ROUND Ends) expr_is_local bracket_fills (omega arith) (from + 1) from (omega arith) begun c.in_err-value.field-0.0
+    (halt_part 16 SpellsValue tokens from 0 1 16 SpellsWhole (BehindSymbol s.RIGHT_ROUND Ends) expr_is_local
+    bracket_fills (omega arith) (from + 1) from (omega arith) begun c.in_err-value.field-0.0
     c.in_err-value.ensures.least)
 
 pub returns-in_err-symbol : goal.returns-in_err-symbol
@@ -30,15 +33,20 @@ returns-in_err-symbol c =
     let few : length tokens < 2 ^ 55 = search rules in
     let value = c.in_ok-value.value in
     let read = c.in_ok-value.ensures in
-    let at = value_past tokens from c.requires.within few c.requires.bracket value.part value.end value.stop read.spells (omega (arith, read.bounds)) (omega (arith, read.bounds)) read.least in
-    unread 16 SpellsValue tokens from _ c.in_err-symbol.field-0.0 c.from_residual-in_err-symbol.result c.from_residual-in_err-symbol.ensures (λ e is. is)
-    (let go = past SpellsValue tokens from SpellsWhole extends_expression (BehindSymbol s.RIGHT_ROUND Ends) (from + 1) from
+    let at = value_past tokens from c.requires.within few c.requires.bracket value.part value.end value.stop read.spells
+    (omega (arith, read.bounds)) (omega (arith, read.bounds)) read.least in
+    unread 16 SpellsValue tokens from _ c.in_err-symbol.field-0.0 c.from_residual-in_err-symbol.result
+    c.from_residual-in_err-symbol.ensures (λ e is. is)
+    (let go = past SpellsValue tokens from SpellsWhole extends_expression (BehindSymbol s.RIGHT_ROUND Ends) (from + 1)
+    from
     value.end value.stop (λ others agree x to h. (x, h.0, h.2, (h.3, h.4))) read.bounds.2 read.longest
     (λ others at to h. ap extends_expression h.0) in
-    missing SpellsValue tokens from (is_symbol s.RIGHT_ROUND) (BehindSymbol s.RIGHT_ROUND Ends) value.end value.stop value.end
+    missing SpellsValue tokens from (is_symbol s.RIGHT_ROUND) (BehindSymbol s.RIGHT_ROUND Ends) value.end value.stop
+    value.end
     c.in_err-symbol.field-0.0 go (λ others to h. ap (is_symbol s.RIGHT_ROUND) h.0) (omega (arith, read.bounds))
     (omega (arith, read.bounds)) (omega (arith, read.bounds)) c.in_err-symbol.ensures.missing)
-    (halt_token 16 SpellsValue tokens from 0 1 (BehindSymbol s.RIGHT_ROUND Ends) bracket_fills (omega arith) (is_symbol s.RIGHT_ROUND) value.end value.stop c.in_err-symbol.field-0.0 at c.in_err-symbol.ensures.missing)
+    (halt_token 16 SpellsValue tokens from 0 1 (BehindSymbol s.RIGHT_ROUND Ends) bracket_fills (omega arith)
+    (is_symbol s.RIGHT_ROUND) value.end value.stop c.in_err-symbol.field-0.0 at c.in_err-symbol.ensures.missing)
 
 pub returns : goal.returns
 returns c =
@@ -47,13 +55,17 @@ returns c =
     let few : length tokens < 2 ^ 55 = search rules in
     let value = c.in_ok-value.value in
     let read = c.in_ok-value.ensures in
-    let at = value_past tokens from c.requires.within few c.requires.bracket value.part value.end value.stop read.spells (omega (arith, read.bounds)) (omega (arith, read.bounds)) read.least in
+    let at = value_past tokens from c.requires.within few c.requires.bracket value.part value.end value.stop read.spells
+    (omega (arith, read.bounds)) (omega (arith, read.bounds)) read.least in
     record {
       spells = search rules;
       only = search rules;
       ahead = search rules;
       refused = tt;
-      least = goes_in_told 16 SpellsValue tokens from 0 (omega arith) (value.end + 1) c.max.result (omega (arith, read.bounds))
+      least = goes_in_told 16 SpellsValue tokens from 0 (omega arith) (value.end + 1) c.max.result
+          (omega (arith, read.bounds))
           (done 16 SpellsValue tokens from 0 (value.end + 1) value.stop c.max.result
-          (past_symbol 16 SpellsValue tokens from 0 s.RIGHT_ROUND Ends value.end value.stop (value.end + 1) (omega arith) at c.in_ok-symbol.ensures.stands c.in_ok-symbol.ensures.within) (omega (arith, c.max.ensures)));
+          (past_symbol 16 SpellsValue tokens from 0 s.RIGHT_ROUND Ends value.end value.stop (value.end + 1)
+          (omega arith) at c.in_ok-symbol.ensures.stands c.in_ok-symbol.ensures.within)
+          (omega (arith, c.max.ensures)));
     }

@@ -1,3 +1,4 @@
+-- That FOR and its name are read where FOR stands.
 use Rattle.std.proofs.Common.{◌<◌, ◌^◌, length, rules, refl, arith, ◌+◌}
 use Rattle.pearl_parse_expr.specs.Stops.{is_name}
 use Rattle.pearl_parse.proofs.Steps.{err_told, missing_is_refused}
@@ -11,7 +12,8 @@ use Rattle.pearl_parse.proofs.loops.control.Goals as goal
 pub returns-in_err-control-clause-memory : goal.returns-in_err-control-clause-memory
 returns-in_err-control-clause-memory c =
     err_told _ _ c.in_err-control.field-0.0 c.from_residual.result c.from_residual.ensures (λ e is. is)
-    (missing_is_refused c.args.tokens.now is_name (c.args.from + 1) c.args.from c.in_err-control.field-0.0 c.in_err-control.ensures.missing)
+    (missing_is_refused c.args.tokens.now is_name (c.args.from + 1) c.args.from c.in_err-control.field-0.0
+    c.in_err-control.ensures.missing)
 
 pub returns-in_err-control-clause-reads : goal.returns-in_err-control-clause-reads
 returns-in_err-control-clause-reads c =

@@ -1,3 +1,4 @@
+-- That no token is left.
 use Rattle.pearl_parse.proofs.ModuleRests.{some_token}
 use Rattle.pearl_parse.proofs.module.end_of_tokens.Goals as goal
 

@@ -1,3 +1,4 @@
+-- That MODULE is read with its name and semicolon, or the least stop is told.
 use Rattle.std.proofs.Common.{◌+◌, ap, inl, ◌<◌, ◌^◌, length, rules, refl, arith}
 use Rattle.pearl_tree.specs.declared.symbol.TheConstants as s
 use Rattle.pearl_tree.specs.declared.word_code.TheConstants as w
@@ -6,7 +7,7 @@ use Rattle.pearl_parse_expr.specs.Stops.{is_symbol, is_word}
 use Rattle.pearl_parse.specs.Modules.{SpellsOptionalName, SpellsHead, begins_module_name}
 use Rattle.pearl_parse.proofs.Steps.{err_told, missing_is_refused, past_only, missing, no_first, ends}
 use Rattle.pearl_parse.proofs.Optional.{maybe_of}
-use Rattle.pearl_parse.proofs.LeafRests.{exit_rest}
+use Rattle.pearl_parse.proofs.StatementRests.{exit_rest}
 use Rattle.pearl_parse.proofs.ModuleRests.{head_rest, head_goes, name_goes}
 use Rattle.pearl_parse.proofs.ModuleLeast.{no_module, no_title, no_title_end}
 use Rattle.pearl_parse.proofs.Unread.{unread}
@@ -54,7 +55,8 @@ returns-in_err-symbol-clause-reads c =
     (λ others to h. ap (is_symbol s.SEMICOLON) h.0) (omega (arith, read.bounds)) (omega (arith, read.bounds))
     read.bounds.3 c.in_err-symbol.ensures.missing)
     (no_title_end tokens from c.requires few word.stands word.within name.part name.end name.stop read.spells
-    (omega (arith, read.bounds)) c.in_ok-name.ensures.close (omega (arith, read.bounds)) told c.in_err-symbol.ensures.missing)
+    (omega (arith, read.bounds)) c.in_ok-name.ensures.close (omega (arith, read.bounds)) told
+    c.in_err-symbol.ensures.missing)
 
 pub returns-clause-reads : goal.returns-clause-reads
 returns-clause-reads c =

@@ -1,3 +1,4 @@
+-- That the name of a module is read where one stands, bare or in brackets.
 use Rattle.std.proofs.Common.{◌+◌, inl, refl, sym, ap, ◌<◌, ◌^◌, length, rules, arith}
 use Rattle.pearl_tree.specs.Standing.{what_at, SpellsMaybe}
 use Rattle.pearl_tree.specs.Modules.{SpellsModuleName}
@@ -5,7 +6,8 @@ use Rattle.pearl_tree.specs.declared.symbol.TheConstants as s
 use Rattle.pearl_parse_expr.specs.Stops.{is_name, is_symbol}
 use Rattle.pearl_parse.specs.Modules.{begins_module_name, SpellsOptionalName}
 use Rattle.pearl_parse.proofs.Steps.{err_told, missing_is_refused, missing, ends, optional_is_none}
-use Rattle.pearl_parse.proofs.ModuleRests.{bracketed_rest, bracketed_goes, bracket_closes, bare_is_only, name_begins, no_name}
+use Rattle.pearl_parse.proofs.ModuleRests.{bracketed_rest, bracketed_goes, bracket_closes, bare_is_only, name_begins}
+use Rattle.pearl_parse.proofs.ModuleRests.{no_name}
 use Rattle.pearl_parse.proofs.ModuleLeast.{no_bracketed, no_bracket}
 use Rattle.pearl_parse.proofs.States.{halts_in}
 use Rattle.pearl_parse.proofs.Unread.{unread_only_maybe}
@@ -36,9 +38,11 @@ returns-in_err-symbol-clause-reads c =
     unread_only_maybe _ halt c.from_residual-in_err-symbol.result c.from_residual-in_err-symbol.ensures (λ e is. is)
     (missing SpellsOptionalName tokens from (is_symbol s.RIGHT_ROUND) bracketed_rest (from + 1) from (from + 2) halt
     (bracketed_goes tokens from (c.if-is_symbol.ensures.stands refl))
-    (λ others to h. bracket_closes others from to h) (omega arith) (omega (arith, two)) c.requires c.in_err-symbol.ensures.missing)
+    (λ others to h. bracket_closes others from to h) (omega arith) (omega (arith, two)) c.requires
+    c.in_err-symbol.ensures.missing)
     (halts_in 16 (λ tokens. SpellsMaybe (SpellsModuleName tokens)) tokens from 0 (omega arith) halt
-    (no_bracket tokens from (c.if-is_symbol.ensures.stands refl) within few c.in_ok-name.name c.in_ok-name.ensures.stands two halt
+    (no_bracket tokens from (c.if-is_symbol.ensures.stands refl) within few c.in_ok-name.name
+    c.in_ok-name.ensures.stands two halt
     c.in_err-symbol.ensures.missing))
 
 pub returns-then-is_symbol-clause-reads : goal.returns-then-is_symbol-clause-reads
@@ -48,7 +52,8 @@ returns-then-is_symbol-clause-reads c =
     record {
       spells = search rules;
       only = ends SpellsOptionalName tokens from bracketed_rest (from + 1) from (from + 3) (from + 3)
-          (bracketed_goes tokens from (c.if-is_symbol.ensures.stands refl)) (omega arith) (λ others to h. omega (arith, h.2));
+          (bracketed_goes tokens from (c.if-is_symbol.ensures.stands refl)) (omega arith)
+          (λ others to h. omega (arith, h.2));
       bounds = search rules;
       refused = tt;
       least = record { goes = inl refl };
@@ -57,7 +62,8 @@ returns-then-is_symbol-clause-reads c =
 pub returns-in-Some-clause-reads : goal.returns-in-Some-clause-reads
 returns-in-Some-clause-reads c = record {
   spells = search rules;
-  only = bare_is_only c.args.tokens.now c.args.from (sym c.if-is_symbol.ensures.value) (ap is_name c.in-Some.ensures.some.0);
+  only = bare_is_only c.args.tokens.now c.args.from (sym c.if-is_symbol.ensures.value)
+      (ap is_name c.in-Some.ensures.some.0);
   bounds = search rules;
   refused = tt;
   least = record { goes = inl refl };
@@ -80,9 +86,12 @@ returns-in-None-clause-reads c =
 pub returns-in_err-name-clause-memory : goal.returns-in_err-name-clause-memory
 returns-in_err-name-clause-memory c =
     err_told _ _ c.in_err-name.field-0.0 c.from_residual.result c.from_residual.ensures (λ e is. is)
-    (missing_is_refused c.args.tokens.now is_name (c.args.from + 1) c.args.from c.in_err-name.field-0.0 c.in_err-name.ensures.missing)
+    (missing_is_refused c.args.tokens.now is_name (c.args.from + 1) c.args.from c.in_err-name.field-0.0
+    c.in_err-name.ensures.missing)
 
 pub returns-in_err-symbol-clause-memory : goal.returns-in_err-symbol-clause-memory
 returns-in_err-symbol-clause-memory c =
-    err_told _ _ c.in_err-symbol.field-0.0 c.from_residual-in_err-symbol.result c.from_residual-in_err-symbol.ensures (λ e is. is)
-    (missing_is_refused c.args.tokens.now (is_symbol s.RIGHT_ROUND) (c.args.from + 2) c.args.from c.in_err-symbol.field-0.0 c.in_err-symbol.ensures.missing)
+    err_told _ _ c.in_err-symbol.field-0.0 c.from_residual-in_err-symbol.result c.from_residual-in_err-symbol.ensures
+    (λ e is. is)
+    (missing_is_refused c.args.tokens.now (is_symbol s.RIGHT_ROUND) (c.args.from + 2) c.args.from
+    c.in_err-symbol.field-0.0 c.in_err-symbol.ensures.missing)

@@ -1,3 +1,4 @@
+-- That the end of a period is read where UNTIL or DURING stands.
 use Rattle.std.proofs.Common.{rules, arith}
 use Rattle.pearl_tree.specs.Statements.{SpellsPeriodEnd}
 use Rattle.pearl_tree.specs.declared.word_code.TheConstants as w
@@ -17,7 +18,9 @@ returns-in-Ok-clause-reads c =
       longest = search rules;
       bounds = search rules;
       refused = tt;
-      least = told_as 8 8 (After w.UNTIL) (Maybe SpellsPeriodEnd) tokens from from (omega arith) (until_reaches tokens from) c.args.least_stop time.end time.stop (omega (arith, c.in-Ok.ensures.bounds)) c.in-Ok.ensures.least;
+      least = told_as 8 8 (After w.UNTIL) (Maybe SpellsPeriodEnd) tokens from from (omega arith)
+          (until_reaches tokens from) c.args.least_stop time.end time.stop (omega (arith, c.in-Ok.ensures.bounds))
+          c.in-Ok.ensures.least;
     }
 
 pub returns-in-Err-clause-reads : goal.returns-in-Err-clause-reads
@@ -29,7 +32,8 @@ returns-in-Err-clause-reads c =
       longest = tt;
       bounds = tt;
       refused = search rules;
-      least = halts_behind_as 8 8 (After w.UNTIL) (Maybe SpellsPeriodEnd) tokens from from (omega arith) (until_reaches tokens from) c.args.least_stop c.in-Err.halt c.in-Err.ensures.least;
+      least = halts_behind_as 8 8 (After w.UNTIL) (Maybe SpellsPeriodEnd) tokens from from (omega arith)
+          (until_reaches tokens from) c.args.least_stop c.in-Err.halt c.in-Err.ensures.least;
     }
 
 pub returns-in-Ok-after-clause-reads : goal.returns-in-Ok-after-clause-reads
@@ -42,7 +46,9 @@ returns-in-Ok-after-clause-reads c =
       longest = search rules;
       bounds = search rules;
       refused = tt;
-      least = told_as 8 8 (After w.DURING) (Maybe SpellsPeriodEnd) tokens from from (omega arith) (during_reaches tokens from) c.args.least_stop duration.end duration.stop (omega (arith, c.in-Ok-after.ensures.bounds)) c.in-Ok-after.ensures.least;
+      least = told_as 8 8 (After w.DURING) (Maybe SpellsPeriodEnd) tokens from from (omega arith)
+          (during_reaches tokens from) c.args.least_stop duration.end duration.stop
+          (omega (arith, c.in-Ok-after.ensures.bounds)) c.in-Ok-after.ensures.least;
     }
 
 pub returns-in-Err-after-clause-reads : goal.returns-in-Err-after-clause-reads
@@ -54,5 +60,6 @@ returns-in-Err-after-clause-reads c =
       longest = tt;
       bounds = tt;
       refused = search rules;
-      least = halts_behind_as 8 8 (After w.DURING) (Maybe SpellsPeriodEnd) tokens from from (omega arith) (during_reaches tokens from) c.args.least_stop c.in-Err-after.halt c.in-Err-after.ensures.least;
+      least = halts_behind_as 8 8 (After w.DURING) (Maybe SpellsPeriodEnd) tokens from from (omega arith)
+          (during_reaches tokens from) c.args.least_stop c.in-Err-after.halt c.in-Err-after.ensures.least;
     }

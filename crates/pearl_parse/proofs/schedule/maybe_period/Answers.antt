@@ -1,3 +1,4 @@
+-- That a period is read where ALL stands.
 use Rattle.std.proofs.Common.{rules, sym, arith}
 use Rattle.pearl_tree.specs.declared.word_code.TheConstants as w
 use Rattle.pearl_parse_expr.specs.Stops.{extends_expression, is_word}
@@ -13,10 +14,13 @@ pub returns-in-Ok : goal.returns-in-Ok
 returns-in-Ok c =
     record {
       spells = search rules;
-      longest = optional_is_longest (is_word w.ALL) SpellsLongPeriod c.args.tokens.now c.args.from extends_expression c.in-Ok.read.end c.in-Ok.read.stop (sym c.if-not-is_word.ensures.value) (omega (arith, c.in-Ok.ensures.bounds)) c.in-Ok.ensures.longest;
+      longest = optional_is_longest (is_word w.ALL) SpellsLongPeriod c.args.tokens.now c.args.from extends_expression
+          c.in-Ok.read.end c.in-Ok.read.stop (sym c.if-not-is_word.ensures.value)
+          (omega (arith, c.in-Ok.ensures.bounds)) c.in-Ok.ensures.longest;
       bounds = search rules;
       refused = tt;
-      least = told_some SpellsPeriod c.args.tokens.now c.args.from c.args.least_stop c.in-Ok.read.end c.in-Ok.read.stop (omega (arith, c.in-Ok.ensures.bounds)) c.in-Ok.ensures.least;
+      least = told_some SpellsPeriod c.args.tokens.now c.args.from c.args.least_stop c.in-Ok.read.end c.in-Ok.read.stop
+          (omega (arith, c.in-Ok.ensures.bounds)) c.in-Ok.ensures.least;
     }
 
 pub returns-in-Err : goal.returns-in-Err
@@ -25,8 +29,10 @@ returns-in-Err c =
       spells = tt;
       longest = tt;
       bounds = tt;
-      refused = optional_is_stopped (is_word w.ALL) SpellsLongPeriod c.args.tokens.now c.args.from c.args.least_stop c.in-Err.halt (sym c.if-not-is_word.ensures.value) c.in-Err.ensures.refused;
-      least = halts_some SpellsPeriod c.args.tokens.now c.args.from c.args.least_stop c.in-Err.halt c.in-Err.ensures.least;
+      refused = optional_is_stopped (is_word w.ALL) SpellsLongPeriod c.args.tokens.now c.args.from c.args.least_stop
+          c.in-Err.halt (sym c.if-not-is_word.ensures.value) c.in-Err.ensures.refused;
+      least = halts_some SpellsPeriod c.args.tokens.now c.args.from c.args.least_stop c.in-Err.halt
+          c.in-Err.ensures.least;
     }
 
 pub returns-then-not-is_word : goal.returns-then-not-is_word
@@ -36,5 +42,6 @@ returns-then-not-is_word c =
       longest = search rules;
       bounds = search rules;
       refused = tt;
-      least = told_none 16 (Maybe SpellsPeriod) c.args.tokens.now c.args.from c.args.least_stop c.max.result (omega (arith, c.max.ensures));
+      least = told_none 16 (Maybe SpellsPeriod) c.args.tokens.now c.args.from c.args.least_stop c.max.result
+          (omega (arith, c.max.ensures));
     }

@@ -1,3 +1,4 @@
+-- That a period is read, or the least stop is told.
 use Rattle.std.proofs.Common.{◌<◌, ◌^◌, length, rules, arith}
 use Rattle.pearl_parse.proofs.Steps.{err_told, Ends, Then}
 use Rattle.pearl_parse.proofs.ScheduleRests.{period_stopped}
@@ -18,10 +19,14 @@ returns-in_err-end c =
     let from = c.args.from in
     let low = c.args.least_stop in
     let few : length tokens < 2 ^ 55 = search rules in
-    let at = period_past tokens from low (omega (arith, c.requires.from)) few duration.part duration.end duration.stop read.spells (omega (arith, read.bounds)) (omega (arith, read.bounds)) read.least in
-    unread_behind _ c.in_err-end.field-0.0 c.from_residual-in_err-end.result c.from_residual-in_err-end.ensures (λ e is. is)
-    (period_stopped c.args.tokens.now c.args.from c.args.least_stop duration.end duration.stop c.in_err-end.field-0.0 read.longest (omega (arith, read.bounds)) read.bounds.2 c.in_err-end.ensures.reads.refused)
-    (halt_part 16 SpellsPeriod tokens from low 0 8 (Maybe SpellsPeriodEnd) Ends maybe_end_is_local ends_fill (omega arith) duration.end duration.stop (omega (arith, read.bounds)) at
+    let at = period_past tokens from low (omega (arith, c.requires.from)) few duration.part duration.end duration.stop
+    read.spells (omega (arith, read.bounds)) (omega (arith, read.bounds)) read.least in
+    unread_behind _ c.in_err-end.field-0.0 c.from_residual-in_err-end.result c.from_residual-in_err-end.ensures
+    (λ e is. is)
+    (period_stopped c.args.tokens.now c.args.from c.args.least_stop duration.end duration.stop c.in_err-end.field-0.0
+    read.longest (omega (arith, read.bounds)) read.bounds.2 c.in_err-end.ensures.reads.refused)
+    (halt_part 16 SpellsPeriod tokens from low 0 8 (Maybe SpellsPeriodEnd) Ends maybe_end_is_local ends_fill
+    (omega arith) duration.end duration.stop (omega (arith, read.bounds)) at
     c.in_err-end.field-0.0 c.in_err-end.ensures.reads.least)
 
 pub returns-in_err-duration : goal.returns-in_err-duration
@@ -32,8 +37,10 @@ returns-in_err-duration c =
     let few : length tokens < 2 ^ 55 = search rules in
     unread_behind _ c.in_err-duration.field-0.0 c.from_residual.result c.from_residual.ensures (λ e is. is)
     (search rules)
-    (halt_part 16 SpellsPeriod tokens from low 0 8 (After w.ALL) (Then (Maybe SpellsPeriodEnd) Ends) (after_is_local w.ALL) end_fills (omega arith) from low (omega arith)
-    (period_first tokens from low (omega (arith, c.requires.from)) few) c.in_err-duration.field-0.0 c.in_err-duration.ensures.least)
+    (halt_part 16 SpellsPeriod tokens from low 0 8 (After w.ALL) (Then (Maybe SpellsPeriodEnd) Ends)
+    (after_is_local w.ALL) end_fills (omega arith) from low (omega arith)
+    (period_first tokens from low (omega (arith, c.requires.from)) few) c.in_err-duration.field-0.0
+    c.in_err-duration.ensures.least)
 
 pub returns : goal.returns
 returns c =
@@ -43,7 +50,8 @@ returns c =
     let few : length tokens < 2 ^ 55 = search rules in
     let duration = c.in_ok-duration.duration in
     let read = c.in_ok-duration.ensures in
-    let at = period_past tokens from low (omega (arith, c.requires.from)) few duration.part duration.end duration.stop read.spells (omega (arith, read.bounds)) (omega (arith, read.bounds)) read.least in
+    let at = period_past tokens from low (omega (arith, c.requires.from)) few duration.part duration.end duration.stop
+    read.spells (omega (arith, read.bounds)) (omega (arith, read.bounds)) read.least in
     let end = c.in_ok-end.end in
     let last = c.in_ok-end.ensures.reads in
     record {
@@ -52,6 +60,8 @@ returns c =
       bounds = search rules;
       refused = tt;
       least = done 16 SpellsPeriod tokens from low end.end end.stop end.stop
-          (past_part 16 SpellsPeriod tokens from low 0 8 (Maybe SpellsPeriodEnd) Ends maybe_end_is_local ends_fill (omega arith) duration.end duration.stop (omega (arith, read.bounds)) at end.part end.end end.stop
-          last.spells (omega (arith, last.bounds)) (omega (arith, last.bounds)) last.least) (omega (arith, last.bounds));
+          (past_part 16 SpellsPeriod tokens from low 0 8 (Maybe SpellsPeriodEnd) Ends maybe_end_is_local ends_fill
+          (omega arith) duration.end duration.stop (omega (arith, read.bounds)) at end.part end.end end.stop
+          last.spells (omega (arith, last.bounds)) (omega (arith, last.bounds)) last.least)
+          (omega (arith, last.bounds));
     }

@@ -1,9 +1,11 @@
+-- What the loops keep of the parts that they read, and what falls with each call and each turn.
 use Rattle.std.proofs.Common.{◌+◌, ◌-◌, ◌*◌, length}
 use Rattle.pearl_tree.specs.Standing.{SpellsEach}
 use Rattle.pearl_tree.specs.Statements.{SpellsStmt, SpellsBranch}
 use Rattle.pearl_tree.specs.declared.word_code.TheConstants as w
 use Rattle.pearl_parse.specs.Reached.{GoesBehind}
-use Rattle.pearl_parse.specs.Stops.{StopsWithin, begins_statement}
+use Rattle.pearl_parse_expr.specs.Stops.{StopsWithin}
+use Rattle.pearl_parse.specs.Stops.{begins_statement}
 use Rattle.pearl_parse.specs.Bodies.{SpellsStatements}
 use Rattle.pearl_parse.proofs.Repetitions.{EachGoes}
 use Rattle.pearl_parse.proofs.Choices.{ChoicesGo}
@@ -55,7 +57,8 @@ invariant-alternatives-each l = record {
   spells : SpellsEach (SpellsBranch l.tokens l.depth w.ALT) l.from l.list.items l.end;
   goes : ChoicesGo l.tokens l.depth l.from l.end l.stop;
   bounds : StopsWithin l.tokens l.from l.least_stop l.end l.stop;
-  least : GoesBehind 24 (λ tokens. SpellsEach (SpellsBranch tokens l.depth w.ALT)) l.tokens l.from l.least_stop l.end l.stop;
+  least : GoesBehind 24 (λ tokens. SpellsEach (SpellsBranch tokens l.depth w.ALT)) l.tokens l.from l.least_stop l.end
+      l.stop;
 }
 
 abbrev pub decreases-alternatives-each : goal.decreases-alternatives-each

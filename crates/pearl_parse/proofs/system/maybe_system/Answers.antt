@@ -1,3 +1,4 @@
+-- That the system part of a module is read where SYSTEM stands.
 use Rattle.std.proofs.Common.{rules, sym, inl, refl, arith}
 use Rattle.pearl_tree.specs.Modules.{SpellsSystem}
 use Rattle.pearl_tree.specs.declared.word_code.TheConstants as w
@@ -30,7 +31,8 @@ returns-in-Ok c =
     let read = c.in-Ok.ensures in
     record {
       spells = search rules;
-      longest = optional_is_longest (is_word w.SYSTEM) SpellsSystem c.args.tokens.now c.args.from is_name c.in-Ok.devices.end
+      longest = optional_is_longest (is_word w.SYSTEM) SpellsSystem c.args.tokens.now c.args.from is_name
+          c.in-Ok.devices.end
           c.in-Ok.devices.stop (sym c.if-not-is_word.ensures.value)
           (omega (arith, read.ahead)) read.longest;
       bounds = search rules;

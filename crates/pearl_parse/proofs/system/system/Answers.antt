@@ -1,3 +1,4 @@
+-- That the system part of a module is read, or the least stop is told.
 use Rattle.std.proofs.Common.{◌+◌, ap, ◌<◌, ◌^◌, length, rules, arith}
 use Rattle.pearl_tree.specs.Modules.{SpellsSystem}
 use Rattle.pearl_tree.specs.declared.symbol.TheConstants as s
@@ -16,7 +17,8 @@ returns-in_err-symbol c =
     let few : length tokens < 2 ^ 55 = search rules in
     let halt = c.in_err-symbol.field-0.0 in
     unread_as _ halt c.from_residual.result c.from_residual.ensures (λ e is. is)
-    (missing SpellsSystem tokens from (is_symbol s.SEMICOLON) devices_rest (from + 1) from (from + 1) halt (devices_go tokens from)
+    (missing SpellsSystem tokens from (is_symbol s.SEMICOLON) devices_rest (from + 1) from (from + 1) halt
+    (devices_go tokens from)
     (λ others to h. ap (is_symbol s.SEMICOLON) h.0) (omega arith) (omega (arith, c.requires.within))
     (omega (arith, c.requires.within)) c.in_err-symbol.ensures.missing)
     (halts_in 16 SpellsSystem tokens from 0 (omega arith) halt
@@ -28,7 +30,7 @@ returns-in-Ok c =
     let from = c.args.from in
     let few : length tokens < 2 ^ 55 = search rules in
     let devices = c.in-Ok.devices in
-    let read = c.in-Ok.ensures in
+    let read = c.in-Ok.ensures.reads in
     record {
       spells = search rules;
       longest = system_is_longest tokens from devices.end devices.stop read.longest;

@@ -1,3 +1,4 @@
+-- That formats are read with the semicolon behind them, or the least stop is told.
 use Rattle.std.proofs.Common.{◌<◌, ◌^◌, length, rules, ◌+◌, refl, sym, arith}
 use Rattle.pearl_tree.specs.Standing.{SpellsList}
 use Rattle.pearl_tree.specs.Formats.{SpellsFmt}
@@ -20,14 +21,24 @@ returns-then-not-is_symbol c =
     let few : length tokens < 2 ^ 55 = search rules in
     let list = c.in-Ok.list in
     let read = c.in-Ok.ensures.reads in
-    let at = past_part 24 SpellsFormats tokens from low 1 16 (λ tokens. SpellsList tokens (SpellsFmt tokens)) semicolon formats_are_local semicolon_fills (omega arith) from low (omega arith) (formats_first tokens from low (omega (arith, c.requires.from)) few) list.part.items
-    list.end c.max.result read.spells (omega (arith, read.ahead)) (omega (arith, c.max.ensures, read.ahead, c.requires.least_stop)) (list.stop, omega (arith, read.ahead), read.least, omega (arith, c.max.ensures)) in
+    let at = past_part 24 SpellsFormats tokens from low 1 16 (λ tokens. SpellsList tokens (SpellsFmt tokens)) semicolon
+    formats_are_local semicolon_fills (omega arith) from low (omega arith)
+    (formats_first tokens from low (omega (arith, c.requires.from)) few) list.part.items
+    list.end c.max.result read.spells (omega (arith, read.ahead))
+    (omega (arith, c.max.ensures, read.ahead, c.requires.least_stop)) (
+      list.stop,
+      omega (arith, read.ahead),
+      read.least,
+      omega (arith, c.max.ensures),
+    ) in
     record {
       spells = tt;
       only = tt;
       bounds = tt;
       refused = search rules;
-      least = halt_token 24 SpellsFormats tokens from low 1 semicolon semicolon_fills (omega arith) (is_symbol s.SEMICOLON) list.end c.max.result (Refused c.max.result) at (sym c.if-not-is_symbol.ensures.value, omega (arith, c.max.ensures, read.ahead));
+      least = halt_token 24 SpellsFormats tokens from low 1 semicolon semicolon_fills (omega arith)
+          (is_symbol s.SEMICOLON) list.end c.max.result (Refused c.max.result) at
+          (sym c.if-not-is_symbol.ensures.value, omega (arith, c.max.ensures, read.ahead));
     }
 
 pub returns-else-not-is_symbol : goal.returns-else-not-is_symbol
@@ -44,10 +55,16 @@ returns-else-not-is_symbol c =
       bounds = search rules;
       refused = tt;
       least = done 24 SpellsFormats tokens from low (list.end + 1) c.max-in-Ok.result c.max-in-Ok-2.result
-          (past_symbol 24 SpellsFormats tokens from low s.SEMICOLON Ends list.end c.max-in-Ok.result (list.end + 1) (omega arith)
-          (past_part 24 SpellsFormats tokens from low 1 16 (λ tokens. SpellsList tokens (SpellsFmt tokens)) semicolon formats_are_local semicolon_fills (omega arith) from low (omega arith) (formats_first tokens from low (omega (arith, c.requires.from)) few) list.part.items
-          list.end c.max-in-Ok.result read.spells (omega (arith, read.ahead)) (omega (arith, c.max-in-Ok.ensures, read.ahead, c.requires.least_stop)) (list.stop, omega (arith, read.ahead), read.least, omega (arith, c.max-in-Ok.ensures)))
-          (c.if-not-is_symbol.ensures.stands refl) (c.if-not-is_symbol.ensures.within refl)) (omega (arith, c.max-in-Ok-2.ensures));
+          (past_symbol 24 SpellsFormats tokens from low s.SEMICOLON Ends list.end c.max-in-Ok.result (list.end + 1)
+          (omega arith)
+          (past_part 24 SpellsFormats tokens from low 1 16 (λ tokens. SpellsList tokens (SpellsFmt tokens)) semicolon
+          formats_are_local semicolon_fills (omega arith) from low (omega arith)
+          (formats_first tokens from low (omega (arith, c.requires.from)) few) list.part.items
+          list.end c.max-in-Ok.result read.spells (omega (arith, read.ahead))
+          (omega (arith, c.max-in-Ok.ensures, read.ahead, c.requires.least_stop))
+          (list.stop, omega (arith, read.ahead), read.least, omega (arith, c.max-in-Ok.ensures)))
+          (c.if-not-is_symbol.ensures.stands refl) (c.if-not-is_symbol.ensures.within refl))
+          (omega (arith, c.max-in-Ok-2.ensures));
     }
 
 pub returns-in-Refused : goal.returns-in-Refused
@@ -61,7 +78,11 @@ returns-in-Refused c =
       only = tt;
       bounds = tt;
       refused = search rules;
-      least = halt_part 24 SpellsFormats tokens from low 1 16 (λ tokens. SpellsList tokens (SpellsFmt tokens)) semicolon formats_are_local semicolon_fills (omega arith) from low (omega arith) (formats_first tokens from low (omega (arith, c.requires.from)) few)
+      least = halt_part 24 SpellsFormats tokens from low 1 16 (λ tokens. SpellsList tokens (SpellsFmt tokens)) semicolon
+          formats_are_local semicolon_fills (omega arith) from low (omega arith)
+          (formats_first tokens from low (omega (arith, c.requires.from)) few)
           (Refused c.max-in-Refused.result)
-          (halted_behind (λ tokens. SpellsList tokens (SpellsFmt tokens)) tokens from c.in-Err.halt c.in-Refused.stop low c.max-in-Refused.result c.in-Refused.is c.in-Err.ensures.reads.refused c.in-Err.ensures.reads.least (omega (arith, c.max-in-Refused.ensures)));
+          (halted_behind (λ tokens. SpellsList tokens (SpellsFmt tokens)) tokens from c.in-Err.halt c.in-Refused.stop
+          low c.max-in-Refused.result c.in-Refused.is c.in-Err.ensures.reads.refused c.in-Err.ensures.reads.least
+          (omega (arith, c.max-in-Refused.ensures)));
     }

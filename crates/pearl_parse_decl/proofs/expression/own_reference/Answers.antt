@@ -1,3 +1,4 @@
+-- What `own_reference` answers: what was read as a name with selectors is a reference.
 use Rattle.std.proofs.Common.{rules}
 use Rattle.pearl_tree.specs.Expressions.{SpellsOwnRef}
 use Rattle.pearl_tree.specs.declared.limit.TheConstants as limit
@@ -15,7 +16,8 @@ returns-clause-reads c =
       ahead = read.ahead;
       refused = search rules;
       least =
-          least_as (λ tokens. SpellsNamed tokens limit.OWN_BRACKETS_MAX) SpellsOwnRef c.args.tokens.now c.args.from c.reference.result
+          least_as (λ tokens. SpellsNamed tokens limit.OWN_BRACKETS_MAX) SpellsOwnRef c.args.tokens.now c.args.from
+          c.reference.result
           (λ stop within r. own_ref_reaches c.args.tokens.now c.args.from stop (search rules) within r)
           read.ahead read.refused read.least;
     }

@@ -1,10 +1,8 @@
+-- What the list of fields is so far; its rest is shorter each time, and a type within another one is less deep.
 use Rattle.std.proofs.Common.{◌+◌, ◌-◌, ◌*◌, length}
-use Rattle.pearl_tree.specs.Standing.{SpellsList}
 use Rattle.pearl_tree.specs.Types.{SpellsField}
-use Rattle.pearl_parse_expr.specs.Stops.{IsAhead}
-use Rattle.pearl_parse_expr.specs.Least.{Reaches}
 use Rattle.pearl_parse_decl.specs.Readings.{by_bracket}
-use Rattle.pearl_parse_decl.proofs.Lists.{ListGoes}
+use Rattle.pearl_parse_decl.proofs.ListReach.{ListRead}
 use Rattle.pearl_parse_decl.proofs.typing.+typing.Given as goal
 
 abbrev pub decreases-fields : goal.decreases-fields
@@ -20,12 +18,8 @@ abbrev pub decreases-structure : goal.decreases-structure
 decreases-structure l = 4 * l.depth
 
 abbrev pub invariant-fields-each : goal.invariant-fields-each
-invariant-fields-each l = record {
-  spells : SpellsList l.tokens (SpellsField l.tokens l.depth) l.from l.list.items l.end;
-  goes : ListGoes (λ tokens. SpellsField tokens l.depth) by_bracket l.tokens l.from l.end l.stop;
-  ahead : IsAhead l.tokens l.from l.end l.stop;
-  reach : Reaches (λ tokens. SpellsList tokens (SpellsField tokens l.depth)) l.tokens l.from l.stop;
-}
+invariant-fields-each l = ListRead (λ tokens. SpellsField tokens l.depth) by_bracket l.tokens l.from l.list.items l.end
+    l.stop
 
 abbrev pub decreases-fields-each : goal.decreases-fields-each
 decreases-fields-each l = length l.tokens - l.end

@@ -1,16 +1,25 @@
+-- What `bounds` answers: want of memory, or bounds in brackets, which may be missing.
 use Rattle.std.proofs.Common.{rules, arith}
 use Rattle.pearl_tree.specs.Standing.{SpellsMaybeBracketed}
 use Rattle.pearl_tree.specs.Types.{SpellsBound, SpellsBounds}
 use Rattle.pearl_parse_expr.proofs.Reaching.{goes_as}
-use Rattle.pearl_parse_decl.proofs.ListReach.{no_memory_least}
+use Rattle.pearl_parse_decl.proofs.Behind.{no_memory_maybe}
 use Rattle.pearl_parse_decl.proofs.TypeReach.{bounds_reach}
 use Rattle.pearl_parse_decl.proofs.typing.bounds.Goals as goal
 
-pub returns-in-Ok-clause-least : goal.returns-in-Ok-clause-least
-returns-in-Ok-clause-least c =
+pub returns-in-Ok-clause-reads : goal.returns-in-Ok-clause-reads
+returns-in-Ok-clause-reads c =
     let list = c.in-Ok.list in
-    goes_as (λ tokens. SpellsMaybeBracketed tokens (SpellsBound tokens)) SpellsBounds c.args.tokens.now c.args.from c.args.from list.end list.stop
-    (λ r. bounds_reach c.args.tokens.now c.args.from list.stop (search rules) (omega (arith, c.in-Ok.ensures.ahead)) r) c.in-Ok.ensures.least
+    let read = c.in-Ok.ensures.reads in
+    record {
+      spells = search rules;
+      longest = search rules;
+      bounds = search rules;
+      refused = tt;
+      least = goes_as (λ tokens. SpellsMaybeBracketed tokens (SpellsBound tokens)) SpellsBounds c.args.tokens.now
+          c.args.from c.args.from list.end list.stop
+          (bounds_reach c.args.tokens.now c.args.from list.stop (search rules) (omega (arith, read.bounds))) read.least;
+    }
 
-pub returns-in-Err-clause-least : goal.returns-in-Err-clause-least
-returns-in-Err-clause-least c = no_memory_least 9 SpellsBounds c.args.tokens.now c.args.from c.in-Err.halt c.in-Err.ensures.refused
+pub returns-in-Err-clause-reads : goal.returns-in-Err-clause-reads
+returns-in-Err-clause-reads c = no_memory_maybe c.in-Err.halt c.in-Err.ensures.memory

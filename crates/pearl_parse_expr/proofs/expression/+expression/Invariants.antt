@@ -1,9 +1,6 @@
-use Rattle.std.proofs.Common.{◌≡◌, ◌+◌, ◌-◌, ◌*◌, ◌≤◌, length}
-use Rattle.pearl_tree.specs.Expressions.{SpellsTerms, SpellsExpr, dyad_count}
-use Rattle.pearl_parse_expr.specs.Stops.{IsAhead, SpellsSelectorsList, SpellsSubscriptsList}
-use Rattle.pearl_parse_expr.specs.Least.{Reaches}
-use Rattle.pearl_parse_expr.proofs.Parts.{SelectorsGo, SubscriptsGo}
-use Rattle.pearl_parse_expr.proofs.Chains.{ChainGoes}
+-- What the loops keep, and what shrinks: the brackets that may still stand, then the way down from class to class.
+use Rattle.std.proofs.Common.{◌+◌, ◌-◌, ◌*◌, length}
+use Rattle.pearl_parse_expr.proofs.Loops.{SelectorsRead, SubscriptsRead, ChainRead}
 use Rattle.pearl_parse_expr.proofs.expression.+expression.Given as goal
 
 abbrev pub decreases-subscripts : goal.decreases-subscripts
@@ -37,36 +34,19 @@ abbrev pub decreases-bracketed : goal.decreases-bracketed
 decreases-bracketed l = 9 * l.depth
 
 abbrev pub invariant-expression_at_depth-each : goal.invariant-expression_at_depth-each
-invariant-expression_at_depth-each l = record {
-  spells : SpellsTerms l.tokens l.depth l.from l.part l.end;
-  count : dyad_count l.part ≡ l.count;
-  goes : ChainGoes l.tokens l.depth l.from l.end l.stop l.count;
-  ahead : IsAhead l.tokens l.from l.end l.stop;
-  few : l.count ≤ 100;
-  reach : Reaches (λ tokens. SpellsExpr tokens l.depth) l.tokens l.from l.stop;
-}
+invariant-expression_at_depth-each l = ChainRead l.tokens l.depth l.from l.part l.count l.end l.stop
 
 abbrev pub decreases-expression_at_depth-each : goal.decreases-expression_at_depth-each
 decreases-expression_at_depth-each l = 100 - l.count
 
 abbrev pub invariant-selectors-each : goal.invariant-selectors-each
-invariant-selectors-each l = record {
-  spells : SpellsSelectorsList l.tokens l.depth l.from l.list.items l.end;
-  goes : SelectorsGo l.tokens l.depth l.from l.end l.stop;
-  ahead : (l.from ≤ l.end) × (l.end ≤ l.stop) × (l.stop ≤ length l.tokens);
-  reach : Reaches (λ tokens. SpellsSelectorsList tokens l.depth) l.tokens l.from l.stop;
-}
+invariant-selectors-each l = SelectorsRead l.tokens l.depth l.from l.list.items l.end l.stop
 
 abbrev pub decreases-selectors-each : goal.decreases-selectors-each
 decreases-selectors-each l = length l.tokens - l.end
 
 abbrev pub invariant-subscripts-each : goal.invariant-subscripts-each
-invariant-subscripts-each l = record {
-  spells : SpellsSubscriptsList l.tokens l.depth l.from l.list.items l.end;
-  goes : SubscriptsGo l.tokens l.depth l.from l.end l.stop;
-  ahead : IsAhead l.tokens l.from l.end l.stop;
-  reach : Reaches (λ tokens. SpellsSubscriptsList tokens l.depth) l.tokens l.from l.stop;
-}
+invariant-subscripts-each l = SubscriptsRead l.tokens l.depth l.from l.list.items l.end l.stop
 
 abbrev pub decreases-subscripts-each : goal.decreases-subscripts-each
 decreases-subscripts-each l = length l.tokens - l.end

@@ -1,3 +1,4 @@
+-- That a declaration of a body is no empty part, and depends on its own tokens alone.
 use Rattle.std.proofs.Common.{arith}
 use Rattle.pearl_tree.specs.Statements.{SpellsBodyDecl}
 use Rattle.pearl_parse_decl.proofs.LocalLists.{contained_of}

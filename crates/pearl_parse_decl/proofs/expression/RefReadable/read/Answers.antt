@@ -1,3 +1,4 @@
+-- What reading a reference of a list answers: whether tokens spell it depends on those before its end alone.
 use Rattle.pearl_parse_decl.proofs.LocalDeclarations.{own_ref_keeps}
 use Rattle.pearl_parse_decl.proofs.expression.RefReadable.read.Goals as goal
 

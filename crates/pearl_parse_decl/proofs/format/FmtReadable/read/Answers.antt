@@ -1,3 +1,4 @@
+-- What reading an item of a format answers: whether tokens spell it depends on those before its end alone.
 use Rattle.pearl_parse_decl.proofs.LocalDeclarations.{fmt_keeps}
 use Rattle.pearl_parse_decl.proofs.format.FmtReadable.read.Goals as goal
 

@@ -1,3 +1,4 @@
+-- What reading a parameter of a list answers: whether tokens spell it depends on those before its end alone.
 use Rattle.std.proofs.Common.{arith}
 use Rattle.pearl_tree.specs.Declarations.{SpellsParam}
 use Rattle.pearl_parse_decl.proofs.LocalLists.{contained_of}

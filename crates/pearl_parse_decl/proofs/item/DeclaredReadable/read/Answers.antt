@@ -1,3 +1,4 @@
+-- What reading a variable or semaphore of a list answers: it depends on the tokens before its end alone.
 use Rattle.std.proofs.Common.{arith}
 use Rattle.pearl_tree.specs.Declarations.{SpellsDeclared}
 use Rattle.pearl_parse_decl.proofs.LocalLists.{contained_of}

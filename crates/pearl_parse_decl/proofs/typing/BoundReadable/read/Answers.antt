@@ -1,3 +1,4 @@
+-- What reading a bound of a list answers: whether tokens spell it depends on those before its end alone.
 use Rattle.pearl_parse_decl.proofs.LocalDeclarations.{bound_keeps}
 use Rattle.pearl_parse_decl.proofs.typing.BoundReadable.read.Goals as goal
 

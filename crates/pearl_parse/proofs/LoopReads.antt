@@ -1,0 +1,93 @@
+-- The heads of a loop, read one after the other: what is left of them behind each.
+use Rattle.std.proofs.Common.{◌≡◌, ℕ, ◌<◌, ◌≤◌, ◌^◌, length, List, Option, Result, Ok, arith}
+use Rattle.std.specs.Result.{IsErr, IsErrAnd}
+use Rattle.pearl_tree.specs.declared.expression.Expr.{Expr}
+use Rattle.pearl_tree.specs.declared.name.Name.{Name}
+use Rattle.pearl_tree.specs.declared.token.Token.{Token}
+use Rattle.pearl_tree.specs.Statements.{SpellsFor}
+use Rattle.pearl_tree.specs.declared.word_code.TheConstants as w
+use Rattle.pearl_parse_expr.specs.declared.reading.Halt.{Halt}
+use Rattle.pearl_parse_expr.specs.declared.reading.Reading.{Reading}
+use Rattle.pearl_parse_expr.specs.Stops.{extends_expression}
+use Rattle.pearl_parse_expr.specs.Reads.{ReadsOnly}
+use Rattle.pearl_parse.specs.declared.loops.Heads.{Heads}
+use Rattle.pearl_parse.specs.Stops.{IsStopped}
+use Rattle.pearl_parse.specs.Bodies.{SpellsOptionalFor, SpellsHeads}
+use Rattle.pearl_parse.specs.Reached.{HaltsBehind}
+use Rattle.pearl_parse_expr.specs.Reads.{ReadsOnlyMaybe}
+use Rattle.pearl_parse.specs.Reads.{ReadsBehind}
+use Rattle.pearl_parse.proofs.Steps.{Rest, Then, Avoids, past, past_only, no_part}
+use Rattle.pearl_parse.proofs.ScheduleMade.{After}
+use Rattle.pearl_parse.proofs.Comes.{Fills, Maybe}
+use Rattle.pearl_parse.proofs.LoopRests.{Optional, from_rest, by_rest, to_rest, while_rest, repeat_word, heads_goes}
+use Rattle.pearl_parse.proofs.LoopRests.{avoids_by, avoids_to, avoids_while, avoids_repeat}
+use Rattle.pearl_parse.proofs.LoopLeast.{from_head, by_head, to_head, while_head, repeat_word as repeat_behind}
+use Rattle.pearl_parse.proofs.LoopLeast.{by_fills, to_fills, while_fills, repeat_fills, past_control, past_head}
+use Rattle.pearl_parse.proofs.LoopLeast.{head_halts}
+use Rattle.pearl_parse.proofs.Stands.{Stands}
+use Rattle.pearl_parse.proofs.Unread.{unread}
+
+module _ (tokens : List Token) (from : ℕ) where
+  abbrev pub HeadsAt : Rest → Rest → ℕ → ℕ → Type 0
+  HeadsAt = Stands 16 SpellsHeads tokens from 0 from
+
+  pub past_for : from ≤ length tokens → length tokens < 2 ^ 55 → (x : Reading (Option Name)) →
+      ReadsOnlyMaybe 8 (Maybe SpellsFor) SpellsOptionalFor (Maybe SpellsFor) tokens from (Ok x) →
+      HeadsAt from_rest from_head x.end x.stop
+  past_for inside few x read = record {
+    goes = past_only SpellsHeads tokens from SpellsOptionalFor from_rest from from x.end x.stop (heads_goes tokens from)
+        (omega (arith, read.bounds)) read.only;
+    level = past_control tokens from inside few x.part x.end x.stop read.spells (omega (arith, read.bounds))
+        (omega (arith, read.bounds)) (omega (arith, read.bounds)) read.least;
+    ahead = omega (arith, read.bounds);
+    near = omega (arith, read.bounds);
+    inside = omega (arith, read.bounds);
+  }
+
+  module _ (word : ℕ) (rest made : Rest) (fills : Fills 1 made) (at stop : ℕ)
+      (a : HeadsAt (Then (Optional word) rest) (Then (Maybe (After word)) made) at stop) where
+    pub past_optional : Avoids extends_expression rest → (x : Reading (Option Expr)) →
+        ReadsBehind 8 (Maybe (After word)) (Optional word) (Maybe (After word)) extends_expression tokens at at stop
+        (Ok x) → HeadsAt rest made x.end x.stop
+    past_optional avoids x read = record {
+      goes = past SpellsHeads tokens from (Optional word) extends_expression rest at stop x.end x.stop a.goes
+          (omega (arith, read.bounds)) read.longest avoids;
+      level = past_head tokens from word made fills at stop a.level x.part x.end x.stop read.spells
+          (omega (arith, read.bounds)) (omega (arith, read.bounds)) read.least;
+      ahead = omega (arith, a.ahead, read.bounds);
+      near = omega (arith, read.bounds);
+      inside = omega (arith, read.bounds);
+    }
+
+    pub no_optional : {Q : Halt → Type 0} (halt : Halt) (result : Result (Reading Heads) Halt) →
+        IsErr result × IsErrAnd result Q → ((e : Halt) → Q e → e ≡ halt) →
+        IsStopped (Optional word) tokens at stop halt →
+        HaltsBehind 8 (Maybe (After word)) tokens at stop halt → ReadsOnly 16 SpellsHeads tokens from result
+    no_optional {Q} halt result h step refused least =
+        unread 16 SpellsHeads tokens from Q halt result h step
+        (no_part SpellsHeads tokens from (Optional word) rest at stop halt a.goes (omega (arith, a.ahead, a.near))
+        refused)
+        (head_halts tokens from word made fills at stop a.level halt least)
+
+  -- ---- each of the heads that may be missing
+
+  abbrev pub OptionalRead : ℕ → ℕ → ℕ → Reading (Option Expr) → Type 0
+  OptionalRead word at stop x = ReadsBehind 8 (Maybe (After word)) (Optional word) (Maybe (After word))
+      extends_expression
+      tokens at at stop (Ok x)
+
+  pub past_from : (at stop : ℕ) → HeadsAt from_rest from_head at stop → (x : Reading (Option Expr)) →
+      OptionalRead w.FROM at stop x → HeadsAt by_rest by_head x.end x.stop
+  past_from at stop a = past_optional w.FROM by_rest by_head by_fills at stop a avoids_by
+
+  pub past_by : (at stop : ℕ) → HeadsAt by_rest by_head at stop → (x : Reading (Option Expr)) →
+      OptionalRead w.BY at stop x → HeadsAt to_rest to_head x.end x.stop
+  past_by at stop a = past_optional w.BY to_rest to_head to_fills at stop a avoids_to
+
+  pub past_to : (at stop : ℕ) → HeadsAt to_rest to_head at stop → (x : Reading (Option Expr)) →
+      OptionalRead w.TO at stop x → HeadsAt while_rest while_head x.end x.stop
+  past_to at stop a = past_optional w.TO while_rest while_head while_fills at stop a avoids_while
+
+  pub past_while : (at stop : ℕ) → HeadsAt while_rest while_head at stop → (x : Reading (Option Expr)) →
+      OptionalRead w.WHILE at stop x → HeadsAt repeat_word repeat_behind x.end x.stop
+  past_while at stop a = past_optional w.WHILE repeat_word repeat_behind repeat_fills at stop a avoids_repeat

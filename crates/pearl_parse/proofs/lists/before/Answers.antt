@@ -1,0 +1,71 @@
+-- That a list that may be missing is read with the word behind it, or the least stop is told.
+use Rattle.std.proofs.Common.{sym, ◌<◌, ◌≤◌, ◌^◌, length, rules, refl, arith}
+use Rattle.pearl_parse.proofs.Steps.{itself}
+use Rattle.pearl_parse.proofs.Before.{behind_list, no_word_behind, no_list}
+use Rattle.pearl_parse.proofs.TransferLeast.{no_list_least, no_word_least, before_least}
+use Rattle.pearl_parse.proofs.lists.before.Goals as goal
+
+pub returns-in-Err : goal.returns-in-Err
+returns-in-Err g c =
+    let tokens = c.args.tokens.now in
+    let few : length tokens < 2 ^ 55 = search rules in
+    let read = c.in-Err.ensures.reads in
+    record {
+      spells = tt;
+      only = tt;
+      ahead = tt;
+      refused = no_list g.P.Readable.spelling g.P.Readable.extends c.args.word c.requires.begins c.requires.stops tokens
+          c.args.from c.in-Err.halt (itself c.args.word) (sym c.if-is_word.ensures.value) read.refused;
+      least = λ known. no_list_least g.P.Readable.spelling c.in-Err.ensures.contained c.args.word known tokens
+          c.args.from (omega (arith, c.requires.within)) few c.in-Err.halt read.refused read.least;
+    }
+
+pub returns-then-not-is_word : goal.returns-then-not-is_word
+returns-then-not-is_word g c =
+    let tokens = c.args.tokens.now in
+    let few : length tokens < 2 ^ 55 = search rules in
+    let list = c.in-Ok.list in
+    let read = c.in-Ok.ensures.reads in
+    let after : c.args.from ≤ list.end = omega (arith, read.ahead) in
+    let near : list.end ≤ list.stop = omega (arith, read.ahead) in
+    let inside : list.stop ≤ length tokens = omega (arith, read.ahead) in
+    let other = sym c.if-is_word.ensures.value in
+    let behind = sym c.if-not-is_word.ensures.value in
+    record {
+      spells = tt;
+      only = tt;
+      ahead = tt;
+      refused = (
+        no_word_behind g.P.Readable.spelling g.P.Readable.extends c.args.word c.requires.begins c.requires.stops tokens
+            c.args.from list.end list.stop (itself c.args.word) other (omega (arith, after)) near read.longest behind,
+        omega (arith, after, near),
+        inside,
+      );
+      least = λ known. no_word_least g.P.Readable.spelling c.in-Ok.ensures.contained c.args.word known tokens
+          c.args.from
+          (omega (arith, c.requires.within)) few list.part.items list.end list.stop read.spells after near inside
+          read.least behind;
+    }
+
+pub returns : goal.returns
+returns g c =
+    let tokens = c.args.tokens.now in
+    let few : length tokens < 2 ^ 55 = search rules in
+    let list = c.in-Ok.list in
+    let read = c.in-Ok.ensures.reads in
+    let after : c.args.from ≤ list.end = omega (arith, read.ahead) in
+    let near : list.end ≤ list.stop = omega (arith, read.ahead) in
+    let inside : list.stop ≤ length tokens = omega (arith, read.ahead) in
+    record {
+      spells = search rules;
+      only = behind_list g.P.Readable.spelling g.P.Readable.extends c.args.word c.requires.begins c.requires.stops
+          tokens
+          c.args.from list.end list.stop c.max.result (itself c.args.word) (sym c.if-is_word.ensures.value)
+          (omega (arith, after, near, c.max.ensures)) (omega (arith, c.max.ensures)) read.longest;
+      ahead = search rules;
+      refused = tt;
+      least = λ known. before_least g.P.Readable.spelling c.in-Ok.ensures.contained c.args.word known tokens c.args.from
+          (omega (arith, c.requires.within)) few list.part.items list.end list.stop read.spells after near inside
+          read.least c.max.result (c.if-not-is_word.ensures.stands refl) (c.if-not-is_word.ensures.within refl)
+          (omega (arith, c.max.ensures));
+    }

@@ -1,7 +1,0 @@
-use Rattle.pearl_parse.proofs.simple.simple.Goals as goal
-
-pub returns-in-Exit : goal.returns-in-Exit
-returns-in-Exit c = c.exit.ensures.reads
-
-pub returns-in-Empty : goal.returns-in-Empty
-returns-in-Empty c = c.empty.ensures

@@ -1,0 +1,389 @@
+// Statements that schedule tasks, or name tasks, semaphores or interrupts.
+
+ghost use Rattle.std.specs.Prelude.{◌+◌, ◌<◌, ◌≤◌, length, ◌≡◌, ℕ, List};
+ghost use Rattle.pearl_tree.specs.Standing.{HasWord, SpellsMaybe, IsAt};
+ghost use Rattle.pearl_tree.specs.Statements.{SpellsPeriod, SpellsAfter, SpellsStart, SpellsOnce, task_word, interrupt_word, sema_word};
+ghost use Rattle.pearl_parse_expr.specs.declared.reading.Halt.{Halt};
+ghost use Rattle.pearl_parse.specs.Reads.{ReadsOnlyBehind, ReadsStatement};
+ghost use Rattle.pearl_tree.specs.declared.token.Token.{Token};
+ghost use Rattle.pearl_parse_decl.specs.Readings.{by_comma, never};
+ghost use Rattle.pearl_parse_expr.specs.Reads.{ReadsList};
+ghost use Rattle.pearl_tree.specs.declared.word_code.TheConstants as w;
+ghost use Rattle.pearl_parse.specs.Stops as spec;
+ghost use Rattle.pearl_parse.specs.Schedules as schedules;
+
+use crate::name::{maybe_name, name};
+use crate::schedule::{after, maybe_after, maybe_period, period};
+use crate::token::{symbol, word};
+use pearl_parse_decl::list::list;
+use pearl_parse_expr::reading::{Halt, Reading, boxed};
+use pearl_parse_expr::standing::{is_word, place_at};
+use pearl_tree::expression::Expr;
+use pearl_tree::name::Name;
+use pearl_tree::parts::Parts;
+use pearl_tree::statement::{
+    Activate, Continue, InterruptWord, OnInterrupt, OnSemas, OnTask, Once, Period, Resume,
+    SemaWord, Start, Stmt, TaskWord,
+};
+use pearl_tree::symbol::SEMICOLON;
+use pearl_tree::token::Token;
+use pearl_tree::word_code::*;
+use std::alloc::Global;
+
+/// What an activation names.
+#[derive(Drop)]
+pub struct Activation {
+    pub task: Name,
+    pub priority: Option<Expr>,
+}
+
+/// `ACTIVATE id [ PRIO expr ] ";"`
+fn activate(
+    alloc: Global,
+    tokens: &[Token],
+    from: usize,
+    least_stop: usize,
+) -> Result<Reading<Activation>, Halt>
+    requires from { from ≤ length tokens.now }
+    requires least_stop { (from ≤ least_stop) × (least_stop ≤ length tokens.now) }
+    ensures { ReadsOnlyBehind 16 schedules.SpellsActivated schedules.SpellsActivation schedules.SpellsActivation tokens.now from (from + 1) least_stop result }
+{
+    word(tokens, from, least_stop, ACTIVATE)?;
+    let task = name(tokens, from + 1, least_stop)?;
+    let priority = maybe_after(alloc, tokens, from + 2, least_stop, PRIO)?;
+    symbol(tokens, priority.end, priority.stop, SEMICOLON)?;
+    Ok(Reading {
+        part: Activation {
+            task,
+            priority: priority.part,
+        },
+        end: priority.end + 1,
+        stop: priority.stop.max(priority.end + 1),
+    })
+}
+
+/// An activation with the period before it.
+#[derive(Drop)]
+pub struct Begun {
+    pub period: Option<Period>,
+    pub activation: Activation,
+}
+
+/// `[ ALL expr [ UNTIL expr | DURING expr ] ] ACTIVATE id [ PRIO expr ] ";"`
+fn begin(
+    alloc: Global,
+    tokens: &[Token],
+    from: usize,
+    least_stop: usize,
+) -> Result<Reading<Begun>, Halt>
+    requires from { from ≤ length tokens.now }
+    requires least_stop { (from ≤ least_stop) × (least_stop ≤ length tokens.now) }
+    ensures { ReadsOnlyBehind 24 schedules.SpellsBeginning schedules.SpellsBegun schedules.SpellsAnyBegun tokens.now from (from + 1) least_stop result }
+{
+    let period = maybe_period(alloc, tokens, from, least_stop)?;
+    let activation = activate(alloc, tokens, period.end, period.stop)?;
+    Ok(Reading {
+        part: Begun {
+            period: period.part,
+            activation: activation.part,
+        },
+        end: activation.end,
+        stop: activation.stop,
+    })
+}
+
+/// `ACTIVATE id [ PRIO expr ] ";"` with no start before it
+pub fn immediate_activation(
+    alloc: Global,
+    tokens: &[Token],
+    from: usize,
+) -> Result<Reading<Stmt>, Halt>
+    requires within { from < length tokens.now }
+    requires word { HasWord tokens.now from w.ACTIVATE }
+    ensures { ReadsStatement tokens.now from result }
+{
+    let activation = activate(alloc, tokens, from, from)?;
+    let activate = Activate {
+        start: None,
+        task: activation.part.task,
+        priority: activation.part.priority,
+        place: place_at(tokens, from),
+    };
+    Ok(Reading {
+        part: Stmt::Activate(boxed(alloc, activate)?),
+        end: activation.end,
+        stop: activation.stop,
+    })
+}
+
+/// `CONTINUE id ";"` with no time before it
+pub fn immediate_continuation(
+    alloc: Global,
+    tokens: &[Token],
+    from: usize,
+) -> Result<Reading<Stmt>, Halt>
+    requires within { from < length tokens.now }
+    requires word { HasWord tokens.now from w.CONTINUE }
+    ensures { ReadsStatement tokens.now from result }
+{
+    let task = name(tokens, from + 1, from)?;
+    symbol(tokens, from + 2, from, SEMICOLON)?;
+    let continuation = Continue {
+        once: None,
+        task,
+        place: place_at(tokens, from),
+    };
+    Ok(Reading {
+        part: Stmt::Continue(boxed(alloc, continuation)?),
+        end: from + 3,
+        stop: from + 3,
+    })
+}
+
+/// `ALL expr [ UNTIL expr | DURING expr ] ACTIVATE id [ PRIO expr ] ";"`
+pub fn periodic(alloc: Global, tokens: &[Token], from: usize) -> Result<Reading<Stmt>, Halt>
+    requires within { from < length tokens.now }
+    requires word { HasWord tokens.now from w.ALL }
+    ensures { ReadsStatement tokens.now from result }
+{
+    let period = period(alloc, tokens, from, from)?;
+    let activation = activate(alloc, tokens, period.end, period.stop)?;
+    let activate = Activate {
+        start: Some(Start::All(period.part)),
+        task: activation.part.task,
+        priority: activation.part.priority,
+        place: place_at(tokens, from),
+    };
+    Ok(Reading {
+        part: Stmt::Activate(boxed(alloc, activate)?),
+        end: activation.end,
+        stop: activation.stop,
+    })
+}
+
+fn time_word(later: bool) -> u8
+    ensures { result ≡ schedules.time_word later }
+{
+    if later { AFTER } else { AT }
+}
+
+fn start_of(later: bool, time: Expr, period: Option<Period>, place: u32) -> Start
+    ensures { (tokens : List Token) (from m to : ℕ) → IsAt tokens from place → SpellsAfter tokens (schedules.time_word later) from time m → SpellsMaybe (SpellsPeriod tokens) m period to → SpellsStart tokens from result to }
+{
+    if later {
+        Start::After {
+            duration: time,
+            period,
+            place,
+        }
+    } else {
+        Start::At {
+            time,
+            period,
+            place,
+        }
+    }
+}
+
+fn once_of(later: bool, time: Expr, place: u32) -> Once
+    ensures { (tokens : List Token) (from to : ℕ) → IsAt tokens from place → SpellsAfter tokens (schedules.time_word later) from time to → SpellsOnce tokens from result to }
+{
+    if later {
+        Once::After {
+            duration: time,
+            place,
+        }
+    } else {
+        Once::At { time, place }
+    }
+}
+
+/// `( AT | AFTER ) expr`, and behind it `[ all ] ACTIVATE id [ PRIO expr ] ";"`, `CONTINUE id ";"` or `RESUME ";"`
+pub fn timed(
+    alloc: Global,
+    tokens: &[Token],
+    from: usize,
+    later: bool,
+) -> Result<Reading<Stmt>, Halt>
+    requires within { from < length tokens.now }
+    requires word { HasWord tokens.now from (schedules.time_word later) }
+    ensures { ReadsStatement tokens.now from result }
+{
+    let time = after(alloc, tokens, from, from, time_word(later))?;
+    let place = place_at(tokens, from);
+    if is_word(tokens, time.end, CONTINUE) {
+        let task = name(tokens, time.end + 1, time.stop)?;
+        symbol(tokens, time.end + 2, time.stop, SEMICOLON)?;
+        let continuation = Continue {
+            once: Some(once_of(later, time.part, place)),
+            task,
+            place,
+        };
+        return Ok(Reading {
+            part: Stmt::Continue(boxed(alloc, continuation)?),
+            end: time.end + 3,
+            stop: time.stop.max(time.end + 3),
+        });
+    }
+    if is_word(tokens, time.end, RESUME) {
+        symbol(tokens, time.end + 1, time.stop, SEMICOLON)?;
+        let resume = Resume {
+            once: once_of(later, time.part, place),
+            place,
+        };
+        return Ok(Reading {
+            part: Stmt::Resume(boxed(alloc, resume)?),
+            end: time.end + 2,
+            stop: time.stop.max(time.end + 2),
+        });
+    }
+    let begun = begin(alloc, tokens, time.end, time.stop)?;
+    let activate = Activate {
+        start: Some(start_of(later, time.part, begun.part.period, place)),
+        task: begun.part.activation.task,
+        priority: begun.part.activation.priority,
+        place,
+    };
+    Ok(Reading {
+        part: Stmt::Activate(boxed(alloc, activate)?),
+        end: begun.end,
+        stop: begun.stop,
+    })
+}
+
+/// `WHEN id`, and behind it `[ AFTER expr ] [ all ] ACTIVATE id [ PRIO expr ] ";"`, `CONTINUE id ";"` or `RESUME ";"`
+pub fn when(alloc: Global, tokens: &[Token], from: usize) -> Result<Reading<Stmt>, Halt>
+    requires within { from < length tokens.now }
+    requires word { HasWord tokens.now from w.WHEN }
+    ensures { ReadsStatement tokens.now from result }
+{
+    let interrupt = name(tokens, from + 1, from)?;
+    let place = place_at(tokens, from);
+    if is_word(tokens, from + 2, CONTINUE) {
+        let task = name(tokens, from + 3, from + 2)?;
+        symbol(tokens, from + 4, from + 2, SEMICOLON)?;
+        let continuation = Continue {
+            once: Some(Once::When { interrupt, place }),
+            task,
+            place,
+        };
+        return Ok(Reading {
+            part: Stmt::Continue(boxed(alloc, continuation)?),
+            end: from + 5,
+            stop: from + 5,
+        });
+    }
+    if is_word(tokens, from + 2, RESUME) {
+        symbol(tokens, from + 3, from + 2, SEMICOLON)?;
+        let resume = Resume {
+            once: Once::When { interrupt, place },
+            place,
+        };
+        return Ok(Reading {
+            part: Stmt::Resume(boxed(alloc, resume)?),
+            end: from + 4,
+            stop: from + 4,
+        });
+    }
+    let after = maybe_after(alloc, tokens, from + 2, from + 2, AFTER)?;
+    let begun = begin(alloc, tokens, after.end, after.stop)?;
+    let activate = Activate {
+        start: Some(Start::When {
+            interrupt,
+            after: after.part,
+            period: begun.part.period,
+            place,
+        }),
+        task: begun.part.activation.task,
+        priority: begun.part.activation.priority,
+        place,
+    };
+    Ok(Reading {
+        part: Stmt::Activate(boxed(alloc, activate)?),
+        end: begun.end,
+        stop: begun.stop,
+    })
+}
+
+/// `( SUSPEND | TERMINATE | PREVENT ) [ id ] ";"`
+pub fn on_task(
+    alloc: Global,
+    tokens: &[Token],
+    from: usize,
+    word: TaskWord,
+) -> Result<Reading<Stmt>, Halt>
+    requires within { from < length tokens.now }
+    requires word { HasWord tokens.now from (task_word word) }
+    ensures { ReadsStatement tokens.now from result }
+{
+    let task = maybe_name(tokens, from + 1);
+    symbol(tokens, task.end, task.stop, SEMICOLON)?;
+    let on_task = OnTask {
+        word,
+        task: task.part,
+        place: place_at(tokens, from),
+    };
+    Ok(Reading {
+        part: Stmt::OnTask(boxed(alloc, on_task)?),
+        end: task.end + 1,
+        stop: task.stop.max(task.end + 1),
+    })
+}
+
+/// `id { "," id }`
+fn name_list(alloc: Global, tokens: &[Token], from: usize) -> Result<Reading<Vec<Name>>, Halt>
+    requires { from ≤ length tokens.now }
+    ensures { ReadsList 16 spec.SpellsNameList (by_comma never) tokens.now from result }
+{
+    list(alloc, tokens, from)
+}
+
+/// `( REQUEST | RELEASE ) id { "," id } ";"`
+pub fn on_semas(
+    alloc: Global,
+    tokens: &[Token],
+    from: usize,
+    word: SemaWord,
+) -> Result<Reading<Stmt>, Halt>
+    requires within { from < length tokens.now }
+    requires word { HasWord tokens.now from (sema_word word) }
+    ensures { ReadsStatement tokens.now from result }
+{
+    let names = name_list(alloc, tokens, from + 1)?;
+    symbol(tokens, names.end, names.stop, SEMICOLON)?;
+    let on_semas = OnSemas {
+        word,
+        names: Parts::new(names.part),
+        place: place_at(tokens, from),
+    };
+    Ok(Reading {
+        part: Stmt::OnSemas(boxed(alloc, on_semas)?),
+        end: names.end + 1,
+        stop: names.stop.max(names.end + 1),
+    })
+}
+
+/// `( ENABLE | DISABLE | TRIGGER ) id ";"`
+pub fn on_interrupt(
+    alloc: Global,
+    tokens: &[Token],
+    from: usize,
+    word: InterruptWord,
+) -> Result<Reading<Stmt>, Halt>
+    requires within { from < length tokens.now }
+    requires word { HasWord tokens.now from (interrupt_word word) }
+    ensures { ReadsStatement tokens.now from result }
+{
+    let interrupt = name(tokens, from + 1, from)?;
+    symbol(tokens, from + 2, from, SEMICOLON)?;
+    let on_interrupt = OnInterrupt {
+        word,
+        name: interrupt,
+        place: place_at(tokens, from),
+    };
+    Ok(Reading {
+        part: Stmt::OnInterrupt(boxed(alloc, on_interrupt)?),
+        end: from + 3,
+        stop: from + 3,
+    })
+}
