@@ -63,7 +63,7 @@ def modules(crate):
     for line in read(path).splitlines() if os.path.exists(os.path.join(TOP, path)) else []:
         module = re.match(r"pub mod (\w+)", line)
         if line.startswith("-- "):
-            comment = line[3:]
+            comment = f"{comment} {line[3:]}" if comment else line[3:]
         elif module:
             found[module[1]] = comment
             comment = None
