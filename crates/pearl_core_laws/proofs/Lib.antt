@@ -9,4 +9,5 @@ pub mod Incoming
 pub mod Modes
 pub mod Reaching
 pub mod Alike
+pub mod Hearing
 pub mod Picking

@@ -1,5 +1,5 @@
 -- What one action of a task makes of a run, and that `run` comes to so many of them.
-use Rattle.std.proofs.Common.{◌≡◌, ◌≢◌, ℕ, zero, suc, ◌+◌, ◌<◌, List, [], ◌∷◌, ◌++◌, false, IsTrue, Option, Some, None, slice_get, slice_set, refl, sym, ap, ◌∙◌, zero-add, ◌-◌, arith}
+use Rattle.std.proofs.Common.{◌≡◌, ◌≢◌, ℕ, zero, suc, ◌+◌, ◌<◌, List, [], ◌∷◌, ◌++◌, false, IsTrue, Option, Some, None, refl, sym, ap, ◌∙◌, zero-add, ◌-◌, arith}
 use Rattle.std.specs.List.{Contains}
 use Rattle.std.proofs.lemmas.Bool.{true≢false}
 use Rattle.pearl_rules.specs.declared.action.Action.{Action}
@@ -9,65 +9,18 @@ use Rattle.pearl_rules.specs.declared.entry.Entry.TheVariants.{Run, Turn, State}
 use Rattle.pearl_rules.specs.declared.row.Mode.TheVariants.{Active}
 use Rattle.pearl_rules.specs.declared.row.TaskRow.{TaskRow}
 use Rattle.pearl_rules.specs.Core.{Core, row_of, mode_of_row, mode_of, is_active_mode, is_active_row, is_active}
-use Rattle.pearl_rules.specs.Effect.{Reply, Hears, Ends, Effect, effect}
+use Rattle.pearl_rules.specs.Effect.{Hears, Effect, effect}
 use Rattle.pearl_rules.specs.Pick.{pick, turned, states}
-use Rattle.pearl_rules.specs.Runs.{Acts, Turns, Tells, refreshed, dropped, flattened, kept_at, mapped, Supplier, Source, source_offers, heard_more, source_settled, source_acts, source_step, source_after}
-use Rattle.pearl_rules.proofs.Places.{no_member, set-same, set-other}
+use Rattle.pearl_rules.specs.Runs.{Acts, Turns, Tells, dropped, kept_at, mapped, Supplier, Source, source_offers, heard_more, source_settled, source_acts, source_step, source_after}
 use Rattle.pearl_rules.proofs.PickLaws.{picked}
 use Rattle.pearl_rules.proofs.EndsLaws.{effect-ends}
-use Rattle.pearl_rules.proofs.KeptLaws.{dropped_inside, dropped_outside, begins_afresh}
+use Rattle.pearl_rules.proofs.KeptLaws.{dropped_outside}
 use Rattle.pearl_rules.proofs.RunLaws.{step-entries}
 use Rattle.pearl_rules.proofs.Simulation.{step_source}
 use Rattle.pearl_core_laws.specs.Runs.{DoesOneAction}
 use Rattle.pearl_core_laws.proofs.Standing.{can_act}
 use Rattle.pearl_core_laws.proofs.Marks.{run_acts, turn_marks, state_marks}
-
--- ONE PLACE OF WHAT WAS HEARD
-
--- an active task has a row
-record RowOf (rows : List TaskRow) (t : ℕ) : Type 0 where
-  row : TaskRow
-  at : slice_get rows t ≡ Some row
-  active : IsTrue (is_active_mode row.mode)
-
-row_there : (rows : List TaskRow) (t : ℕ) → IsTrue (is_active_row (slice_get rows t)) → RowOf rows t
-row_there rows t active = by_row (slice_get rows t) refl active
-  where
-    by_row : (o : Option TaskRow) → slice_get rows t ≡ o → IsTrue (is_active_row o) → RowOf rows t
-    by_row None at is = absurd (true≢false (sym is))
-    by_row (Some row) at is = record { row = row; at = at; active = is }
-
--- what is kept of an active task stays
-kept_stays : (rows : List TaskRow) (xs : List (Option (List Answer))) (t : ℕ) (answers : List Answer) →
-    IsTrue (is_active_row (slice_get rows t)) → kept_at xs t ≡ Some answers → kept_at (refreshed (λ u. []) 0 rows xs) t
-    ≡ Some answers
-kept_stays rows xs t answers active is =
-    let there = row_there rows t active in
-    (begins_afresh (λ u. []) rows [] xs t there.row there.at).same there.active (no_member t) answers is
-
--- of one of which nothing is kept nothing was heard
-kept_anew : (rows : List TaskRow) (xs : List (Option (List Answer))) (t : ℕ) →
-    IsTrue (is_active_row (slice_get rows t)) → kept_at xs t ≡ None → kept_at (refreshed (λ u. []) 0 rows xs) t
-    ≡ Some []
-kept_anew rows xs t active is =
-    let there = row_there rows t active in
-    (begins_afresh (λ u. []) rows [] xs t there.row there.at).anew there.active is
-
--- a place that is there is written
-kept_set : (xs : List (Option (List Answer))) (t : ℕ) (before after : List Answer) → kept_at xs t ≡ Some before →
-    kept_at (slice_set xs t (Some after)) t ≡ Some after
-kept_set xs t before after is = by_place (slice_get xs t) refl is
-  where
-    by_place : (o : Option (Option (List Answer))) → slice_get xs t ≡ o → flattened o ≡ Some before →
-        kept_at (slice_set xs t (Some after)) t ≡ Some after
-    by_place None at e = let no : ⊥ = cc in absurd no
-    by_place (Some old) at e = ap flattened (set-same xs t old (Some after) at)
-
--- another place isn't
-heard_other : (xs : List (Option (List Answer))) (t u : ℕ) (before : List Answer) (reply : Reply) → u ≢ t →
-    kept_at (heard_more xs t before reply) u ≡ kept_at xs u
-heard_other xs t u before (Hears answer) differ = ap flattened (set-other xs t u (Some (before ++ answer ∷ [])) differ)
-heard_other xs t u before Ends differ = ap flattened (set-other xs t u None differ)
+use Rattle.pearl_core_laws.proofs.Hearing.{kept_none, kept_stays, kept_anew, kept_set, heard_other, heard_none}
 
 -- a task that stands so is active
 stands_active : (core : Core) (t priority : ℕ) → mode_of core t ≡ Active priority false → IsTrue (is_active core t)
@@ -137,12 +90,18 @@ module _ (offer : Supplier) (s : Source) (t n : ℕ) (rest : List Entry) (here :
         ∙ kept_stays done.core.tasks (heard_more left t before done.reply) u answers (active_then u after)
         (heard_other left t u before done.reply differ ∙ dropped_outside done.ended s.heard u outside ∙ is)
 
-    ended_anew : (u : ℕ) → u ≢ t → Contains done.ended u → IsTrue (is_active (source_step offer s).core u) →
+    started_anew : (u : ℕ) → kept_at s.heard u ≡ None → IsTrue (is_active (source_step offer s).core u) →
         kept_at (source_step offer s).heard u ≡ Some []
-    ended_anew u differ inside after =
+    started_anew u is after =
         ap (λ x. kept_at x.heard u) step_is
         ∙ kept_anew done.core.tasks (heard_more left t before done.reply) u (active_then u after)
-        (heard_other left t u before done.reply differ ∙ dropped_inside done.ended s.heard u inside)
+        (heard_none s.heard done.ended t u before done.reply heard is)
+
+    gone_then : (u : ℕ) → is_active (source_step offer s).core u ≡ false → kept_at (source_step offer s).heard u ≡ None
+    gone_then u is =
+        ap (λ x. kept_at x.heard u) step_is
+        ∙ kept_none 0 done.core.tasks (heard_more left t before done.reply) u
+        (sym (ap (λ x. is_active x.core u) step_is) ∙ is)
 
     does_with : DoesOneAction offer s t
     does_with = record {
@@ -151,7 +110,8 @@ module _ (offer : Supplier) (s : Source) (t n : ℕ) (rest : List Entry) (here :
       changes = ap (λ x. x.core) step_is;
       hears = hears_more;
       others = others_stay;
-      afresh = ended_anew;
+      started = started_anew;
+      dormant = gone_then;
     }
 
   one_action : DoesOneAction offer s t

@@ -1,22 +1,26 @@
 -- Which tasks an interrupt that is let through reaches, and how they stand then.
-use Rattle.std.proofs.Common.{◌≡◌, ℕ, ◌+◌, ◌^◌, ◌<◌, ◌≤◌, pos, inl, inr, Bool, true, false, ◌&&◌, if◌then◌else◌, Option, Some, None, option_map, refl, sym, ap, ap₂, subst, ◌∙◌, arith}
-use Rattle.std.proofs.lemmas.Option.{slice_get-map}
-use Rattle.pearl_rules.specs.declared.action.Start.TheVariants.{When, WhenAfter}
+use Rattle.std.proofs.Common.{◌≡◌, ℕ, zero, suc, ◌+◌, ◌^◌, ◌<◌, ◌≤◌, pos, inl, inr, List, [], ◌∷◌, ◌++◌, Bool, true, false, ◌&&◌, if◌then◌else◌, Option, Some, None, option_map, slice_get, refl, sym, ap, ap₂, subst, ◌∙◌, append_assoc, add-zero, zero-add, arith}
+use Rattle.std.proofs.lemmas.Bool.{true≢false}
+use Rattle.std.proofs.lemmas.Option.{none-some, same_Some, slice_get-map}
+use Rattle.pearl_rules.specs.declared.action.Start.TheVariants.{WhenAfter}
 use Rattle.pearl_rules.specs.declared.action.Repeat.{Repeat}
 use Rattle.pearl_rules.specs.declared.action.Repeat.TheVariants.{Once, All, Until, During}
 use Rattle.pearl_rules.specs.declared.entry.Entry.TheVariants.{Irpt}
+use Rattle.pearl_rules.specs.declared.event.Event.{Event}
+use Rattle.pearl_rules.specs.declared.event.Event.TheVariants as event
 use Rattle.pearl_rules.specs.declared.row.Mode.{Mode}
 use Rattle.pearl_rules.specs.declared.row.Mode.TheVariants.{Dormant, Active}
 use Rattle.pearl_rules.specs.declared.row.Activation.{Activation}
 use Rattle.pearl_rules.specs.declared.row.Plan.{Plan}
 use Rattle.pearl_rules.specs.declared.row.TaskRow.{TaskRow}
 use Rattle.pearl_rules.specs.Core.{Core, row_of, mode_of_row, mode_of}
-use Rattle.pearl_rules.specs.Plans.{first_moment, last_moment, begun, waits_for, serves_if, continuation_in, continuation_of, activation_in, activation_of}
+use Rattle.pearl_rules.specs.Plans.{milliseconds, first_moment, last_moment, begun, waits_for, serves_if, continuation_in, continuation_of, activation_in, activation_of}
 use Rattle.pearl_rules.specs.Devices.{is_enabled, arrived}
-use Rattle.pearl_core_laws.specs.Plans.{IsWrittenWith, IsUntouchedBy, mode_after, plan_after, serves_after, goes_after, starts_after, continuation_after, activation_after, reached_row}
+use Rattle.pearl_rules.specs.Laws.{happened_at}
+use Rattle.pearl_core_laws.specs.Plans.{IsWrittenWith, ServesAtOnce, IsUntouchedBy, IsTold, mode_after, start_events, plan_after, serves_after, goes_after, starts_after, continuation_after, activation_after, reached_row, reached_events}
 use Rattle.pearl_core_laws.proofs.Steps.{mode_stays}
 use Rattle.pearl_core_laws.proofs.Planning.{plan_waits, begun_serves}
-use Rattle.pearl_core_laws.proofs.Rows.{occurred_is}
+use Rattle.pearl_core_laws.proofs.Rows.{happened_join, occurred_is}
 
 -- a plan ends no earlier than it begins
 ends_later : (core : Core) (first : ℕ) (repeat : Repeat) → first < 2 ^ 64 → first ≤ last_moment core first repeat
@@ -26,13 +30,19 @@ ends_later core first (Until period time) near = omega arith
 ends_later core first (During period time) near = omega arith
 
 -- one that begins at its interrupt serves then
-serves_now : (core : Core) (device : ℕ) (plan : Plan) → core.moment < 2 ^ 64 → plan.start ≡ When device →
+serves_now : (core : Core) (device : ℕ) (plan : Plan) → core.moment < 2 ^ 64 → ServesAtOnce device plan.start →
     serves_if core (Some (begun core plan)) ≡ true
-serves_now core device plan near start =
-    let first : first_moment core plan.start ≡ core.moment = ap (first_moment core) start in
+serves_now core device plan near at_once =
+    let first = first_now at_once in
     let last = ends_later core core.moment plan.repeat near in
     (begun_serves core plan core.moment).1
     ((0, omega (arith, first)), subst (λ m. core.moment ≤ last_moment core m plan.repeat) (sym first) last)
+  where
+    first_now : ServesAtOnce device plan.start → first_moment core plan.start ≡ core.moment
+    first_now (inl start) = ap (first_moment core) start
+    first_now (inr (time, start, none)) =
+        let first : first_moment core plan.start ≡ core.moment + milliseconds time = ap (first_moment core) start in
+        omega (arith, first, none)
 
 -- one that begins some time after it doesn't
 serves_not : (core : Core) (device n : ℕ) (plan : Plan) → plan.start ≡ WhenAfter device (pos n) → 0 < n →
@@ -57,6 +67,65 @@ waits_not device plan other = by_test (waits_for device plan.start) refl
     by_test false is = refl
     by_test true is = absurd (other ((plan_waits device plan.start).0 is))
 
+-- what waits for it and serves at once is written so
+both : (a b : Bool) → (a && b) ≡ true → (a ≡ true) × (b ≡ true)
+both true b is = (refl, is)
+both false b is = absurd (true≢false (sym is))
+
+at_once : (core : Core) (device : ℕ) (plan : Plan) → serves_after core device plan ≡ true →
+    ServesAtOnce device plan.start
+at_once core device plan is =
+    let tests = both (waits_for device plan.start) (serves_if core (Some (begun core plan))) is in
+    by_writing ((plan_waits device plan.start).0 tests.0) tests.1
+  where
+    by_writing : IsWrittenWith device plan.start → serves_if core (Some (begun core plan)) ≡ true →
+        ServesAtOnce device plan.start
+    by_writing (inl start) serves = inl start
+    by_writing (inr (time, start)) serves =
+        let first : first_moment core plan.start ≡ core.moment + milliseconds time = ap (first_moment core) start in
+        let when = (begun_serves core plan core.moment).0 serves in
+        let count = when.0.1 in
+        inr (time, start, omega (arith, first, count))
+
+serves_not_after : (core : Core) (device : ℕ) (plan : Plan) → (ServesAtOnce device plan.start → ⊥) →
+    serves_after core device plan ≡ false
+serves_not_after core device plan other = by_test (serves_after core device plan) refl
+  where
+    by_test : (b : Bool) → serves_after core device plan ≡ b → b ≡ false
+    by_test false is = refl
+    by_test true is = absurd (other (at_once core device plan is))
+
+-- WHAT IS TOLD
+
+-- the event of the task at place i, with those before and behind it
+record Within (all : List Event) (e : Event) : Type 0 where
+  front : List Event
+  behind : List Event
+  is : all ≡ front ++ e ∷ behind
+
+event_within : (core : Core) (device k i : ℕ) (rows : List TaskRow) (row : TaskRow) → slice_get rows i ≡ Some row →
+    (e : Event) → start_events (k + i) (starts_after core device row.activation) row.mode ≡ e ∷ [] →
+    Within (reached_events core device k rows) e
+event_within core device k i [] row at e is = absurd (none-some row at)
+event_within core device k zero (first ∷ rows) row at e is = record {
+  front = [];
+  behind = reached_events core device (k + 1) rows;
+  is = ap (λ es. es ++ reached_events core device (k + 1) rows)
+      (ap₂ (λ u r. start_events u (starts_after core device r.activation) r.mode) (sym (add-zero k))
+      (same_Some first row at)
+      ∙ is);
+}
+event_within core device k (suc i) (first ∷ rows) row at e is =
+    let place : (k + 1) + i ≡ k + suc i = omega arith in
+    let later = event_within core device (k + 1) i rows row at e
+    (ap (λ u. start_events u (starts_after core device row.activation) row.mode) place ∙ is) in
+    let own : List Event = start_events k (starts_after core device first.activation) first.mode in
+    record {
+      front = own ++ later.front;
+      behind = later.behind;
+      is = ap (λ es. own ++ es) later.is ∙ sym (append_assoc own later.front (e ∷ later.behind));
+    }
+
 module _ (core : Core) (device t : ℕ) (row : TaskRow) (enabled : is_enabled core device ≡ true)
     (at : row_of core t ≡ Some row) where
   -- the row then
@@ -76,38 +145,101 @@ module _ (core : Core) (device t : ℕ) (row : TaskRow) (enabled : is_enabled co
       serves_after core device plan ≡ b
   serves_as plan written b serves = ap₂ (λ x y. x && y) ((plan_waits device plan.start).1 written) serves
 
+  serves_at_once : core.moment < 2 ^ 64 → (plan : Plan) → ServesAtOnce device plan.start →
+      serves_after core device plan ≡ true
+  serves_at_once near plan soon = serves_as plan (written soon) true (serves_now core device plan near soon)
+    where
+      written : ServesAtOnce device plan.start → IsWrittenWith device plan.start
+      written (inl start) = inl start
+      written (inr (time, start, none)) = inr (time, start)
+
+  -- an active task that goes on or doesn't, whether or not it is to be started
+  active_then : (goes : Bool) (starts : Option ℕ) (priority : ℕ) (suspended : Bool) →
+      mode_after goes starts (Active priority suspended)
+      ≡ mode_after goes None (Active priority suspended)
+  active_then true None priority suspended = refl
+  active_then true (Some other) priority suspended = refl
+  active_then false None priority suspended = refl
+  active_then false (Some other) priority suspended = refl
+
+  active_at : (goes : Bool) (priority : ℕ) (suspended : Bool) → row.mode ≡ Active priority suspended →
+      goes_after core device row.continuation ≡ goes →
+      mode_of (arrived core (Irpt device)) t ≡ mode_after goes None (Active priority suspended)
+  active_at goes priority suspended active is =
+      mode_then
+      ∙ ap₂ (λ b mode. mode_after b (starts_after core device row.activation) mode) is active
+      ∙ active_then goes (starts_after core device row.activation) priority suspended
+
   pub goes_on_at : core.moment < 2 ^ 64 → (plan : Plan) (priority : ℕ) (suspended : Bool) →
       row.mode ≡ Active priority suspended →
-      row.continuation ≡ Some plan → plan.start ≡ When device →
+      row.continuation ≡ Some plan → ServesAtOnce device plan.start →
       (mode_of (arrived core (Irpt device)) t ≡ Active priority false)
       × (continuation_of (arrived core (Irpt device)) t ≡ None)
-  goes_on_at near plan priority suspended active planned start = (
-    mode_then ∙ ap₂ (λ b mode. mode_after b (starts_after core device row.activation) mode) goes active
-        ∙ any_start (starts_after core device row.activation),
-    ap continuation_in reached_at
-        ∙ ap (continuation_after core device) planned
-        ∙ ap (λ b. if b then None else Some (plan_after core device plan)) serves,
-  )
+  goes_on_at near plan priority suspended active planned soon =
+      let serves = serves_at_once near plan soon in (
+        active_at true priority suspended active (ap (goes_after core device) planned ∙ serves),
+        ap continuation_in reached_at
+            ∙ ap (continuation_after core device) planned
+            ∙ ap (λ b. if b then None else Some (plan_after core device plan)) serves,
+      )
+
+  pub keeps_at : (priority : ℕ) (suspended : Bool) → row.mode ≡ Active priority suspended →
+      ((plan : Plan) → row.continuation ≡ Some plan → ServesAtOnce device plan.start → ⊥) →
+      mode_of (arrived core (Irpt device)) t ≡ Active priority suspended
+  keeps_at priority suspended active other =
+      active_at false priority suspended active (by_plan row.continuation refl)
     where
-      serves : serves_after core device plan ≡ true
-      serves = serves_as plan (inl start) true (serves_now core device plan near start)
+      by_plan : (o : Option Plan) → row.continuation ≡ o → goes_after core device o ≡ false
+      by_plan None is = refl
+      by_plan (Some plan) is = serves_not_after core device plan (other plan is)
 
-      goes : goes_after core device row.continuation ≡ true
-      goes = ap (goes_after core device) planned ∙ serves
+  pub begins_at : (plan : Plan) (n : ℕ) → row.continuation ≡ Some plan → plan.start ≡ WhenAfter device (pos n) → 0 < n →
+      continuation_of (arrived core (Irpt device)) t ≡ Some (begun core plan)
+  begins_at plan n planned start some =
+      let written : IsWrittenWith device plan.start = inr (pos n, start) in
+      ap continuation_in reached_at
+      ∙ ap (continuation_after core device) planned
+      ∙ ap₂ (λ b waits. if b then None else Some (if waits then begun core plan else plan))
+      (serves_as plan written false (serves_not core device n plan start some))
+      ((plan_waits device plan.start).1 written)
 
-      any_start : (starts : Option ℕ) → mode_after true starts (Active priority suspended) ≡ Active priority false
-      any_start None = refl
-      any_start (Some other) = refl
+  -- a plan of starts that serves at once
+  starts_soon : core.moment < 2 ^ 64 → (activation : Activation) → row.activation ≡ Some activation →
+      ServesAtOnce device activation.plan.start →
+      starts_after core device row.activation ≡ Some activation.priority
+  starts_soon near activation planned soon =
+      ap (starts_after core device) planned
+      ∙ ap (λ b. if b then Some activation.priority else None) (serves_at_once near activation.plan soon)
+
+  told_at : (e : Event) → start_events t (starts_after core device row.activation) row.mode ≡ e ∷ [] →
+      IsTold core (arrived core (Irpt device)) e
+  told_at e is =
+      let found = event_within core device 0 t core.tasks row at e
+      (ap (λ u. start_events u (starts_after core device row.activation) row.mode) (zero-add t) ∙ is) in
+      record {
+        front = happened_at core.moment found.front;
+        behind = happened_at core.moment found.behind;
+        told = ap (λ c. c.told) (occurred_is core device enabled)
+            ∙ ap (λ es. core.told ++ happened_at core.moment es) found.is
+            ∙ ap (λ more. core.told ++ more) (happened_join core.moment found.front (e ∷ found.behind));
+      }
 
   pub starts_at : core.moment < 2 ^ 64 → (activation : Activation) → row.mode ≡ Dormant →
-      row.activation ≡ Some activation →
-      activation.plan.start ≡ When device → mode_of (arrived core (Irpt device)) t ≡ Active activation.priority false
-  starts_at near activation dormant planned start =
-      mode_then
-      ∙ ap₂ (λ starts mode. mode_after (goes_after core device row.continuation) starts mode)
-      (ap (starts_after core device) planned
-      ∙ ap (λ b. if b then Some activation.priority else None)
-      (serves_as activation.plan (inl start) true (serves_now core device activation.plan near start))) dormant
+      row.activation ≡ Some activation → ServesAtOnce device activation.plan.start →
+      (mode_of (arrived core (Irpt device)) t ≡ Active activation.priority false)
+      × IsTold core (arrived core (Irpt device)) (event.Start t activation.priority)
+  starts_at near activation dormant planned soon =
+      let starts = starts_soon near activation planned soon in (
+        mode_then ∙ ap₂ (λ o mode. mode_after (goes_after core device row.continuation) o mode) starts dormant,
+        told_at (event.Start t activation.priority) (ap₂ (λ o mode. start_events t o mode) starts dormant),
+      )
+
+  pub overrun_at : core.moment < 2 ^ 64 → (activation : Activation) (priority : ℕ) (suspended : Bool) →
+      row.mode ≡ Active priority suspended → row.activation ≡ Some activation →
+      ServesAtOnce device activation.plan.start → IsTold core (arrived core (Irpt device)) (event.Overrun t)
+  overrun_at near activation priority suspended active planned soon =
+      told_at (event.Overrun t)
+      (ap₂ (λ o mode. start_events t o mode) (starts_soon near activation planned soon) active)
 
   pub later_at : (activation : Activation) (n : ℕ) → row.mode ≡ Dormant → row.activation ≡ Some activation →
       activation.plan.start ≡ WhenAfter device (pos n) → 0 < n → mode_of (arrived core (Irpt device)) t ≡ Dormant

@@ -141,7 +141,7 @@ reached_is core t row at interrupt =
 -- ALL TASKS
 
 -- what happened at one moment, in two parts
-happened_join : (moment : ℕ) (xs ys : List Event) → happened_at moment (xs ++ ys) ≡ happened_at moment xs ++ happened_at moment ys
+pub happened_join : (moment : ℕ) (xs ys : List Event) → happened_at moment (xs ++ ys) ≡ happened_at moment xs ++ happened_at moment ys
 happened_join moment [] ys = refl
 happened_join moment (x ∷ xs) ys = ap (λ rest. (moment, Happened x) ∷ rest) (happened_join moment xs ys)
 

@@ -1,6 +1,7 @@
 -- what it is to act, to change one variable, and to stand as declared
 pub mod Laws
--- what plans come to
+-- what plans come to, what is told, how one device changes, and how a task is broken off there
 pub mod Plans
--- what it is that two lists of entries make the same run, and that a mark is one action of a task
+-- what it is that two lists of entries make the same run, which tasks have heard something, and that a mark is one
+-- action of a task
 pub mod Runs

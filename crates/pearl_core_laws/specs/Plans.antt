@@ -1,5 +1,6 @@
--- What plans come to: which moment a time of day is, at which moments a plan serves, and what becomes of a task where
--- plans serve; and how one device changes.
+-- What plans come to: which moment a time of day is, at which moments a plan serves, which plans an interrupt concerns,
+-- and what becomes of a task where plans serve; what is told, how one device changes, and how a task is broken off
+-- there.
 use Rattle.std.specs.Prelude.{◌≡◌, ◌≢◌, ◌⊎◌, ℕ, ◌+◌, ◌*◌, ◌≤◌, ℤ, List, [], ◌∷◌, ◌++◌, Bool, true, false, ◌&&◌, if◌then◌else◌, Option, Some, None}
 use Rattle.pearl_value.specs.declared.cell.Cell.{Cell}
 use Rattle.pearl_value.specs.declared.kind.Kind.{Kind}
@@ -14,8 +15,8 @@ use Rattle.pearl_rules.specs.declared.row.Mode.TheVariants.{Dormant, Active}
 use Rattle.pearl_rules.specs.declared.row.Plan.{Plan}
 use Rattle.pearl_rules.specs.declared.row.Activation.{Activation}
 use Rattle.pearl_rules.specs.declared.row.TaskRow.{TaskRow}
-use Rattle.pearl_rules.specs.Core.{Core, Channel, Values, row_of}
-use Rattle.pearl_rules.specs.Plans.{time_at, planned, begun, waits_for, serves_if}
+use Rattle.pearl_rules.specs.Core.{Core, Report, Happened, Channel, Values, row_of}
+use Rattle.pearl_rules.specs.Plans.{milliseconds, time_at, planned, begun, waits_for, serves_if}
 use Rattle.pearl_rules.specs.Devices.{channel_of}
 use Rattle.pearl_rules.specs.Effect.{Effect, Ends, priority_or_declared}
 use Rattle.pearl_rules.specs.Laws.{happened_at}
@@ -42,10 +43,23 @@ Waits other = ⊥
 abbrev pub IsWrittenWith : (interrupt : ℕ) → Start → Type 0
 IsWrittenWith interrupt start = (start ≡ When interrupt) ⊎ ((time : ℤ) × (start ≡ WhenAfter interrupt time))
 
+-- it is written with this interrupt, without a time after it or with one of no length
+abbrev pub ServesAtOnce : (interrupt : ℕ) → Start → Type 0
+ServesAtOnce interrupt start =
+    (start ≡ When interrupt) ⊎ ((time : ℤ) × (start ≡ WhenAfter interrupt time) × (milliseconds time ≡ 0))
+
 -- neither of the task's plans is written with this interrupt
 pub record IsUntouchedBy (interrupt : ℕ) (row : TaskRow) : Type 0 where
   pub goes_on : (plan : Plan) → row.continuation ≡ Some plan → IsWrittenWith interrupt plan.start → ⊥
   pub starts : (activation : Activation) → row.activation ≡ Some activation → IsWrittenWith interrupt activation.plan.start → ⊥
+
+-- WHAT IS TOLD
+
+-- this event was told at the moment that it was, behind all that had been told
+pub record IsTold (old new : Core) (event : Event) : Type 0 where
+  pub front : List (ℕ × Report)
+  pub behind : List (ℕ × Report)
+  pub told : new.told ≡ old.told ++ (front ++ (old.moment, Happened event) ∷ behind)
 
 -- ONE TASK
 

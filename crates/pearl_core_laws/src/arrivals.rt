@@ -1,20 +1,17 @@
-// Laws of what comes in: what `clock`, `irpt`, `chars` and `line` do by themselves, whoever could act.
+// Laws of what comes in: what `clock` and `irpt` do by themselves, whoever could act.
 
-ghost use Rattle.std.specs.Prelude.{◌≡◌, ℕ, ◌^◌, ◌<◌, pos, [], ◌∷◌, ◌++◌, Bool, true, false, Some, None};
-ghost use Rattle.arrayvec.specs.ArrayVec.{ArrayVec};
-ghost use Rattle.pearl_rules.specs.declared.action.Action.TheVariants as action;
-ghost use Rattle.pearl_rules.specs.declared.action.Answer.TheVariants.{Nothing};
-ghost use Rattle.pearl_rules.specs.declared.action.Start.TheVariants.{When, WhenAfter};
-ghost use Rattle.pearl_rules.specs.declared.entry.Entry.TheVariants.{Clock, Irpt, Chars, Line};
+ghost use Rattle.std.specs.Prelude.{◌≡◌, ℕ, ◌^◌, ◌<◌, pos, Bool, true, false, Some, None};
+ghost use Rattle.pearl_rules.specs.declared.action.Start.TheVariants.{WhenAfter};
+ghost use Rattle.pearl_rules.specs.declared.entry.Entry.TheVariants.{Clock, Irpt};
+ghost use Rattle.pearl_rules.specs.declared.event.Event.TheVariants as event;
 ghost use Rattle.pearl_rules.specs.declared.row.Mode.TheVariants.{Dormant, Active};
 ghost use Rattle.pearl_rules.specs.declared.row.Activation.{Activation};
 ghost use Rattle.pearl_rules.specs.declared.row.Plan.{Plan};
 ghost use Rattle.pearl_rules.specs.declared.row.TaskRow.{TaskRow};
 ghost use Rattle.pearl_rules.specs.Core.{Core, row_of, mode_of};
-ghost use Rattle.pearl_rules.specs.Devices.{is_enabled, with_bytes, arrived};
-ghost use Rattle.pearl_rules.specs.Effect.{answering, effect};
+ghost use Rattle.pearl_rules.specs.Devices.{is_enabled, arrived};
 ghost use Rattle.pearl_rules.specs.Plans.{time_at, begun, continuation_of, activation_of};
-ghost use Rattle.pearl_core_laws.specs.Plans.{IsWrittenWith, IsUntouchedBy};
+ghost use Rattle.pearl_core_laws.specs.Plans.{IsWrittenWith, ServesAtOnce, IsUntouchedBy, IsTold};
 
 /// `clock` says the time of day at moment 0, and changes nothing else.
 pub fn clocks_say_the_time_of_day()
@@ -24,18 +21,34 @@ pub fn clocks_say_the_time_of_day()
 {}
 
 /// An interrupt that is let through lets the suspended tasks go on that wait for it, which then have no plan to go on,
-/// and starts the dormant ones that are to be started at it, with the priority of their plan. One that is to be started
-/// some time after it stays dormant. A plan of starts that waits for it begins anew; and a task none of whose plans
-/// waits for it stays as it is.
+/// and starts the dormant ones that are to be started at it, with the priority of their plan; that an active one was to
+/// be started is told. An active task that isn't to go on at it stays suspended or not, as it was. The series of a plan
+/// to go on some time after it begins then, and a task that is to be started some time after it stays dormant. A plan of
+/// starts that waits for it begins anew; and a task none of whose plans waits for it stays as it is.
 pub fn interrupts_serve_those_that_wait()
     ensures goes_on { (core : Core) (device t : ℕ) (row : TaskRow) → is_enabled core device ≡ true → row_of core t ≡ Some row →
         core.moment < 2 ^ 64 → (plan : Plan) (priority : ℕ) (suspended : Bool) → row.mode ≡ Active priority suspended →
-        row.continuation ≡ Some plan → plan.start ≡ When device →
+        row.continuation ≡ Some plan → ServesAtOnce device plan.start →
         (mode_of (arrived core (Irpt device)) t ≡ Active priority false) × (continuation_of (arrived core (Irpt device)) t ≡ None) }
     ensures starts { (core : Core) (device t : ℕ) (row : TaskRow) → is_enabled core device ≡ true → row_of core t ≡ Some row →
         core.moment < 2 ^ 64 → (activation : Activation) → row.mode ≡ Dormant → row.activation ≡ Some activation →
-        activation.plan.start ≡ When device →
-        mode_of (arrived core (Irpt device)) t ≡ Active activation.priority false }
+        ServesAtOnce device activation.plan.start →
+        (mode_of (arrived core (Irpt device)) t ≡ Active activation.priority false)
+        × IsTold core (arrived core (Irpt device)) (event.Start t activation.priority) }
+    ensures overruns { (core : Core) (device t : ℕ) (row : TaskRow) → is_enabled core device ≡ true →
+        row_of core t ≡ Some row →
+        core.moment < 2 ^ 64 → (activation : Activation) (priority : ℕ) (suspended : Bool) →
+        row.mode ≡ Active priority suspended → row.activation ≡ Some activation →
+        ServesAtOnce device activation.plan.start → IsTold core (arrived core (Irpt device)) (event.Overrun t) }
+    ensures keeps { (core : Core) (device t : ℕ) (row : TaskRow) → is_enabled core device ≡ true →
+        row_of core t ≡ Some row →
+        (priority : ℕ) (suspended : Bool) → row.mode ≡ Active priority suspended →
+        ((plan : Plan) → row.continuation ≡ Some plan → ServesAtOnce device plan.start → ⊥) →
+        mode_of (arrived core (Irpt device)) t ≡ Active priority suspended }
+    ensures begins { (core : Core) (device t : ℕ) (row : TaskRow) → is_enabled core device ≡ true →
+        row_of core t ≡ Some row →
+        (plan : Plan) (n : ℕ) → row.continuation ≡ Some plan → plan.start ≡ WhenAfter device (pos n) → 0 < n →
+        continuation_of (arrived core (Irpt device)) t ≡ Some (begun core plan) }
     ensures later { (core : Core) (device t : ℕ) (row : TaskRow) → is_enabled core device ≡ true → row_of core t ≡ Some row →
         (activation : Activation) (n : ℕ) → row.mode ≡ Dormant → row.activation ≡ Some activation →
         activation.plan.start ≡ WhenAfter device (pos n) → 0 < n →
@@ -45,18 +58,4 @@ pub fn interrupts_serve_those_that_wait()
         activation_of (arrived core (Irpt device)) t ≡ Some (record activation { plan = begun core activation.plan }) }
     ensures others { (core : Core) (device t : ℕ) (row : TaskRow) → is_enabled core device ≡ true → row_of core t ≡ Some row →
         IsUntouchedBy device row → row_of (arrived core (Irpt device)) t ≡ Some row }
-{}
-
-/// A TRIGGER does what `irpt` does.
-pub fn triggers_are_interrupts()
-    ensures { (core : Core) (own device : ℕ) → effect core own (action.Trigger device)
-        ≡ answering (arrived (record core { last = Some own }) (Irpt device)) Nothing }
-{}
-
-/// `chars` brings exactly its bytes, and `line` what `chars` brings of the same bytes with byte 10 behind them.
-pub fn lines_are_bytes_and_an_end()
-    ensures chars { (core : Core) (device : ℕ) (text : ArrayVec ℕ) →
-        arrived core (Chars device text) ≡ with_bytes core device text.items }
-    ensures line { (core : Core) (device : ℕ) (text longer : ArrayVec ℕ) → longer.items ≡ text.items ++ 10 ∷ [] →
-        arrived core (Line device text) ≡ arrived core (Chars device longer) }
 {}

@@ -16,7 +16,7 @@ ghost use Rattle.pearl_rules.specs.declared.action.Repeat.{Repeat};
 ghost use Rattle.pearl_rules.specs.declared.action.Repeat.TheVariants.{Once, All, Until, During};
 ghost use Rattle.pearl_rules.specs.declared.action.Answer.TheVariants.{Nothing, One};
 ghost use Rattle.pearl_rules.specs.declared.entry.Entry.{Entry};
-ghost use Rattle.pearl_rules.specs.declared.entry.Entry.TheVariants.{Run, Turn, State, Line};
+ghost use Rattle.pearl_rules.specs.declared.entry.Entry.TheVariants.{Run, Turn, State, Irpt, Chars, Line};
 ghost use Rattle.pearl_rules.specs.declared.event.Event.TheVariants as event;
 ghost use Rattle.pearl_rules.specs.declared.event.Shown.TheVariants as shown;
 ghost use Rattle.pearl_rules.specs.declared.row.Mode.TheVariants.{Dormant, Active};
@@ -249,15 +249,15 @@ pub fn interrupts_reach_those_that_wait()
     } }
 {}
 
-/// An interrupt is let through after ENABLE and masked after DISABLE, and no other device changes. A TRIGGER makes it
-/// occur as from outside.
+/// An interrupt is let through after ENABLE and masked after DISABLE, and no other device changes. A TRIGGER does what
+/// `irpt` does.
 pub fn interrupts_are_let_through_or_masked()
     ensures enables { (core : Core) (own device : ℕ) (before : Channel) → channel_of core device ≡ Some before →
         ChangesChannel (record core { last = Some own }) (effect core own (action.Enable device)).core device (Switch true) }
     ensures disables { (core : Core) (own device : ℕ) (before : Channel) → channel_of core device ≡ Some before →
         ChangesChannel (record core { last = Some own }) (effect core own (action.Disable device)).core device (Switch false) }
     ensures triggers { (core : Core) (own device : ℕ) → effect core own (action.Trigger device)
-        ≡ answering (interrupted (record core { last = Some own }) device) Nothing }
+        ≡ answering (arrived (record core { last = Some own }) (Irpt device)) Nothing }
 {}
 
 /// NOW is answered by the time of day, and changes nothing.
@@ -267,13 +267,15 @@ pub fn now_is_the_time_of_day()
 {}
 
 /// Bytes that come in at a terminal wait behind all others where there is room for all of them; else none is kept, and
-/// that is told. A line is followed by byte 10.
+/// that is told. `chars` brings exactly its bytes, and `line` its bytes with byte 10 behind them.
 pub fn bytes_wait_in_order()
     ensures room { (core : Core) (device : ℕ) (pending text : List ℕ) → channel_of core device ≡ Some (Bytes pending) →
         length (pending ++ text) ≤ 4096 → ChangesChannel core (with_bytes core device text) device (Bytes (pending ++ text)) }
     ensures full { (core : Core) (device : ℕ) (pending text : List ℕ) → channel_of core device ≡ Some (Bytes pending) →
         4096 < length (pending ++ text) →
         with_bytes core device text ≡ record core { told = core.told ++ (core.moment, Happened (event.Lost device)) ∷ [] } }
+    ensures chars { (core : Core) (device : ℕ) (text : ArrayVec ℕ) →
+        arrived core (Chars device text) ≡ with_bytes core device text.items }
     ensures line { (core : Core) (device : ℕ) (text : ArrayVec ℕ) →
         arrived core (Line device text) ≡ with_bytes core device (text.items ++ 10 ∷ []) }
 {}

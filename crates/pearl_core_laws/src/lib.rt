@@ -1,4 +1,4 @@
-// What the rules of tasks come to, in words of their own: what there is of it are laws.
+// What the rules of tasks and of runs over a journal come to, in words of their own: what there is of it are laws.
 #![tactic(auto)]
 
 pub mod arrivals;

@@ -8,5 +8,8 @@ returns-clause-room c = bytes_join
 pub returns-clause-full : goal.returns-clause-full
 returns-clause-full c = bytes_lost
 
+pub returns-clause-chars : goal.returns-clause-chars
+returns-clause-chars c = λ core device text. refl
+
 pub returns-clause-line : goal.returns-clause-line
 returns-clause-line c = λ core device text. refl
