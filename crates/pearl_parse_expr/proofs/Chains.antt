@@ -43,7 +43,7 @@ join tokens depth (suc a) b from m to h rest =
 pub flat : (tokens : List Token) (depth from : ℕ) (x : Expr) (to : ℕ) → SpellsTerms tokens depth from x to →
     (m : ℕ) × ((x : Primary) × SpellsSigned tokens depth from x m) × Rest tokens depth (dyad_count x) m to
 flat tokens depth from (Operand' monadics part place) to h =
-    (to, (part, (h.0, monadics.items.items, h.2, h.3, h.4)), refl)
+    (to, (part, (h.0, monadics.items.items, (h.2, h.3), h.4)), refl)
 flat tokens depth from (Dyadic' _ left dyadic _ right place) to h =
     let first = flat tokens depth from left h.0 h.2 in
     let second = flat tokens depth (h.0 + 1) right to h.5 in

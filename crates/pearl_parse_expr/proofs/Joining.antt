@@ -1,6 +1,6 @@
--- Lists, brackets, references and operands with operators that go on as far as a stop: made of what was read and of
--- a part that goes on so far.
-use Rattle.std.proofs.Common.{◌≡◌, ℕ, zero, suc, ◌+◌, ◌-◌, ◌<◌, ◌≤◌, ◌^◌, List, [], ◌∷◌, ◌++◌, length, Option, Some}
+-- Brackets, references and operands with operators that go on as far as a stop: made of what was read and of a part
+-- that goes on so far.
+use Rattle.std.proofs.Common.{◌≡◌, ℕ, zero, suc, ◌+◌, ◌-◌, ◌<◌, ◌≤◌, ◌^◌, List, [], ◌∷◌, length, Option, Some}
 use Rattle.std.proofs.Common.{None, Ok, Vec, refl, sym, ap, subst, ◌∙◌, arith, inl, inr, ◌⊎◌, true, true≢false, Bool}
 use Rattle.std.specs.Option.{option_map}
 use Rattle.pearl_tree.specs.declared.name.Name.{Name}
@@ -19,8 +19,8 @@ use Rattle.pearl_tree.specs.declared.expression.Selector as selector
 use Rattle.pearl_tree.specs.declared.token.What.{What}
 use Rattle.pearl_tree.specs.declared.token.What.TheVariants as what
 use Rattle.pearl_tree.specs.declared.token.Token.{Token}
-use Rattle.pearl_tree.specs.Standing.{Spelling, what_at, IsAt, IsName, HasWord, HasSymbol, SpellsEach, SpellsMore}
-use Rattle.pearl_tree.specs.Standing.{SpellsList, SpellsMaybe, SpellsNumber}
+use Rattle.pearl_tree.specs.Standing.{Spelling, what_at, IsAt, IsName, HasWord, HasSymbol, SpellsEach}
+use Rattle.pearl_tree.specs.Standing.{SpellsMaybe, SpellsNumber}
 use Rattle.pearl_tree.specs.Expressions.{SpellsMonadic, SpellsTerms, SpellsExpr, SpellsPrimary, SpellsSelector}
 use Rattle.pearl_tree.specs.Expressions.{SpellsRef, HasDyad, dyad_count, side_word}
 use Rattle.pearl_tree.specs.declared.symbol.TheConstants as s
@@ -33,8 +33,8 @@ use Rattle.pearl_parse_expr.specs.Stops.{extends_expression, extends_list, is_na
 use Rattle.pearl_parse_expr.specs.declared.reading.Reading.{Reading}
 use Rattle.pearl_parse_expr.specs.Least.{AlikeBefore, Reaches, GoesTo}
 use Rattle.pearl_parse_expr.specs.Reads.{Reads, ReadsAs, ReadsList, ReadsOnly}
-use Rattle.pearl_parse_expr.proofs.Lists.{each_one_more, list_one_more}
 use Rattle.pearl_parse_expr.proofs.Local as local
+use Rattle.pearl_parse_expr.proofs.LocalLists.{Kept, local_of, after_of, each_keeps, list_keeps, each_long, list_long}
 use Rattle.pearl_parse_expr.proofs.Reaching.{IsLocal, placed, placed_within, token_of, reached, reaches_as}
 use Rattle.pearl_parse_expr.proofs.Reaching.{reaches_closed, reach_of}
 use Rattle.pearl_parse_expr.proofs.Trees.{boxed, parts_of, joins}
@@ -42,118 +42,43 @@ use Rattle.pearl_parse_expr.proofs.PrimariesBegin.{primary_begins}
 
 -- ---- which parts are local
 
+pub selector_keeps : (depth : ℕ) → Kept 1 (λ tokens. SpellsSelector tokens depth)
+selector_keeps depth tokens others k alike from x to h near = (
+  omega (arith, selector_after tokens depth from x to h),
+  local.selector_local tokens others k alike depth from x to h near,
+)
+
+pub expr_keeps : (depth : ℕ) → Kept 1 (λ tokens. SpellsExpr tokens depth)
+expr_keeps depth tokens others k alike from x to h near = (
+  omega (arith, terms_after tokens depth from x to h.0),
+  (local.terms_local tokens others k alike depth from x to h.0 near, h.1),
+)
+
 pub selector_is_local : (depth : ℕ) → IsLocal (λ tokens. SpellsSelector tokens depth)
-selector_is_local depth tokens others k alike from x to h near = local.selector_local tokens others k
-    alike depth from x to h near
+selector_is_local depth = local_of 1 (λ tokens. SpellsSelector tokens depth) (selector_keeps depth)
 
 pub expr_is_local : (depth : ℕ) → IsLocal (λ tokens. SpellsExpr tokens depth)
-expr_is_local depth tokens others k alike from x to h near =
-    (local.terms_local tokens others k alike depth from x to h.0 near, h.1)
-
--- ---- lists are local where their parts are
-
-module _ {X : Type 0} (spells : List Token → Spelling X) (is_local : IsLocal spells)
-    (after : (tokens : List Token) (from : ℕ) (x : X) (to : ℕ) → spells tokens from x to → from < to) where
-  each_after : (tokens : List Token) (from : ℕ) (xs : List X) (to : ℕ) → SpellsEach (spells tokens) from xs to →
-      from + length xs ≤ to
-  each_after tokens from [] to h = omega (arith, h)
-  each_after tokens from (x ∷ xs) to h = omega (arith, after tokens from x h.0 h.1, each_after tokens h.0 xs to h.2)
-
-  pub each_is_local : IsLocal (λ tokens. SpellsEach (spells tokens))
-  each_is_local tokens others k alike from [] to h near = h
-  each_is_local tokens others k alike from (x ∷ xs) to h near = (
-    h.0,
-    is_local tokens others k alike from x h.0 h.1 (omega (arith, each_after tokens h.0 xs to h.2)),
-    each_is_local tokens others k alike h.0 xs to h.2 near,
-  )
-
-  more_after : (tokens : List Token) (from : ℕ) (xs : List X) (to : ℕ) → SpellsMore tokens (spells tokens) from xs to →
-      from + length xs ≤ to
-  more_after tokens from [] to h = omega (arith, h)
-  more_after tokens from (x ∷ xs) to h = omega (
-    arith,
-    after tokens (from + 1) x h.0 h.2,
-    more_after tokens h.0 xs to h.3,
-  )
-
-  more_is_local : IsLocal (λ tokens. SpellsMore tokens (spells tokens))
-  more_is_local tokens others k alike from [] to h near = h
-  more_is_local tokens others k alike from (x ∷ xs) to h near =
-      let behind = more_after tokens h.0 xs to h.3 in
-      let inside = after tokens (from + 1) x h.0 h.2 in (
-        h.0,
-        local.what tokens others k alike from (omega arith) ∙ h.1,
-        is_local tokens others k alike (from + 1) x h.0 h.2 (omega arith),
-        more_is_local tokens others k alike h.0 xs to h.3 near,
-      )
-
-  pub list_after : (tokens : List Token) (from : ℕ) (xs : List X) (to : ℕ) →
-      SpellsList tokens (spells tokens) from xs to → from + length xs ≤ to
-  list_after tokens from [] to h = absurd h
-  list_after tokens from (x ∷ xs) to h = omega (arith, after tokens from x h.0 h.1, more_after tokens h.0 xs to h.2)
-
-  pub list_is_local : IsLocal (λ tokens. SpellsList tokens (spells tokens))
-  list_is_local tokens others k alike from [] to h near = h
-  list_is_local tokens others k alike from (x ∷ xs) to h near = (
-    h.0,
-    is_local tokens others k alike from x h.0 h.1 (omega (arith, more_after tokens h.0 xs to h.2)),
-    more_is_local tokens others k alike h.0 xs to h.2 near,
-  )
+expr_is_local depth = local_of 1 (λ tokens. SpellsExpr tokens depth) (expr_keeps depth)
 
 pub selectors_are_local : (depth : ℕ) → IsLocal (λ tokens. SpellsSelectorsList tokens depth)
-selectors_are_local depth = each_is_local (λ tokens. SpellsSelector tokens depth) (selector_is_local depth)
-    (λ tokens from x to h. selector_after tokens depth from x to h)
+selectors_are_local depth tokens others k alike from xs to h near =
+    (each_keeps tokens others k alike 1 (λ tokens. SpellsSelector tokens depth)
+    (selector_keeps depth tokens others k alike) from xs to h near).1
 
 pub subscripts_are_local : (depth : ℕ) → IsLocal (λ tokens. SpellsSubscriptsList tokens depth)
-subscripts_are_local depth = list_is_local (λ tokens. SpellsExpr tokens depth) (expr_is_local depth)
-    (λ tokens from x to h. terms_after tokens depth from x to h.0)
+subscripts_are_local depth tokens others k alike from xs to h near =
+    (list_keeps tokens others k alike 1 (λ tokens. SpellsExpr tokens depth) (expr_keeps depth tokens others k alike)
+    from xs to h near).1
 
 subscripts_after : (tokens : List Token) (depth from : ℕ) (xs : List Expr) (to : ℕ) →
     SpellsSubscriptsList tokens depth from xs to → from + length xs ≤ to
-subscripts_after tokens depth = list_after (λ tokens. SpellsExpr tokens depth) (expr_is_local depth)
-    (λ tokens from x to h. terms_after tokens depth from x to h.0) tokens
+subscripts_after tokens depth = list_long tokens (SpellsExpr tokens depth)
+    (after_of 1 (λ tokens. SpellsExpr tokens depth) (expr_keeps depth) tokens)
 
 pub selectors_after : (tokens : List Token) (depth from : ℕ) (xs : List Selector) (to : ℕ) →
     SpellsSelectorsList tokens depth from xs to → from + length xs ≤ to
-selectors_after tokens depth = each_after (λ tokens. SpellsSelector tokens depth) (selector_is_local depth)
-    (λ tokens from x to h. selector_after tokens depth from x to h) tokens
-
--- ---- loops
-
-pub subscripts_first : (tokens : List Token) (depth from stop : ℕ) →
-    Reaches (λ tokens. SpellsExpr tokens depth) tokens from stop →
-    Reaches (λ tokens. SpellsSubscriptsList tokens depth) tokens from stop
-subscripts_first tokens depth from stop r =
-    reaches_as (λ tokens. SpellsExpr tokens depth) (λ tokens. SpellsSubscriptsList tokens depth) tokens
-    from from stop (omega arith)
-    (λ others alike long short x h. (x ∷ [], (length others, h, refl))) r
-
-pub subscripts_goes_on : (tokens : List Token) (depth from end stop : ℕ) (xs : List Expr) →
-    SpellsSubscriptsList tokens depth from xs end → HasSymbol tokens end s.COMMA →
-    from ≤ end → end < stop → Reaches (λ tokens. SpellsExpr tokens depth) tokens (end + 1) stop →
-    Reaches (λ tokens. SpellsSubscriptsList tokens depth) tokens from stop
-subscripts_goes_on tokens depth from end stop xs list comma ahead near r =
-    reaches_as (λ tokens. SpellsExpr tokens depth) (λ tokens. SpellsSubscriptsList tokens depth) tokens from
-    (end + 1) stop (omega arith)
-    (λ others alike long short x h. (
-      xs ++ x ∷ [],
-      list_one_more others (SpellsExpr others depth) xs from end (length others) x
-          (subscripts_are_local depth tokens others stop alike from xs end list (omega arith))
-          (local.what tokens others stop alike end near ∙ comma) h,
-    )) r
-
-pub selectors_go_on : (tokens : List Token) (depth from end stop : ℕ) (xs : List Selector) →
-    SpellsSelectorsList tokens depth from xs end →
-    from ≤ end → end ≤ stop → Reaches (λ tokens. SpellsSelector tokens depth) tokens end stop →
-    Reaches (λ tokens. SpellsSelectorsList tokens depth) tokens from stop
-selectors_go_on tokens depth from end stop xs list ahead near r =
-    reaches_as (λ tokens. SpellsSelector tokens depth) (λ tokens. SpellsSelectorsList tokens depth) tokens
-    from end stop (omega arith)
-    (λ others alike long short x h. (
-      xs ++ x ∷ [],
-      each_one_more (SpellsSelector others depth) xs from end (length others) x
-          (selectors_are_local depth tokens others stop alike from xs end list near) h,
-    )) r
+selectors_after tokens depth = each_long tokens (SpellsSelector tokens depth)
+    (after_of 1 (λ tokens. SpellsSelector tokens depth) (selector_keeps depth) tokens)
 
 -- ---- brackets
 
@@ -277,17 +202,17 @@ module _ (tokens : List Token) (depth : ℕ) where
       reaches_as (λ tokens. SpellsPrimary tokens depth) (λ tokens. SpellsSigned tokens depth) tokens from at stop before
       (λ others alike long short x h. (
         x,
-        (at, list, few, local.monadics_local tokens others stop alike from list at each near, h),
+        (at, list, (few, local.monadics_local tokens others stop alike from list at each near), h),
       )) r
 
   as_operand : (others : List Token) (from : ℕ) (x : Primary) → SpellsSigned others depth from x (length others) →
       (operand : Operand) × SpellsTerms others depth from (tree.Operand operand) (length others)
   as_operand others from x h =
-      let first = monadics_after others from h.1 h.0 h.3 in
-      let second = primary_after others depth h.0 x (length others) h.4 in
+      let first = monadics_after others from h.1 h.0 h.2.1 in
+      let second = primary_after others depth h.0 x (length others) h.3 in
       let at = placed_within others from (omega arith) in
-      let few : length h.1 < 2 ^ 63 = omega (arith, h.2) in
-      (record { monadics = parts_of h.1 few; primary = x; place = at.0 }, (h.0, at.1, h.2, h.3, h.4))
+      let few : length h.1 < 2 ^ 63 = omega (arith, h.2.0) in
+      (record { monadics = parts_of h.1 few; primary = x; place = at.0 }, (h.0, at.1, h.2.0, h.2.1, h.3))
 
   pub chain_reaches : (from stop : ℕ) → Reaches (λ tokens. SpellsSigned tokens depth) tokens from stop →
       Reaches (λ tokens. SpellsExpr tokens depth) tokens from stop
@@ -319,12 +244,11 @@ module _ (tokens : List Token) (depth : ℕ) where
 
 signed_is_local : (depth : ℕ) → IsLocal (λ tokens. SpellsSigned tokens depth)
 signed_is_local depth tokens others k alike from x to h near =
-    let behind = primary_after tokens depth h.0 x to h.4 in (
+    let behind = primary_after tokens depth h.0 x to h.3 in (
       h.0,
       h.1,
-      h.2,
-      local.monadics_local tokens others k alike from h.1 h.0 h.3 (omega arith),
-      local.primary_local tokens others k alike depth h.0 x to h.4 near,
+      (h.2.0, local.monadics_local tokens others k alike from h.1 h.0 h.2.1 (omega arith)),
+      local.primary_local tokens others k alike depth h.0 x to h.3 near,
     )
 
 -- a part that was read to `end` goes on as far as it was stopped
@@ -368,7 +292,7 @@ module _ (tokens : List Token) (depth from : ℕ) where
   signed_reach reading read =
       let h = read.spells in
       read_reaches (λ tokens. SpellsSigned tokens depth) (signed_is_local depth) tokens from reading.end reading.stop
-      reading.part.primary (h.0, reading.part.monadics.items.items, h.2, h.3, h.4) read.ahead read.least
+      reading.part.primary (h.0, reading.part.monadics.items.items, (h.2, h.3), h.4) read.ahead read.least
 
 pub selectors_begin : (tokens : List Token) (depth from : ℕ) → from ≤ length tokens →
     Reaches (λ tokens. SpellsSelectorsList tokens depth) tokens from from

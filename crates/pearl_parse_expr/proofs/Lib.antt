@@ -17,6 +17,9 @@ pub mod Ids
 pub mod Trees
 pub mod Durations
 pub mod PrimariesBegin
+pub mod LocalLists
+pub mod ListReach
+pub mod CommaLists
 pub mod Joining
 pub mod PartsBegin
 pub mod OneStop

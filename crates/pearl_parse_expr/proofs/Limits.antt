@@ -1,7 +1,7 @@
 -- What other tokens can spell that begin with [ number ] ( LWB | UPB ), and with monadic operators.
-use Rattle.std.proofs.Common.{◌≡◌, ℕ, zero, suc, ◌+◌, ◌<◌, ◌≤◌, Bool, true, false, List, [], ◌∷◌, length, Option, Some}
-use Rattle.std.proofs.Common.{None, ◌⊎◌, inl, inr, refl, sym, ap, subst, ◌∙◌, arith, true≢false, eqb-true, ◌==◌}
-use Rattle.std.specs.Option.{option_and_then}
+use Rattle.std.proofs.Common.{◌≡◌, ℕ, zero, suc, ◌+◌, ◌<◌, ◌≤◌, true, List, [], ◌∷◌, length, Option, Some}
+use Rattle.std.proofs.Common.{None, ◌⊎◌, inl, inr, sym, ap, subst, ◌∙◌, arith, true≢false, eqb-true, ◌==◌}
+use Rattle.std.specs.Option.{is_some, option_and_then}
 use Rattle.pearl_tree.specs.declared.name.Number.{Number}
 use Rattle.pearl_value.specs.declared.operator.Monad.{Monad}
 use Rattle.pearl_value.specs.declared.operator.Monad.TheVariants as monad
@@ -20,9 +20,11 @@ use Rattle.pearl_tree.specs.declared.word_code.TheConstants as w
 use Rattle.pearl_tree.specs.declared.symbol.TheConstants as s
 use Rattle.pearl_tree.specs.Stops.{BeginAlike}
 use Rattle.pearl_parse_expr.specs.Stops.{IsLongest, Stuck, EndsEarly, is_number, is_side, is_literal, is_name}
-use Rattle.pearl_parse_expr.specs.Stops.{is_symbol, is_word, monad_of, extends_operand, SpellsNamed, SpellsSigned}
+use Rattle.pearl_parse_expr.specs.Stops.{is_symbol, is_word, monad_of, is_monad, extends_operand, SpellsNamed}
+use Rattle.pearl_parse_expr.specs.Stops.{SpellsMonadics, SpellsSigned}
 use Rattle.pearl_parse_expr.proofs.Primaries.{clash, or_absurd, side_head, Head, first_token, only_limit}
 use Rattle.pearl_parse_expr.proofs.Primaries.{only_counted_limit}
+use Rattle.pearl_parse_expr.proofs.Reaching.{order}
 
 pub side_extends : (token : Option What) (side : Side) → token ≡ Some (what.Word (side_word side)) →
     extends_operand token ≡ true
@@ -69,13 +71,6 @@ limit_others tokens others depth from word stop (Some dimension) side number sta
     (only_counted_limit others depth from here (side_head (what_at others (from + 1)) side at) x to h)
 
 -- how far into the tokens the monadic operators go
-abbrev is_some_monad : Option Monad → Bool
-is_some_monad None = false
-is_some_monad (Some operator) = true
-
-abbrev is_monad : Option What → Bool
-is_monad token = is_some_monad (option_and_then monad_of token)
-
 monad_stands : (token : Option What) (operator : Monad) → token ≡ Some (monad_what operator) → is_monad token ≡ true
 monad_stands token monad.Plus h = ap is_monad h
 monad_stands token monad.Minus h = ap is_monad h
@@ -83,7 +78,7 @@ monad_stands token monad.Abs h = ap is_monad h
 monad_stands token monad.Sign h = ap is_monad h
 monad_stands token monad.Not h = ap is_monad h
 
-each_ends : (tokens : List Token) (from : ℕ) (list : List Monadic) (to : ℕ) →
+pub each_ends : (tokens : List Token) (from : ℕ) (list : List Monadic) (to : ℕ) →
     SpellsEach (SpellsMonadic tokens) from list to → to ≡ from + length list
 each_ends tokens from [] to h = omega (arith, h)
 each_ends tokens from (x ∷ xs) to h = omega (arith, each_ends tokens h.0 xs to h.2, h.1.2)
@@ -195,31 +190,58 @@ head_is_no_monad (primary.Limit' (Some number) side _ name _ list ref_place plac
 same_size : (a b : ℕ) → (a < b → ⊥) → (b < a → ⊥) → a ≡ b
 same_size a b above below = omega (arith, above, below)
 
-no_more : (tokens : List Token) (from : ℕ) (list : List Monadic) (stands : Bool) (others : List Monadic) →
-    length list < length others → length others ≤ 8 →
-    (length list ≡ 8) ⊎ (option_and_then monad_of (what_at tokens (from + length list)) ≡ None) →
-    is_monad (what_at tokens (from + length list)) ≡ stands → stands ≡ true → ⊥
-no_more tokens from list stands others above few (inl full) is holds = omega arith
-no_more tokens from list stands others above few (inr none) is holds =
-    true≢false (sym (is ∙ holds) ∙ ap is_some_monad none)
+-- operators were read up to `end`, and none stands there, or no more are allowed
+module _ (tokens others : List Token) (from end : ℕ) (list : List Monadic)
+    (each : SpellsEach (SpellsMonadic tokens) from list end)
+    (all : (length list ≡ 8) ⊎ (option_and_then monad_of (what_at tokens end) ≡ None))
+    (agree : BeginAlike tokens others end) (theirs : List Monadic) (to : ℕ) (h : SpellsMonadics others from theirs to)
+  where
+    list_ends : end ≡ from + length list
+    list_ends = each_ends tokens from list end each
 
--- the operators before a primary are the same
-pub same_monadics : (tokens others : List Token) (depth from stop : ℕ) (list : List Monadic) →
-    BeginAlike tokens others stop → from + length list ≤ stop →
-    SpellsEach (SpellsMonadic tokens) from list (from + length list) →
-    (length list ≡ 8) ⊎ (option_and_then monad_of (what_at tokens (from + length list)) ≡ None) →
-    (x : Primary) (to : ℕ) → SpellsSigned others depth from x to → SpellsPrimary others depth (from + length list) x to
-same_monadics tokens others depth from stop list agree near each all x to h =
-    let theirs = each_ends others from h.1 h.0 h.3 in
-    let same : length h.1 ≡ length list = same_size (length h.1) (length list)
-    (λ below. head_is_no_monad x (what_at others h.0) (first_token others depth h.0 x to h.4)
-    (subst (λ k. is_monad (what_at others k) ≡ true) (sym theirs)
-    (ap is_monad (sym (agree (from + length h.1) (omega arith))) ∙ each_stands tokens from list (from + length list)
-    (length h.1) each below)))
-    (λ above. no_more tokens from list (is_monad (what_at tokens (from + length list))) h.1 above h.2 all refl
-    (ap is_monad (agree (from + length list) near) ∙ each_stands others from h.1 h.0 (length list) h.3 above)) in
-    let end : h.0 ≡ from + length list = omega (arith, theirs, same) in
-    subst (λ k. SpellsPrimary others depth k x to) end h.4
+    theirs_end : to ≡ from + length theirs
+    theirs_end = each_ends others from theirs to h.1
+
+    fewer : length theirs < length list → EndsEarly is_monad others end to
+    fewer below = (
+      omega (arith, list_ends, theirs_end),
+      subst (λ k. is_monad (what_at others k) ≡ true) (sym theirs_end)
+          (ap is_monad (sym (agree (from + length theirs) (omega (arith, list_ends)))) ∙
+          each_stands tokens from list end (length theirs) each below),
+    )
+
+    no_more : length list < length theirs → ⊥
+    no_more above = by all
+      where
+        stands : is_monad (what_at tokens end) ≡ true
+        stands = ap is_monad (agree end (omega arith)) ∙
+            subst (λ k. is_monad (what_at others k) ≡ true) (sym list_ends)
+            (each_stands others from theirs to (length list) h.1 above)
+
+        by : (length list ≡ 8) ⊎ (option_and_then monad_of (what_at tokens end) ≡ None) → ⊥
+        by (inl full) = omega (arith, h.0)
+        by (inr none) = true≢false (sym stands ∙ ap is_some none)
+
+    pub monadics_longest : (to ≡ end) ⊎ EndsEarly is_monad others end to
+    monadics_longest = by (order (length theirs) (length list))
+      where
+        by : (length theirs < length list) ⊎ (length list ≤ length theirs) →
+            (to ≡ end) ⊎ EndsEarly is_monad others end to
+        by (inl below) = inr (fewer below)
+        by (inr near) =
+            let same = same_size (length theirs) (length list) (λ below. omega arith) no_more in
+            inl (omega (arith, same, list_ends, theirs_end))
+
+-- the operators before a primary end where the longest ones do
+pub same_monadics : (others : List Token) (depth from end : ℕ) →
+    ((list : List Monadic) (to : ℕ) → SpellsMonadics others from list to →
+    (to ≡ end) ⊎ EndsEarly is_monad others end to) →
+    (x : Primary) (to : ℕ) → SpellsSigned others depth from x to → SpellsPrimary others depth end x to
+same_monadics others depth from end longest x to h = by (longest h.1 h.0 h.2)
+  where
+    by : (h.0 ≡ end) ⊎ EndsEarly is_monad others end h.0 → SpellsPrimary others depth end x to
+    by (inl same) = subst (λ k. SpellsPrimary others depth k x to) same h.3
+    by (inr early) = absurd (head_is_no_monad x (what_at others h.0) (first_token others depth h.0 x to h.3) early.1)
 
 number_alone : (others : List Token) (depth from word to : ℕ) (dimension : Option Number) →
     ((list : List Selector) → SpellsNamed others depth (word + 1) list to → ⊥) →

@@ -1,10 +1,17 @@
 -- One part more at the end of a list.
-use Rattle.std.proofs.Common.{◌≡◌, ℕ, ◌+◌, List, [], ◌∷◌, ◌++◌, length, refl, sym, ap, subst, arith, length-append}
-use Rattle.pearl_tree.specs.declared.expression.Monadic.{Monadic}
+use Rattle.std.proofs.Common.{ℕ, ◌+◌, List, [], ◌∷◌, ◌++◌, Vec, refl, sym, subst}
 use Rattle.pearl_tree.specs.declared.token.Token.{Token}
 use Rattle.pearl_tree.specs.Standing.{Spelling, HasSymbol, SpellsEach, SpellsMore, SpellsList}
-use Rattle.pearl_tree.specs.Expressions.{SpellsMonadic}
 use Rattle.pearl_tree.specs.declared.symbol.TheConstants as s
+use Rattle.pearl_parse_expr.specs.declared.reading.Reading.{Reading}
+use Rattle.pearl_parse_expr.specs.Readings.{IsList}
+
+-- what holds of the parts, the end and the stop of a list
+pub listed : {X A : Type 0} (holds : List X → ℕ → ℕ → Type 0) {xs : List X} {to last : ℕ} {list : Reading (Vec X A)} →
+    IsList xs to last list → holds xs to last → holds list.part.items list.end list.stop
+listed holds {xs} {to} {last} {list} is h =
+    subst (λ xs. holds xs list.end list.stop) (sym is.parts)
+    (subst (λ to. holds xs to list.stop) (sym is.end) (subst (holds xs to) (sym is.stop) h))
 
 pub each_one_more : {X : Type 0} (spells : Spelling X) (xs : List X) (from m to : ℕ) (x : X) →
     SpellsEach spells from xs m → spells m x to → SpellsEach spells from (xs ++ x ∷ []) to
@@ -25,15 +32,3 @@ pub list_one_more : {X : Type 0} (tokens : List Token) (spells : Spelling X) (xs
 list_one_more tokens spells [] from m to x h comma last = absurd h
 list_one_more tokens spells (y ∷ ys) from m to x h comma last =
     (h.0, h.1, more_one_more tokens spells ys h.0 m to x h.2 comma last)
-
-pub monadics_one_more : (tokens : List Token) (from at : ℕ) (list new : List Monadic) (x : Monadic) → at ≡ length list →
-    SpellsEach (SpellsMonadic tokens) from list (from + length list) →
-    SpellsMonadic tokens (from + at) x (from + at + 1) → new ≡ list ++ x ∷ [] →
-    SpellsEach (SpellsMonadic tokens) from new (from + length new)
-monadics_one_more tokens from at list new x is_length each last is =
-    let last_at : SpellsMonadic tokens (from + length list) x (from + length list + 1) =
-    subst (λ k. SpellsMonadic tokens (from + k) x (from + k + 1)) is_length last in
-    let size : from + length list + 1 ≡ from + length new = omega (arith, ap length is, length-append list (x ∷ [])) in
-    subst (λ k. SpellsEach (SpellsMonadic tokens) from new k) size
-    (subst (λ xs. SpellsEach (SpellsMonadic tokens) from xs (from + length list + 1)) (sym is)
-    (each_one_more (SpellsMonadic tokens) list from (from + length list) (from + length list + 1) x each last_at))

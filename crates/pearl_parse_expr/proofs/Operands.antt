@@ -1,7 +1,6 @@
 -- References, primaries that are made of them, and operands: what is known of each from the part that it ends with.
-use Rattle.std.proofs.Common.{◌≡◌, ℕ, ◌+◌, ◌<◌, ◌≤◌, ◌^◌, ◌⊎◌, true, List, length, Option, Some, None, Ok, Err}
+use Rattle.std.proofs.Common.{◌≡◌, ℕ, ◌+◌, ◌<◌, ◌≤◌, ◌^◌, true, List, length, Option, Some, None, Vec, Ok, Err}
 use Rattle.std.proofs.Common.{inr, refl, sym, ap, subst, ◌∙◌, arith}
-use Rattle.std.specs.Option.{option_and_then}
 use Rattle.pearl_tree.specs.declared.name.Number.{Number}
 use Rattle.pearl_tree.specs.declared.literal.Literal.TheVariants as literal
 use Rattle.pearl_tree.specs.declared.expression.Monadic.{Monadic}
@@ -12,19 +11,20 @@ use Rattle.pearl_tree.specs.declared.expression.Ref.{Ref}
 use Rattle.pearl_tree.specs.declared.expression.Selector.{Selector}
 use Rattle.pearl_tree.specs.declared.expression.Side.{Side}
 use Rattle.pearl_tree.specs.declared.token.Token.{Token}
-use Rattle.pearl_tree.specs.Standing.{what_at, HasWord, SpellsEach, SpellsMaybe, SpellsNumber}
-use Rattle.pearl_tree.specs.Expressions.{SpellsMonadic, SpellsPrimary, SpellsRef, side_word}
+use Rattle.pearl_tree.specs.Standing.{what_at, HasWord, SpellsMaybe, SpellsNumber}
+use Rattle.pearl_tree.specs.Expressions.{SpellsPrimary, SpellsRef, side_word}
 use Rattle.pearl_tree.proofs.ExpressionLists.{spells_ref}
 use Rattle.pearl_parse_expr.specs.declared.reading.Halt.{Halt}
 use Rattle.pearl_parse_expr.specs.declared.reading.Halt.TheVariants.{Refused}
 use Rattle.pearl_parse_expr.specs.declared.reading.Reading.{Reading}
-use Rattle.pearl_parse_expr.specs.Stops.{Stuck, extends_operand, is_name, monad_of, SpellsNamed}
-use Rattle.pearl_parse_expr.specs.Stops.{SpellsOperand, SpellsSigned}
+use Rattle.pearl_parse_expr.specs.Stops.{Stuck, extends_operand, is_name, is_monad, SpellsNamed}
+use Rattle.pearl_parse_expr.specs.Stops.{SpellsMonadics, SpellsOperand, SpellsSigned}
 use Rattle.pearl_parse_expr.specs.Least.{Reaches}
-use Rattle.pearl_parse_expr.specs.Reads.{Reads, ReadsAs}
+use Rattle.pearl_parse_expr.specs.Reads.{Reads, ReadsAs, ReadsMaybeList}
 use Rattle.pearl_parse_expr.proofs.Halts.{stuck_of}
 use Rattle.pearl_parse_expr.proofs.Joining.{ref_reaches, limit_reaches, operand_reaches}
 use Rattle.pearl_parse_expr.proofs.Limits.{same_monadics, with_array, without_array, without_number, number_before}
+use Rattle.pearl_parse_expr.proofs.Parts.{shorter}
 use Rattle.pearl_parse_expr.proofs.Primaries.{only_named}
 use Rattle.pearl_parse_expr.proofs.Reaching.{goes_as, reached_halt}
 use Rattle.pearl_parse_expr.proofs.Readings.{Ends, Begins, Carries, longest_read, unread, read_to}
@@ -66,44 +66,46 @@ module _ (tokens : List Token) (depth from : ℕ) where
 
   -- ---- an operand, whose operators were read
 
-  module _ (list : List Monadic) (n : ℕ) (size : n ≡ length list)
-      (each : SpellsEach (SpellsMonadic tokens) from list (from + length list)) (few : length list ≤ 8)
-      (all : (length list ≡ 8) ⊎ (option_and_then monad_of (what_at tokens (from + length list)) ≡ None)) where
+  module _ {A : Type 0} (monadics : Reading (Vec Monadic A))
+      (signs : ReadsMaybeList 16 SpellsMonadics is_monad tokens from (Ok monadics))
+      (once : monadics.stop ≡ monadics.end) where
     operand_ends : Ends (λ tokens. SpellsPrimary tokens depth) (λ tokens. SpellsSigned tokens depth) tokens from
-        (from + n)
-    operand_ends others stop near agree x to h =
-        let same = same_monadics tokens others depth from stop list agree (omega (arith, size, near)) each all x to h in
-        (x, subst (λ k. SpellsPrimary others depth (from + k) x to) (sym size) same)
+        monadics.end
+    operand_ends others stop near agree x to h = (
+      x,
+      same_monadics others depth from monadics.end
+          (λ list m g. signs.longest others
+          (shorter tokens others monadics.stop stop (omega (arith, once, near)) agree) list m g) x to h,
+    )
 
     operand_begins : Begins (λ tokens. SpellsPrimary tokens depth) (λ tokens. SpellsSigned tokens depth) tokens from
-        (from + n)
+        monadics.end
     operand_begins others stop near agree x to h =
         let read = operand_ends others stop near agree x to h in (read.0, to, read.1)
 
     operand_carries : Carries (λ tokens. SpellsPrimary tokens depth) (λ tokens. SpellsSigned tokens depth)
-        tokens from (from + n) 16 16
+        tokens from monadics.end 16 16
     operand_carries stop near within r =
-        operand_reaches tokens depth from (from + length list) stop list each few (omega arith)
-        (omega (arith, size, near))
-        (subst (λ k. Reaches (λ tokens. SpellsPrimary tokens depth) tokens (from + k) stop) size r)
+        operand_reaches tokens depth from monadics.end stop monadics.part.items signs.spells.1 signs.spells.0
+        signs.bounds.0 near r
 
     pub operand_unread : (halt : Halt) →
-        Reads 16 (λ tokens. SpellsPrimary tokens depth) extends_operand tokens (from + n) (Err halt) →
+        Reads 16 (λ tokens. SpellsPrimary tokens depth) extends_operand tokens monadics.end (Err halt) →
         ReadsAs 16 (λ tokens. SpellsOperand tokens depth) (λ tokens. SpellsSigned tokens depth) extends_operand tokens
         from (Err halt)
     operand_unread halt read =
         longest_read _
-        (unread (λ tokens. SpellsPrimary tokens depth) (λ tokens. SpellsSigned tokens depth) tokens from (from + n) halt
-        (omega arith) operand_begins operand_carries read.refused read.least)
+        (unread (λ tokens. SpellsPrimary tokens depth) (λ tokens. SpellsSigned tokens depth) tokens from monadics.end
+        halt signs.bounds.0 operand_begins operand_carries read.refused read.least)
 
     pub operand_read : (reading : Reading Primary) (operand : Operand) →
-        Reads 16 (λ tokens. SpellsPrimary tokens depth) extends_operand tokens (from + n) (Ok reading) →
+        Reads 16 (λ tokens. SpellsPrimary tokens depth) extends_operand tokens monadics.end (Ok reading) →
         SpellsOperand tokens depth from operand reading.end →
         ReadsAs 16 (λ tokens. SpellsOperand tokens depth) (λ tokens. SpellsSigned tokens depth) extends_operand tokens
         from (Ok (record { part = operand; end = reading.end; stop = reading.stop }))
     operand_read reading operand read spells =
-        read_to (λ tokens. SpellsPrimary tokens depth) (λ tokens. SpellsSigned tokens depth) tokens from (from + n)
-        (record { part = operand; end = reading.end; stop = reading.stop }) (omega arith) operand_ends operand_carries
+        read_to (λ tokens. SpellsPrimary tokens depth) (λ tokens. SpellsSigned tokens depth) tokens from monadics.end
+        (record { part = operand; end = reading.end; stop = reading.stop }) signs.bounds.0 operand_ends operand_carries
         spells read.longest read.ahead read.least
 
   -- ---- a question for a bound of an array, from what stands behind LWB or UPB

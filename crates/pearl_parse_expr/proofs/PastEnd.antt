@@ -48,4 +48,4 @@ pub no_expression : (tokens : List Token) (depth from : ℕ) → what_at tokens 
 no_expression tokens depth from none x to h =
     let chain = flat tokens depth from x to h.0 in
     let operand = chain.1.1 in
-    no_operand tokens depth from operand.0 chain.0 operand.1 chain.1.0 none operand.3 operand.4
+    no_operand tokens depth from operand.0 chain.0 operand.1 chain.1.0 none operand.2.1 operand.3

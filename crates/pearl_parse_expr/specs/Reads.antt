@@ -1,4 +1,7 @@
--- What is known where a part is read from the tokens that begin at a number, or isn't.
+-- What is known where a part is read from the tokens that begin at a number, or isn't. In each word `room` is how many
+-- tokens, at most, complete a part that goes on as far as the stop that is told, besides eight for each token from its
+-- first one up to there (`ReachesIn`): what opens something pays for what closes it, so a completed part stays within a
+-- bound and its lists have room in a tree. It is 16 for an expression and 24 for a statement.
 use Rattle.std.specs.Prelude.{ℕ, Bool, List, Option, Vec, IfOk, IfErr, Result}
 use Rattle.pearl_tree.specs.declared.token.What.{What}
 use Rattle.pearl_tree.specs.declared.token.Token.{Token}

@@ -1,6 +1,7 @@
 -- What tokens that begin alike have in common: which token goes on with a part, and with which none goes on.
 use Rattle.std.specs.Prelude.{if◌then◌else◌, ◌≡◌, ℕ, ◌+◌, slice_get, ◌<◌, ◌≤◌, ◌⊎◌, ◌==◌, ◌||◌, ◌&&◌, ◌-◌, ◌^◌}
 use Rattle.std.specs.Prelude.{unwrap_or, Bool, true, false, List, length, Option, Some, None}
+use Rattle.std.specs.Option.{is_some, option_and_then}
 use Rattle.pearl_value.specs.declared.operator.Monad.{Monad}
 use Rattle.pearl_value.specs.declared.operator.Monad.TheVariants as monad
 use Rattle.pearl_tree.specs.declared.token.What.{What}
@@ -110,6 +111,15 @@ monad_of (what.Word code) =
     else (if code == w.SIGN then Some monad.Sign else (if code == w.NOT then Some monad.Not else None))
 monad_of _ = None
 
+-- a token that is one
+abbrev pub is_monad : Option What → Bool
+is_monad token = is_some (option_and_then monad_of token)
+
+-- { + | - | ABS | SIGN | NOT }, no more than may stand before one primary
+abbrev pub SpellsMonadics : List Token → Spelling (List Monadic)
+SpellsMonadics tokens from list to =
+    (length list ≤ limit.MONADS_MAX) × SpellsEach (SpellsMonadic tokens) from list to
+
 -- a number, and behind it a word
 abbrev pub is_counted : ℕ → List Token → ℕ → Bool
 is_counted word tokens at = is_number (what_at tokens at) && is_word word (what_at tokens (at + 1))
@@ -143,15 +153,18 @@ abbrev pub begins_limit : List Token → ℕ → Bool
 begins_limit tokens from =
     is_side (what_at tokens from) || (is_number (what_at tokens from) && is_side (what_at tokens (from + 1)))
 
+-- part { "," part }, where `extends` goes on with a part that could end before it
+abbrev pub by_comma : (Option What → Bool) → Option What → Bool
+by_comma extends token = extends token || is_symbol s.COMMA token
+
 -- a token that goes on with expressions between commas that could end before it
 abbrev pub extends_list : Option What → Bool
-extends_list token = extends_expression token || is_symbol s.COMMA token
+extends_list = by_comma extends_expression
 
 -- { + | - | ABS | SIGN | NOT } primary
 abbrev pub SpellsSigned : List Token → ℕ → Spelling Primary
 SpellsSigned tokens depth from part to =
-    (m : ℕ) × (monadics : List Monadic) × (length monadics ≤ limit.MONADS_MAX) ×
-    SpellsEach (SpellsMonadic tokens) from monadics m × SpellsPrimary tokens depth m part to
+    (m : ℕ) × (monadics : List Monadic) × SpellsMonadics tokens from monadics m × SpellsPrimary tokens depth m part to
 
 -- the same, as the operand that it is
 abbrev pub SpellsOperand : List Token → ℕ → Spelling Operand

@@ -15,7 +15,7 @@ use crate::dyadic::with_operand;
 use crate::fault::ParseFault;
 use crate::operator::{dyadic_at, monadics};
 use crate::primary::{LimitHead, availability, limit_head, literal_primary};
-use crate::reading::{Halt, Reading, append, boxed};
+use crate::reading::{Halt, Reading, boxed};
 use crate::selector::component;
 use crate::standing::{is_name, is_symbol, is_word, name_at, place_at};
 use pearl_tree::expression::{Expr, Operand, Primary, Ref, Selector};
@@ -41,34 +41,14 @@ fn subscripts(
     ensures { ReadsList 16 (λ tokens. spec.SpellsSubscriptsList tokens depth) spec.extends_list tokens.now from result }
 {
     let first = expression_at_depth(alloc, tokens, from, depth)?;
-    let mut list = Vec::new(alloc);
-    append(&mut list, first.part)?;
-    let mut end = first.end;
-    let mut stop = first.stop;
-    'each: while is_symbol(tokens, end, COMMA) {
-        match expression_at_depth(alloc, tokens, end + 1, depth) {
-            Ok(next) => {
-                append(&mut list, next.part)?;
-                end = next.end;
-                stop = stop.max(next.stop);
-            }
-            Err(halt) => match halt {
-                Halt::Refused(at) => {
-                    return Ok(Reading {
-                        part: list,
-                        end,
-                        stop: stop.max(at),
-                    });
-                }
-                Halt::NoMemory => return Err(Halt::NoMemory),
-            },
+    let mut list = Reading::one(alloc, first)?;
+    'each: while is_symbol(tokens, list.end, COMMA) {
+        match expression_at_depth(alloc, tokens, list.end + 1, depth) {
+            Ok(next) => list.add(next)?,
+            Err(halt) => return list.ended(halt),
         }
     }
-    Ok(Reading {
-        part: list,
-        end,
-        stop,
-    })
+    Ok(list)
 }
 
 #[cycle(expression)]
@@ -90,13 +70,14 @@ fn bracketed(
     if !is_symbol(tokens, inner.end, RIGHT_ROUND) {
         return Err(Halt::Refused(inner.stop));
     }
+    let closed = inner.past(1);
     Ok(Reading {
         part: Selector::Subscripts {
-            subscripts: Parts::new(inner.part),
+            subscripts: Parts::new(closed.part),
             place: place_at(tokens, from),
         },
-        end: inner.end + 1,
-        stop: inner.stop.max(inner.end + 1),
+        end: closed.end,
+        stop: closed.stop,
     })
 }
 
@@ -131,26 +112,11 @@ fn selectors(
         tokens.now from result }
     ensures memory { IfErr result (λ halt. halt ≡ Halt.NoMemory) }
 {
-    let mut list = Vec::new(alloc);
-    let mut end = from;
-    let mut stop = from;
+    let mut list = Reading::none(alloc, from, from);
     'each: loop {
-        match selector(alloc, tokens, end, depth) {
-            Ok(next) => {
-                append(&mut list, next.part)?;
-                end = next.end;
-                stop = stop.max(next.stop);
-            }
-            Err(halt) => match halt {
-                Halt::Refused(at) => {
-                    return Ok(Reading {
-                        part: list,
-                        end,
-                        stop: stop.max(at),
-                    });
-                }
-                Halt::NoMemory => return Err(Halt::NoMemory),
-            },
+        match selector(alloc, tokens, list.end, depth) {
+            Ok(next) => list.add(next)?,
+            Err(halt) => return list.ended(halt),
         }
     }
 }
@@ -201,13 +167,14 @@ fn group(alloc: Global, tokens: &[Token], from: usize, depth: u8) -> Result<Read
     if !is_symbol(tokens, inner.end, RIGHT_ROUND) {
         return Err(Halt::Refused(inner.stop));
     }
+    let closed = inner.past(1);
     Ok(Reading {
         part: Primary::Group {
-            inner: boxed(alloc, inner.part)?,
+            inner: boxed(alloc, closed.part)?,
             place: place_at(tokens, from),
         },
-        end: inner.end + 1,
-        stop: inner.stop.max(inner.end + 1),
+        end: closed.end,
+        stop: closed.stop,
     })
 }
 
@@ -306,10 +273,10 @@ fn operand(
         spec.extends_operand tokens.now from result }
 {
     let monadics = monadics(alloc, tokens, from)?;
-    match primary(alloc, tokens, from + monadics.len(), depth) {
+    match primary(alloc, tokens, monadics.end, depth) {
         Ok(primary) => Ok(Reading {
             part: Operand {
-                monadics: Parts::new(monadics),
+                monadics: Parts::new(monadics.part),
                 primary: primary.part,
                 place: place_at(tokens, from),
             },
@@ -335,35 +302,28 @@ pub fn expression_at_depth(
         Ok(first) => first,
         Err(halt) => return Err(halt),
     };
-    let mut part = Expr::Operand(first.part);
-    let mut end = first.end;
-    let mut stop = first.stop;
+    let mut read = Reading {
+        part: Expr::Operand(first.part),
+        end: first.end,
+        stop: first.stop,
+    };
     let mut count = 0;
     'each: while count < DYADS_MAX {
-        let dyadic = match dyadic_at(tokens, end) {
+        let dyadic = match dyadic_at(tokens, read.end) {
             Some(dyadic) => dyadic,
-            None => return Ok(Reading { part, end, stop }),
+            None => return Ok(read),
         };
-        match operand(alloc, tokens, end + 1, depth) {
+        match operand(alloc, tokens, read.end + 1, depth) {
             Ok(next) => {
-                part = with_operand(alloc, part, dyadic, next.part)?;
-                end = next.end;
-                stop = stop.max(next.stop);
+                read.part = with_operand(alloc, read.part, dyadic, next.part)?;
+                read.end = next.end;
+                read.stop = read.stop.max(next.stop);
                 count += 1;
             }
-            Err(halt) => match halt {
-                Halt::Refused(missing) => {
-                    return Ok(Reading {
-                        part,
-                        end,
-                        stop: stop.max(missing),
-                    });
-                }
-                Halt::NoMemory => return Err(Halt::NoMemory),
-            },
+            Err(halt) => return read.ended(halt),
         }
     }
-    Ok(Reading { part, end, stop })
+    Ok(read)
 }
 
 fn stop_place(tokens: &[Token], stop: usize) -> u32

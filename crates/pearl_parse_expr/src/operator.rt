@@ -1,14 +1,14 @@
 // The operators of expressions.
 
-ghost use Rattle.std.specs.Prelude.{◌≡◌, ◌+◌, ◌<◌, ◌≤◌, ◌⊎◌, length, IfOk, IfErr, IfSome, Some, None, false};
+ghost use Rattle.std.specs.Prelude.{◌≡◌, ◌+◌, ◌<◌, ◌≤◌, length, IfOk, IfErr, IfSome, Some, None, false};
 ghost use Rattle.std.specs.Option.{option_and_then};
-ghost use Rattle.pearl_tree.specs.Standing.{what_at, IsAt, HasWord, SpellsEach};
+ghost use Rattle.pearl_tree.specs.Standing.{what_at, IsAt, HasWord};
 ghost use Rattle.pearl_tree.specs.Expressions as grammar;
-ghost use Rattle.pearl_tree.specs.declared.limit.TheConstants as limit;
 ghost use Rattle.pearl_parse_expr.specs.declared.reading.Halt.{Halt};
 ghost use Rattle.pearl_parse_expr.specs.Stops as spec;
+ghost use Rattle.pearl_parse_expr.specs.Reads.{ReadsMaybeList};
 
-use crate::reading::{Halt, append};
+use crate::reading::{Halt, Reading};
 use pearl_tree::expression::{Dyadic, Monadic, Side};
 use pearl_tree::limit::MONADS_MAX;
 use pearl_tree::symbol::*;
@@ -121,20 +121,23 @@ pub fn monadic_at(tokens: &[Token], at: usize) -> Option<Monadic>
 }
 
 /// The monadic operators that begin here, as many as may stand before one primary.
-pub fn monadics(alloc: Global, tokens: &[Token], from: usize) -> Result<Vec<Monadic>, Halt>
+pub fn monadics(alloc: Global, tokens: &[Token], from: usize) -> Result<Reading<Vec<Monadic>>, Halt>
     requires { from ≤ length tokens.now }
-    ensures each { IfOk result (λ list.
-        SpellsEach (grammar.SpellsMonadic tokens.now) from list.items (from + length list.items)) }
-    ensures few { IfOk result (λ list. length list.items ≤ limit.MONADS_MAX) }
-    ensures all { IfOk result (λ list. (length list.items ≡ limit.MONADS_MAX) ⊎
-        (option_and_then spec.monad_of (what_at tokens.now (from + length list.items)) ≡ None)) }
-    ensures within { IfOk result (λ list. from + length list.items ≤ length tokens.now) }
-    ensures fault { IfErr result (λ halt. halt ≡ Halt.NoMemory) }
+    ensures reads { ReadsMaybeList 16 spec.SpellsMonadics spec.is_monad tokens.now from result }
+    ensures once { IfOk result (λ reading. reading.stop ≡ reading.end) }
+    ensures memory { IfErr result (λ halt. halt ≡ Halt.NoMemory) }
 {
-    let mut list = Vec::new(alloc);
-    while list.len() < MONADS_MAX {
-        match monadic_at(tokens, from + list.len()) {
-            Some(monadic) => append(&mut list, monadic)?,
+    let mut list = Reading::none(alloc, from, from);
+    'each: while list.part.len() < MONADS_MAX {
+        match monadic_at(tokens, list.end) {
+            Some(part) => {
+                let end = list.end + 1;
+                list.add(Reading {
+                    part,
+                    end,
+                    stop: end,
+                })?;
+            }
             None => return Ok(list),
         }
     }

@@ -7,10 +7,11 @@ use Rattle.pearl_parse_expr.specs.Stops as spec
 use Rattle.pearl_parse_expr.specs.Reads.{ReadsList}
 use Rattle.pearl_parse_expr.proofs.Closings.{group_unread, group_unclosed, group_closed, bracketed_unread}
 use Rattle.pearl_parse_expr.proofs.Closings.{bracketed_unclosed, bracketed_closed}
-use Rattle.pearl_parse_expr.proofs.Loops.{selectors_none, selectors_more, selectors_read, subscripts_one}
-use Rattle.pearl_parse_expr.proofs.Loops.{subscripts_unread, subscripts_more, subscripts_read, subscripts_read_to_comma}
-use Rattle.pearl_parse_expr.proofs.Loops.{chain_one, chain_unread, chain_more, chain_read, chain_read_full}
-use Rattle.pearl_parse_expr.proofs.Loops.{chain_read_to_operator}
+use Rattle.pearl_parse_expr.proofs.CommaLists.{ListRead, list_first, list_more, list_done, list_ended, list_none}
+use Rattle.pearl_parse_expr.proofs.Joining.{expr_keeps}
+use Rattle.pearl_parse_expr.proofs.Lists.{listed}
+use Rattle.pearl_parse_expr.proofs.Loops.{SelectorsRead, selectors_none, selectors_more, selectors_ended}
+use Rattle.pearl_parse_expr.proofs.Loops.{chain_one, chain_unread, chain_more, chain_read, chain_read_full, chain_ended}
 use Rattle.pearl_parse_expr.proofs.Operands.{ref_unread, ref_read, operand_unread, operand_read, limit_read}
 use Rattle.pearl_parse_expr.proofs.Operands.{number_read, number_missing}
 use Rattle.pearl_parse_expr.proofs.Primaries.{clash, symbol_within, only_group, only_now, no_selector}
@@ -34,19 +35,19 @@ bracketed-returns t c =
     let depth = c.args.depth in
     let from = c.args.from in
     let closed = c.if-not-is_symbol.ensures.stands refl in
-    bracketed_closed tokens depth from (search rules) c.requires.deep c.requires.bracket inner
-    c.in-Ok.ensures _ _ closed
-    c.max.ensures
+    let same = c.new.ensures ∙ ap (λ reading. reading.part.items) c.past-closed.ensures in
+    rw c.past-closed.ensures (bracketed_closed tokens depth from (search rules) c.requires.deep c.requires.bracket inner
+    c.in-Ok.ensures _ _ closed refl
     (subst (λ X. X) (sym (spells_subscripts tokens depth from c.new.result c.place_at.result (inner.end + 1))) (
       inner.end,
       c.place_at.ensures,
       c.requires.bracket,
       c.requires.deep,
-      subst (λ xs. spec.SpellsSubscriptsList tokens (depth - 1) (from + 1) xs inner.end) (sym c.new.ensures)
+      subst (λ xs. spec.SpellsSubscriptsList tokens (depth - 1) (from + 1) xs inner.end) (sym same)
           c.in-Ok.ensures.spells,
       closed,
       refl,
-    ))
+    )))
 
 pub group-returns-then-depth-eq0 : goal.group-returns-then-depth-eq0
 group-returns-then-depth-eq0 t c = record {
@@ -81,9 +82,11 @@ group-returns-then-not-is_symbol t c =
 
 pub group-returns : goal.group-returns
 group-returns t c =
-    group_closed c.args.tokens.now c.args.depth c.args.from (search rules) (omega (arith, c.if-depth-eq0.false))
-    c.requires.bracket c.in-Ok.inner c.in-Ok.ensures _ _ (c.if-not-is_symbol.ensures.stands refl) c.max.ensures
-    (search rules)
+    let inner = c.in-Ok.inner in
+    let same : c.past-closed.result.part ≡ inner.part = ap (λ reading. reading.part) c.past-closed.ensures in
+    rw c.past-closed.ensures (group_closed c.args.tokens.now c.args.depth c.args.from (search rules)
+    (omega (arith, c.if-depth-eq0.false)) c.requires.bracket inner c.in-Ok.ensures _ _
+    (c.if-not-is_symbol.ensures.stands refl) refl (search rules))
 
 pub expression_at_depth-returns-in-Err : goal.expression_at_depth-returns-in-Err
 expression_at_depth-returns-in-Err t c =
@@ -95,31 +98,32 @@ expression_at_depth-each-init t c =
 
 pub expression_at_depth-returns-in-None : goal.expression_at_depth-returns-in-None
 expression_at_depth-returns-in-None t c =
-    chain_read c.args.tokens.now c.args.depth c.args.from c.each.part c.each.count c.each.end c.each.stop
-    c.each.invariant (c.in-None.ensures.none refl)
+    chain_read c.args.tokens.now c.args.depth c.args.from c.each.read c.each.count c.each.invariant
+    (c.in-None.ensures.none refl)
 
 pub expression_at_depth-returns : goal.expression_at_depth-returns
 expression_at_depth-returns t c =
-    chain_read_full c.args.tokens.now c.args.depth c.args.from c.each.part c.each.count c.each.end c.each.stop
-    c.each.invariant (omega (arith, c.each-test.false))
+    chain_read_full c.args.tokens.now c.args.depth c.args.from c.each.read c.each.count c.each.invariant
+    (omega (arith, c.each-test.false))
 
-pub expression_at_depth-returns-in-Refused : goal.expression_at_depth-returns-in-Refused
-expression_at_depth-returns-in-Refused t c =
-    chain_read_to_operator c.args.tokens.now c.args.depth c.args.from c.each.part c.each.count c.each.end c.each.stop
+pub expression_at_depth-returns-in-Err-operand : goal.expression_at_depth-returns-in-Err-operand
+expression_at_depth-returns-in-Err-operand t c =
+    rw c.ended.ensures.value (chain_ended c.args.tokens.now c.args.depth c.args.from c.each.read c.each.count
     c.each.invariant c.in-Some.dyadic (omega (arith, c.each-test.true)) c.in-Some.ensures.some c.in-Some.ensures.place
-    c.in-Err-operand.halt c.in-Refused.missing c.max.result c.in-Refused.is c.max.ensures c.in-Err-operand.ensures
+    c.in-Err-operand.halt c.in-Err-operand.ensures)
 
 pub expression_at_depth-each-preserved : goal.expression_at_depth-each-preserved
 expression_at_depth-each-preserved t c =
     let tokens = c.args.tokens.now in
+    let list = c.each.read in
     let next = c.in-Ok-operand.next in
     let read = c.in-Ok-operand.ensures in
     let dyadic = c.in-Some.ensures in
-    let whole = c.in_ok-part-in-Ok-operand.ensures in
-    chain_more tokens c.args.depth c.args.from c.each.part c.each.count c.each.end c.each.stop c.each.invariant
-    c.in-Some.dyadic (omega (arith, c.each-test.true)) dyadic.some dyadic.place next _ c.max-stop.result
-    c.max-stop.ensures
-    (whole.spells tokens c.args.depth c.args.from c.each.end next.end c.each.invariant.spells dyadic.some dyadic.place
+    let whole = c.in_ok-read-in-Ok-operand.ensures in
+    chain_more tokens c.args.depth c.args.from list c.each.count c.each.invariant
+    c.in-Some.dyadic (omega (arith, c.each-test.true)) dyadic.some dyadic.place next _ _
+    c.max.ensures
+    (whole.spells tokens c.args.depth c.args.from list.end next.end c.each.invariant.spells dyadic.some dyadic.place
     read.spells) whole.count read
 
 pub limit-returns-in_ok-array-in-Ok : goal.limit-returns-in_ok-array-in-Ok
@@ -157,18 +161,15 @@ limit-returns-in-None t c =
 
 pub operand-returns-in-Err : goal.operand-returns-in-Err
 operand-returns-in-Err t c =
-    let list = c.in_ok-monadics.monadics in
     let read = c.in_ok-monadics.ensures in
-    operand_unread c.args.tokens.now c.args.depth c.args.from list.items c.len.result
-    (omega (arith, c.len.ensures, list.ok.0)) read.each read.few read.all c.in-Err.halt c.in-Err.ensures
+    operand_unread c.args.tokens.now c.args.depth c.args.from c.in_ok-monadics.monadics read.reads read.once
+    c.in-Err.halt c.in-Err.ensures
 
 pub operand-returns-in-Ok : goal.operand-returns-in-Ok
 operand-returns-in-Ok t c =
-    let list = c.in_ok-monadics.monadics in
     let read = c.in_ok-monadics.ensures in
-    operand_read c.args.tokens.now c.args.depth c.args.from list.items c.len.result
-    (omega (arith, c.len.ensures, list.ok.0)) read.each read.few read.all c.in-Ok.primary _ c.in-Ok.ensures
-    (search rules)
+    operand_read c.args.tokens.now c.args.depth c.args.from c.in_ok-monadics.monadics read.reads read.once
+    c.in-Ok.primary _ c.in-Ok.ensures (search rules)
 
 pub primary-returns-in-Err : goal.primary-returns-in-Err
 primary-returns-in-Err t c =
@@ -234,29 +235,38 @@ reference-returns-in-None t c = record {
 
 pub selectors-each-init : goal.selectors-each-init
 selectors-each-init t c =
-    selectors_none c.args.tokens.now c.args.depth c.args.from c.new-list.result.items
-    c.new-list.ensures.items c.requires
+    listed (SelectorsRead c.args.tokens.now c.args.depth c.args.from) c.none-list.ensures
+    (selectors_none c.args.tokens.now c.args.depth c.args.from c.requires)
 
 pub selectors-each-preserved : goal.selectors-each-preserved
 selectors-each-preserved t c =
-    selectors_more c.args.tokens.now c.args.depth c.args.from c.each.list.items c.each.end c.each.stop c.each.invariant
-    c.in-Ok.next _ c.max-stop.result c.in_ok-append-in-Ok.ensures.appended c.max-stop.ensures c.in-Ok.ensures
+    let list = c.each.list in
+    listed (SelectorsRead c.args.tokens.now c.args.depth c.args.from) c.in_ok-add-in-Ok.ensures.added
+    (selectors_more c.args.tokens.now c.args.depth c.args.from list.part.items list.end list.stop c.each.invariant
+    c.in-Ok.next c.in-Ok.ensures)
 
-pub selectors-returns-in-Refused-clause-reads : goal.selectors-returns-in-Refused-clause-reads
-selectors-returns-in-Refused-clause-reads t c =
-    selectors_read c.args.tokens.now c.args.depth c.args.from c.each.list.items c.each.end c.each.stop c.each.invariant
-    c.each.list c.in-Err.halt c.in-Refused.at c.max.result refl c.in-Refused.is c.max.ensures c.in-Err.ensures
+pub selectors-returns-in-Err-clause-reads : goal.selectors-returns-in-Err-clause-reads
+selectors-returns-in-Err-clause-reads t c =
+    rw c.ended.ensures.value (selectors_ended c.args.tokens.now c.args.depth c.args.from c.each.list c.each.invariant
+    c.in-Err.halt c.in-Err.ensures)
 
 pub subscripts-each-init : goal.subscripts-each-init
 subscripts-each-init t c =
-    subscripts_one c.args.tokens.now c.args.depth c.args.from c.in_ok-first.first _ _ c.new-list.ensures.items
-    c.in_ok-append.ensures.appended c.in_ok-first.ensures
+    let depth = c.args.depth in
+    listed (ListRead (λ tokens. grammar.SpellsExpr tokens depth) spec.extends_expression c.args.tokens.now c.args.from)
+    c.in_ok-list.ensures.list
+    (list_first (λ tokens. grammar.SpellsExpr tokens depth) spec.extends_expression (expr_keeps depth) refl
+    c.args.tokens.now c.args.from c.in_ok-first.first c.in_ok-first.ensures)
 
 pub subscripts-each-preserved : goal.subscripts-each-preserved
 subscripts-each-preserved t c =
-    subscripts_more c.args.tokens.now c.args.depth c.args.from c.each.list.items c.each.end c.each.stop c.each.invariant
-    c.in-Ok.next _ c.max-stop.result c.in_ok-append-in-Ok.ensures.appended c.max-stop.ensures
-    (c.each-test.ensures.stands refl) c.in-Ok.ensures
+    let list = c.each.list in
+    let depth = c.args.depth in
+    listed (ListRead (λ tokens. grammar.SpellsExpr tokens depth) spec.extends_expression c.args.tokens.now c.args.from)
+    c.in_ok-add-in-Ok.ensures.added
+    (list_more (λ tokens. grammar.SpellsExpr tokens depth) spec.extends_expression (expr_keeps depth) refl
+    c.args.tokens.now c.args.from list.part.items list.end list.stop c.in-Ok.next c.each.invariant
+    (c.each-test.ensures.stands refl) c.in-Ok.ensures)
 
 pub subscripts-returns-in_err-first : goal.subscripts-returns-in_err-first
 subscripts-returns-in_err-first t c =
@@ -265,15 +275,16 @@ subscripts-returns-in_err-first t c =
     let same : c.from_residual.result ≡ Err halt = search rules in
     subst (λ r. ReadsList 16 (λ tokens. spec.SpellsSubscriptsList tokens c.args.depth)
     spec.extends_list tokens c.args.from r)
-    (sym same) (subscripts_unread tokens c.args.depth c.args.from halt c.in_err-first.ensures)
+    (sym same) (list_none (λ tokens. grammar.SpellsExpr tokens c.args.depth) spec.extends_expression
+    (expr_keeps c.args.depth) tokens c.args.from halt c.in_err-first.ensures)
 
-pub subscripts-returns-in-Refused : goal.subscripts-returns-in-Refused
-subscripts-returns-in-Refused t c =
-    subscripts_read_to_comma c.args.tokens.now c.args.depth c.args.from c.each.list.items c.each.end c.each.stop
-    c.each.invariant c.each.list c.in-Err.halt c.in-Refused.at c.max.result refl c.in-Refused.is c.max.ensures
-    (c.each-test.ensures.stands refl) c.in-Err.ensures
+pub subscripts-returns-in-Err : goal.subscripts-returns-in-Err
+subscripts-returns-in-Err t c =
+    rw c.ended.ensures.value (list_ended (λ tokens. grammar.SpellsExpr tokens c.args.depth) spec.extends_expression
+    (expr_keeps c.args.depth) c.args.tokens.now c.args.from c.each.list c.in-Err.halt c.each.invariant
+    (c.each-test.ensures.stands refl) c.in-Err.ensures)
 
 pub subscripts-returns : goal.subscripts-returns
 subscripts-returns t c =
-    subscripts_read c.args.tokens.now c.args.depth c.args.from c.each.list.items c.each.end c.each.stop
-    c.each.invariant c.each.list refl (sym c.each-test.ensures.value)
+    list_done (λ tokens. grammar.SpellsExpr tokens c.args.depth) spec.extends_expression c.args.tokens.now c.args.from
+    c.each.list c.each.invariant (sym c.each-test.ensures.value)

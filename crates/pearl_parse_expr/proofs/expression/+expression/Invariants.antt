@@ -1,6 +1,9 @@
 -- What the loops keep, and what shrinks: the brackets that may still stand, then the way down from class to class.
 use Rattle.std.proofs.Common.{◌+◌, ◌-◌, ◌*◌, length}
-use Rattle.pearl_parse_expr.proofs.Loops.{SelectorsRead, SubscriptsRead, ChainRead}
+use Rattle.pearl_tree.specs.Expressions.{SpellsExpr}
+use Rattle.pearl_parse_expr.specs.Stops.{extends_expression}
+use Rattle.pearl_parse_expr.proofs.CommaLists.{ListRead}
+use Rattle.pearl_parse_expr.proofs.Loops.{SelectorsRead, ChainRead}
 use Rattle.pearl_parse_expr.proofs.expression.+expression.Given as goal
 
 abbrev pub decreases-subscripts : goal.decreases-subscripts
@@ -34,19 +37,20 @@ abbrev pub decreases-bracketed : goal.decreases-bracketed
 decreases-bracketed l = 9 * l.depth
 
 abbrev pub invariant-expression_at_depth-each : goal.invariant-expression_at_depth-each
-invariant-expression_at_depth-each l = ChainRead l.tokens l.depth l.from l.part l.count l.end l.stop
+invariant-expression_at_depth-each l = ChainRead l.tokens l.depth l.from l.read.part l.count l.read.end l.read.stop
 
 abbrev pub decreases-expression_at_depth-each : goal.decreases-expression_at_depth-each
 decreases-expression_at_depth-each l = 100 - l.count
 
 abbrev pub invariant-selectors-each : goal.invariant-selectors-each
-invariant-selectors-each l = SelectorsRead l.tokens l.depth l.from l.list.items l.end l.stop
+invariant-selectors-each l = SelectorsRead l.tokens l.depth l.from l.list.part.items l.list.end l.list.stop
 
 abbrev pub decreases-selectors-each : goal.decreases-selectors-each
-decreases-selectors-each l = length l.tokens - l.end
+decreases-selectors-each l = length l.tokens - l.list.end
 
 abbrev pub invariant-subscripts-each : goal.invariant-subscripts-each
-invariant-subscripts-each l = SubscriptsRead l.tokens l.depth l.from l.list.items l.end l.stop
+invariant-subscripts-each l = ListRead (λ tokens. SpellsExpr tokens l.depth) extends_expression l.tokens l.from
+    l.list.part.items l.list.end l.list.stop
 
 abbrev pub decreases-subscripts-each : goal.decreases-subscripts-each
-decreases-subscripts-each l = length l.tokens - l.end
+decreases-subscripts-each l = length l.tokens - l.list.end

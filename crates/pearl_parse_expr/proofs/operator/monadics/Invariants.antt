@@ -1,13 +1,10 @@
--- The list spells the operators from `from` on, at most eight.
-use Rattle.std.proofs.Common.{◌+◌, ◌-◌, ◌≤◌, length}
-use Rattle.pearl_tree.specs.Standing.{SpellsEach}
-use Rattle.pearl_tree.specs.Expressions.{SpellsMonadic}
+-- The operators are read as far as the list goes, and no token twice.
+use Rattle.std.proofs.Common.{◌-◌, length}
+use Rattle.pearl_parse_expr.proofs.Loops.{MonadicsRead}
 use Rattle.pearl_parse_expr.proofs.operator.monadics.Given as goal
 
-abbrev pub invariant-loop-list : goal.invariant-loop-list
-invariant-loop-list l =
-    SpellsEach (SpellsMonadic l.tokens) l.from l.list.items (l.from + length l.list.items) ×
-    (length l.list.items ≤ 8) × (l.from + length l.list.items ≤ length l.tokens)
+abbrev pub invariant-each : goal.invariant-each
+invariant-each l = MonadicsRead l.tokens l.from l.list.part.items l.list.end l.list.stop
 
-abbrev pub decreases-loop-list : goal.decreases-loop-list
-decreases-loop-list l = 8 - length l.list.items
+abbrev pub decreases-each : goal.decreases-each
+decreases-each l = 8 - length l.list.part.items
