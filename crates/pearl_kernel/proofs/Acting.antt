@@ -13,18 +13,19 @@ use Rattle.pearl_rules.specs.Devices.{bytes_in, values_in}
 use Rattle.pearl_rules.specs.Effect.{effect}
 use Rattle.pearl_rules.specs.Pick.{guard, is_possible, is_ready, is_ready_row, pick}
 use Rattle.pearl_rules.specs.Runs.{dropped, kept_at}
-use Rattle.pearl_rules.specs.Slots.{Fits}
 use Rattle.pearl_rules.proofs.PickLaws.{picked}
 use Rattle.pearl_kernel.specs.Kept.{Kept, offered, done, IsLawful}
-use Rattle.pearl_kernel.specs.Whole.{IsWhole}
-use Rattle.pearl_kernel.specs.Eligible.{possible, entry, entry_if, Stand, is_told, able_at, IsStandOf}
+use Rattle.pearl_kernel.specs.Whole.{IsWhole, IsOfTasks}
+use Rattle.pearl_kernel.specs.Eligible.{possible, entry, entry_if, Stand, is_told, able_at, IsSameAt, IsStandOf}
 use Rattle.pearl_kernel.specs.declared.changes.Changed.{Changed}
 use Rattle.pearl_kernel.specs.declared.changes.Changed.TheVariants.{Nothing}
 use Rattle.pearl_kernel.specs.Changes.{ChangesOnly, Stirs, renewed, IsRenewedAt, AreRenewed, AreRenewedIf}
-use Rattle.pearl_kernel.specs.declared.standing.Touched.{Touched}
-use Rattle.pearl_kernel.specs.declared.standing.Touched.TheVariants.{Own, Other, All}
-use Rattle.pearl_kernel.specs.Touched.{IsUntouched, changed_by, Leaves, IsThere, IsSameAt, IsRenewed}
-use Rattle.pearl_kernel.proofs.Places.{some-before, some-dropped}
+use Rattle.pearl_kernel.specs.declared.changes.Touched.{Touched}
+use Rattle.pearl_kernel.specs.declared.changes.Touched.TheVariants.{Own, Other, All}
+use Rattle.pearl_kernel.specs.Touched.{IsUntouched, changed_by, Leaves, IsThere, IsRenewed}
+use Rattle.pearl_kernel.proofs.Lawful.{lawful-after}
+use Rattle.pearl_kernel.proofs.Naming.{names-all}
+use Rattle.pearl_kernel.proofs.Places.{kept-other, some-before, some-dropped}
 use Rattle.pearl_kernel.proofs.Entries.{possible-same, entry-same, renewed-is}
 
 -- WHAT IS PICKED CAN BE DONE
@@ -93,6 +94,17 @@ renews changed k new s after t only offers so is =
 stood : (k : Kept) (s : Stand) (t : ℕ) → IsWhole k s → t < length k.core.tasks → StandsSo k s t
 stood k s t kept there = (kept.stand.able t there, kept.stand.ready.each t there)
 
+-- after a step it is still kept of each task
+pub still-of : (setup : Setup) (k new : Kept) (s : Stand) → IsLawful setup k → IsLawful setup new → IsWhole k s →
+    IsOfTasks new s
+still-of setup k new s before lawful kept =
+    let size : length k.core.tasks ≡ length new.core.tasks = before.tasks ∙ sym lawful.tasks in
+    record {
+      few = subst (λ n. n ≤ 200) size kept.few;
+      size = kept.stand.size ∙ size;
+      names = names-all setup new lawful;
+    }
+
 -- AFTER AN ACTION
 
 pub there-after : (k new : Kept) (touched : Touched) → length new.core.tasks ≡ length k.core.tasks →
@@ -108,9 +120,10 @@ nothing_changed (Other u) t old core far only = only
 nothing_changed (All changed) t old core far only = absurd far
 
 pub kept-after : (setup : Setup) (k : Kept) (s after : Stand) (own : ℕ) (a : Action) (touched : Touched) →
-    IsLawful setup k → IsLawful setup (done k own a) → Fits setup a → IsWhole k s → Leaves a touched →
+    IsLawful setup k → IsLawful setup (done k own a) → IsWhole k s →
+    Leaves own (record k { offers = slice_set k.offers own None }) (done k own a) touched →
     IsRenewed (done k own a) own touched s after → IsWhole (done k own a) after
-kept-after setup k s after own a touched before lawful fits kept leaving renewed =
+kept-after setup k s after own a touched before lawful kept leaving renewed =
     let size : length (done k own a).core.tasks ≡ length k.core.tasks = lawful.tasks ∙ sym before.tasks in
     record {
       few = subst (λ n. n ≤ 200) (sym size) kept.few;
@@ -124,7 +137,7 @@ kept-after setup k s after own a touched before lawful fits kept leaving renewed
     new = done k own a
 
     only : ChangesOnly (changed_by touched) k.core new.core
-    only = leaving.only setup k own before fits
+    only = leaving.only
 
     by_each : (t : ℕ) → t < length k.core.tasks →
         IsRenewedAt new (changed_by touched) s after t ⊎ ((t ≢ own) × IsUntouched touched t × IsSameAt s after t) →
@@ -135,12 +148,13 @@ kept-after setup k s after own a touched before lawful fits kept leaving renewed
         (some-dropped (effect k.core own a).ended (slice_set k.offers own None) t b e))
         (stood k s t kept there) is
     by_each t there (inr same) =
-        let left = leaving.others k own t same.0 same.1 in
-        stays k new s after t left.0 left.1 (nothing_changed touched t k.core new.core same.1 only) same.2
+        let left = leaving.others t same.0 same.1 in
+        stays k new s after t left.0 (left.1 ∙ kept-other k.offers own t None same.0)
+        (nothing_changed touched t k.core new.core same.1 only) same.2
         (stood k s t kept there)
 
 -- what became of the offers and then of the core
-pub done-is : (k mid new : Kept) (own : ℕ) (a : Action) →
+done-is : (k mid new : Kept) (own : ℕ) (a : Action) →
     mid ≡ record { core = k.core; offers = slice_set k.offers own None } →
     new ≡ record { core = (effect mid.core own a).core; offers = dropped (effect mid.core own a).ended mid.offers } →
     new ≡ done k own a
@@ -148,6 +162,22 @@ done-is k mid new own a m n = n ∙ ap then m
   where
     then : Kept → Kept
     then x = record { core = (effect x.core own a).core; offers = dropped (effect x.core own a).ended x.offers }
+
+-- what a lawful kernel becomes
+pub record IsActed (setup : Setup) (k new : Kept) (own : ℕ) (a : Action) : Type 0 where
+  pub is : new ≡ done k own a
+  pub before : IsLawful setup k
+  pub lawful : IsLawful setup (done k own a)
+
+pub acted : (setup : Setup) (k mid new : Kept) (own : ℕ) (a : Action) → IsLawful setup k → own < length k.core.tasks →
+    offered k own ≡ Some a → mid ≡ record { core = k.core; offers = slice_set k.offers own None } →
+    new ≡ record { core = (effect mid.core own a).core; offers = dropped (effect mid.core own a).ended mid.offers } →
+    IsActed setup k new own a
+acted setup k mid new own a before there offer m n = record {
+  is = done-is k mid new own a m n;
+  before = before;
+  lawful = lawful-after setup k own a there (before.fits own a offer) before;
+}
 
 -- WHAT CHANGES NO OFFER
 

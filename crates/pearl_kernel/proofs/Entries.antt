@@ -1,35 +1,24 @@
 -- Whether an offer can be done, and who can act, doesn't change by what touches neither a task's row, its offer nor what the
 -- guards look at.
-use Rattle.std.proofs.Common.{◌≡◌, ◌≢◌, ◌⊎◌, inl, inr, ℕ, ◌<◌, ◌≤◌, List, [], ◌∷◌, Bool, true, false, Option, Some, None, if◌then◌else◌}
-use Rattle.std.proofs.Common.{length, slice_get, slice_set, refl, sym, ap, ◌∙◌, arith}
+use Rattle.std.proofs.Common.{◌≡◌, ◌⊎◌, inl, inr, ℕ, ◌<◌, ◌≤◌, List, Bool, true, false, Option, Some, None, if◌then◌else◌}
+use Rattle.std.proofs.Common.{length, slice_get, refl, sym, ap, ◌∙◌, arith}
 use Rattle.std.proofs.lemmas.Bool.{cases_lt}
 use Rattle.std.proofs.lemmas.Option.{slice_get_past}
 use Rattle.pearl_rules.specs.declared.action.Action.{Action}
 use Rattle.pearl_rules.specs.declared.action.Action.TheVariants as action
-use Rattle.pearl_rules.specs.declared.event.Event.{Event}
-use Rattle.pearl_rules.specs.declared.event.Event.TheVariants as event
-use Rattle.pearl_rules.specs.declared.row.Mode.{Mode}
-use Rattle.pearl_rules.specs.declared.row.Mode.TheVariants.{Dormant, Active}
-use Rattle.pearl_rules.specs.declared.row.TaskRow.{TaskRow}
 use Rattle.pearl_rules.specs.declared.setup.Setup.{Setup}
-use Rattle.pearl_rules.specs.Core.{Core, row_of, with_row, mode_of}
+use Rattle.pearl_rules.specs.Core.{Core, row_of}
 use Rattle.pearl_rules.specs.Counts.{all_free}
 use Rattle.pearl_rules.specs.Devices.{bytes_at, items_of}
-use Rattle.pearl_rules.specs.Effect.{effect, ending, priority_or_declared, stopped_tasks}
-use Rattle.pearl_rules.specs.Plans.{on_row}
 use Rattle.pearl_rules.specs.Pick.{guard, is_complete, is_some_value, is_ready_row, is_possible, priority_of_row}
-use Rattle.pearl_rules.specs.Runs.{dropped, flattened, kept_at}
+use Rattle.pearl_rules.specs.Runs.{flattened, kept_at}
 use Rattle.pearl_rules.specs.Scan.{scan}
 use Rattle.pearl_rules.specs.Tables.{items_or_none}
 use Rattle.pearl_kernel.specs.declared.changes.Changed.{Changed}
 use Rattle.pearl_kernel.specs.declared.changes.Changed.TheVariants.{Nothing}
-use Rattle.pearl_kernel.specs.Kept.{Kept, offered, done, IsLawful}
+use Rattle.pearl_kernel.specs.Kept.{Kept, offered, IsLawful}
 use Rattle.pearl_kernel.specs.Eligible.{possible, number_if, entry, Stand, is_told, able_at, IsStandOf}
 use Rattle.pearl_kernel.specs.Changes.{ChangesOnly, looks_at, renewed_offer, renewed}
-use Rattle.pearl_kernel.specs.Touched.{IsUntouched}
-use Rattle.pearl_kernel.proofs.Places.{kept-other, get-other}
-use Rattle.pearl_kernel.proofs.OneTask as one
-use Rattle.pearl_kernel.proofs.Touching.{touched_of}
 
 -- WHAT OFFERS WAIT FOR
 
@@ -111,87 +100,3 @@ able-is setup k s t lawful is = by_place (cases_lt t (length k.core.tasks))
     by_place (inl within) = ap is_told (is.able t within)
     by_place (inr past) = ap is_told (slice_get_past s.able t (omega (arith, past, is.size)))
         ∙ sym (ap (is_possible k.core) (none_past k.offers t (omega (arith, past, lawful.same, is.size))))
-
--- ANOTHER TASK'S ROW CHANGES
-
-abbrev IsRowOf : Core → ℕ → Core → Type 0
-IsRowOf old t core = row_of core t ≡ row_of old t
-
-row_closed : (old : Core) (u t : ℕ) → t ≢ u → one.Closed (IsRowOf old t) u
-row_closed old u t other = record {
-  row = λ core change is. by_row core change is (row_of core u);
-  tell = λ core e of is. is;
-}
-  where
-    by_row : (core : Core) (change : TaskRow → TaskRow) → IsRowOf old t core → (row : Option TaskRow) →
-        IsRowOf old t (on_row row core (λ r. with_row core u (change r)))
-    by_row core change is None = is
-    by_row core change is (Some row) = get-other core.tasks u t (change row) other ∙ is
-
--- the offers of other tasks
-other_one : (offers : List (Option Action)) (u t : ℕ) → t ≢ u → kept_at (dropped (u ∷ []) offers) t ≡ kept_at offers t
-other_one offers u t other = kept-other offers u t None other
-
-other_stopped : (mode : Mode) (offers : List (Option Action)) (u t : ℕ) → t ≢ u →
-    kept_at (dropped (stopped_tasks mode u) offers) t ≡ kept_at offers t
-other_stopped Dormant offers u t other = refl
-other_stopped (Active priority suspended) offers u t other = other_one offers u t other
-
--- another task that an action doesn't touch stands as before
-module _ (k : Kept) (own t : ℕ) (other : t ≢ own) where
-  abbrev acted : Core
-  acted = record k.core { last = Some own }
-
-  abbrev left : List (Option Action)
-  left = slice_set k.offers own None
-
-  mine : kept_at left t ≡ offered k t
-  mine = kept-other k.offers own t None other
-
-  abbrev SameRow : Core → Type 0
-  SameRow core = IsRowOf k.core t core
-
-  abbrev Stays : Kept → Type 0
-  Stays new = (row_of new.core t ≡ row_of k.core t) × (offered new t ≡ offered k t)
-
-  -- the own task ends
-  by_own : (e : Event) → one.IsOf own e →
-      Stays (record { core = (ending acted own e).core; offers = dropped (own ∷ []) left })
-  by_own e is = (
-    one.ending-kept SameRow own (row_closed k.core own t other) acted e is refl,
-    other_one left own t other ∙ mine,
-  )
-
-  pub others-stay : (a : Action) → IsUntouched (touched_of a) t → Stays (done k own a)
-  unfolding effect
-  others-stay (action.Read slot) far = (refl, mine)
-  others-stay (action.Write slot value) far = (refl, mine)
-  others-stay action.Turn far = (refl, mine)
-  others-stay action.Enter far = (refl, mine)
-  others-stay action.Now far = (refl, mine)
-  others-stay (action.Request list) far = absurd far
-  others-stay (action.Release list) far = absurd far
-  others-stay (action.Try semaphore) far = absurd far
-  others-stay (action.Activate u start repeat priority) far = (
-    one.activated-kept SameRow u (row_closed k.core u t far) acted start repeat (priority_or_declared acted u priority) refl,
-    mine,
-  )
-  others-stay (action.Continue u start) far =
-      (one.continues-kept SameRow u (row_closed k.core u t far) acted start refl, mine)
-  others-stay (action.Resume start) far =
-      (one.resuming-kept SameRow own (row_closed k.core own t other) acted start refl, mine)
-  others-stay (action.Suspend u) far = (one.mark-kept SameRow u (row_closed k.core u t far) acted true refl, mine)
-  others-stay (action.Terminate u) far = (
-    one.stopped-kept SameRow u (row_closed k.core u t far) acted refl,
-    other_stopped (mode_of acted u) left u t far ∙ mine,
-  )
-  others-stay (action.Prevent u) far = (one.prevented-kept SameRow u (row_closed k.core u t far) acted refl, mine)
-  others-stay (action.Enable d) far = (refl, mine)
-  others-stay (action.Disable d) far = (refl, mine)
-  others-stay (action.Trigger d) far = absurd far
-  others-stay (action.Put d text) far = (refl, mine)
-  others-stay (action.Get d format kinds) far = absurd far
-  others-stay (action.Take d) far = absurd far
-  others-stay (action.Send d value) far = (refl, mine)
-  others-stay action.End far = by_own (event.End own) refl
-  others-stay (action.Trap trap) far = by_own (event.Trap own trap) refl

@@ -6,9 +6,9 @@ pub mod Passing
 pub mod OneTask
 pub mod Naming
 pub mod Waiting
-pub mod Touching
 pub mod Entries
 pub mod Changing
+pub mod Touching
 pub mod Renewing
 pub mod Quiet
 pub mod Told

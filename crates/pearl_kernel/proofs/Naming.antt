@@ -26,7 +26,7 @@ use Rattle.pearl_rules.specs.Slots.{Fits, IsLike, IsChannelOf, IsStart, IsOnce, 
 use Rattle.pearl_rules.specs.Tables.{IsInterrupt, IsReadable, input_kind}
 use Rattle.pearl_port.specs.Pending.{IsTyped}
 use Rattle.pearl_sema.specs.Waiting.{AreThere}
-use Rattle.pearl_kernel.specs.Channels.{HasBytes, IsFor, HasValuesFor, ComesIn}
+use Rattle.pearl_kernel.specs.Channels.{HasSwitch, HasBytes, IsFor, HasValuesFor, ComesIn}
 use Rattle.pearl_kernel.specs.Kept.{Kept, IsLawful}
 use Rattle.pearl_kernel.specs.Names.{Names, NamesAll}
 use Rattle.pearl_kernel.specs.Timing.{IsTimelyStart, IsTimelyRepeat, IsTimelyPlan, IsTimelyRow, IsTimely}
@@ -81,6 +81,22 @@ readable_bytes (x ∷ devices) (channel ∷ channels) zero all is = by_sort x ch
     by_sort (device.Input number kind) channel of is = absurd is
     by_sort (device.Output number kind) channel of is = absurd is
 readable_bytes (x ∷ devices) (channel ∷ channels) (suc d) all is = readable_bytes devices channels d all.1 is
+
+interrupt_switch : (devices : List Device) (channels : List Channel) (d : ℕ) → AllZip IsChannelOf devices channels →
+    IsInterrupt (slice_get devices d) → HasSwitch (slice_get channels d)
+interrupt_switch [] channels d all is = absurd is
+interrupt_switch (x ∷ devices) [] d all is = absurd all
+interrupt_switch (x ∷ devices) (channel ∷ channels) zero all is = by_sort x channel all.0 is
+  where
+    by_sort : (x : Device) (channel : Channel) → IsChannelOf x channel → IsInterrupt (Some x) → HasSwitch (Some channel)
+    by_sort (device.Interrupt number) (Switch enabled) of is = tt
+    by_sort (device.Interrupt number) (Bytes pending) of is = absurd of
+    by_sort (device.Interrupt number) (Values kind pending) of is = absurd of
+    by_sort (device.Interrupt number) Outward of is = absurd of
+    by_sort (device.Terminal number direction) channel of is = absurd is
+    by_sort (device.Input number kind) channel of is = absurd is
+    by_sort (device.Output number kind) channel of is = absurd is
+interrupt_switch (x ∷ devices) (channel ∷ channels) (suc d) all is = interrupt_switch devices channels d all.1 is
 
 -- a value that comes in suits the input's channel
 values_for : (devices : List Device) (channels : List Channel) (d : ℕ) (x : Cell) → AllZip IsChannelOf devices channels →
@@ -182,8 +198,8 @@ module _ (setup : Setup) (k : Kept) (lawful : IsLawful setup k) where
   task_there : (task : ℕ) → task < length setup.tasks → task < length k.core.tasks
   task_there task there = subst (λ n. task < n) (sym lawful.tasks) there
 
-  switch_there : (device : ℕ) → IsInterrupt (slice_get setup.devices device) → device < length k.core.channels
-  switch_there device is = subst (λ n. device < n) (sym channels-length) (interrupt-there setup device is)
+  has_switch : (device : ℕ) → IsInterrupt (slice_get setup.devices device) → HasSwitch (channel_of k.core device)
+  has_switch device is = interrupt_switch setup.devices k.core.channels device lawful.kinds.channels is
 
   -- a terminal that gives texts has bytes
   pub has-bytes : (device : ℕ) → IsReadable (slice_get setup.devices device) → HasBytes (channel_of k.core device)
@@ -208,8 +224,8 @@ module _ (setup : Setup) (k : Kept) (lawful : IsLawful setup k) where
   fits-names (action.Suspend task) fits = task_there task fits
   fits-names (action.Terminate task) fits = task_there task fits
   fits-names (action.Prevent task) fits = task_there task fits
-  fits-names (action.Enable device) fits = switch_there device fits
-  fits-names (action.Disable device) fits = switch_there device fits
+  fits-names (action.Enable device) fits = has_switch device fits
+  fits-names (action.Disable device) fits = has_switch device fits
   fits-names (action.Trigger device) fits = tt
   fits-names (action.Put device text) fits = tt
   fits-names (action.Get device format kinds) fits = (has-bytes device fits.gives, fits.few, fits.are)

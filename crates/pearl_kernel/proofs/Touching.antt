@@ -1,20 +1,146 @@
--- Which tasks each action touches besides its own.
-use Rattle.pearl_rules.specs.declared.action.Action.{Action}
-use Rattle.pearl_rules.specs.declared.action.Action.TheVariants as action
-use Rattle.pearl_kernel.specs.declared.changes.Changed.TheVariants.{Nothing, Counts, Device}
-use Rattle.pearl_kernel.specs.declared.standing.Touched.{Touched}
-use Rattle.pearl_kernel.specs.declared.standing.Touched.TheVariants.{Own, Other, All}
+-- What each action touches besides its own task.
+use Rattle.std.proofs.Common.{◌≡◌, ◌≢◌, ℕ, ◌<◌, List, Bool, true, Option, Some, None, length, slice_get}
+use Rattle.std.proofs.Common.{refl, sym, subst, ap, ◌∙◌}
+use Rattle.std.proofs.lemmas.Bool.{true≢false}
+use Rattle.pearl_rules.specs.declared.action.Start.{Start}
+use Rattle.pearl_rules.specs.declared.action.Repeat.{Repeat}
+use Rattle.pearl_rules.specs.declared.row.TaskRow.{TaskRow}
+use Rattle.pearl_rules.specs.Core.{Core, Switch, row_of, with_row}
+use Rattle.pearl_rules.specs.Devices.{channel_of, with_channel}
+use Rattle.pearl_rules.specs.Effect.{activated, continues, resuming}
+use Rattle.pearl_rules.specs.Plans.{on_row, with_mark}
+use Rattle.pearl_rules.specs.Runs.{kept_at}
+use Rattle.pearl_kernel.specs.declared.changes.Changed.{Changed}
+use Rattle.pearl_kernel.specs.declared.changes.Changed.TheVariants.{Nothing, Counts}
+use Rattle.pearl_kernel.specs.declared.changes.Touched.{Touched}
+use Rattle.pearl_kernel.specs.declared.changes.Touched.TheVariants.{Own, Other, All}
+use Rattle.pearl_kernel.specs.Kept.{Kept}
+use Rattle.pearl_kernel.specs.Channels.{HasSwitch}
+use Rattle.pearl_kernel.specs.Changes.{ChangesOnly, Stirs}
+use Rattle.pearl_kernel.specs.Touched.{touched_if, Leaves}
+use Rattle.pearl_kernel.proofs.Places.{get-other}
+use Rattle.pearl_kernel.proofs.OneTask as one
+use Rattle.pearl_kernel.proofs.Entries.{unchanged}
+use Rattle.pearl_kernel.proofs.Changing.{same_but, closed, switch-changes}
 
-abbrev pub touched_of : Action → Touched
-touched_of (action.Request list) = All Counts
-touched_of (action.Release list) = All Counts
-touched_of (action.Try semaphore) = All Counts
-touched_of (action.Trigger device) = All Nothing
-touched_of (action.Get device format kinds) = All (Device device)
-touched_of (action.Take device) = All (Device device)
-touched_of (action.Activate task start repeat priority) = Other task
-touched_of (action.Continue task start) = Other task
-touched_of (action.Suspend task) = Other task
-touched_of (action.Terminate task) = Other task
-touched_of (action.Prevent task) = Other task
-touched_of action = Own
+-- NO ROW AND NO OFFER CHANGES
+
+pub leaves-stirred : (own : ℕ) (k new : Kept) (changed : Option Changed) → new.offers ≡ k.offers →
+    Stirs k.core new.core changed → Leaves own k new (touched_if changed)
+leaves-stirred own k new None offers stirs = record {
+  only = stirs.1;
+  others = λ t other far. (ap (λ rows. slice_get rows t) stirs.0, ap (λ xs. kept_at xs t) offers);
+  there = tt;
+}
+leaves-stirred own k new (Some changed) offers stirs = record {
+  only = stirs;
+  others = λ t other far. absurd far;
+  there = tt;
+}
+
+pub leaves-quiet : (own : ℕ) (k : Kept) {new mid : Kept} → new ≡ mid → mid.core.tasks ≡ k.core.tasks →
+    mid.offers ≡ k.offers → mid.core.counts ≡ k.core.counts → mid.core.channels ≡ k.core.channels →
+    mid.core.formats ≡ k.core.formats → Leaves own k new Own
+leaves-quiet own k is tasks offers counts channels formats =
+    subst (λ (x : Kept). Leaves own k x Own) (sym is) (leaves-stirred own k _ None offers
+    (tasks, same_but Nothing k.core k.core _ (unchanged k.core) counts channels formats))
+
+pub leaves-counts : (own : ℕ) (k new : Kept) (counts : List ℕ) →
+    new ≡ record k { core = record k.core { counts = counts } } → Leaves own k new (All Counts)
+leaves-counts own k new counts is = subst (λ (x : Kept). Leaves own k x (All Counts)) (sym is) (record {
+  only = record { counts = λ e. absurd (true≢false e); bytes = λ d e. refl; values = λ d e. refl; formats = refl };
+  others = λ t other far. absurd far;
+  there = tt;
+})
+
+pub leaves-switch : (own : ℕ) (k new : Kept) (d : ℕ) (enabled : Bool) → HasSwitch (channel_of k.core d) →
+    new ≡ record k { core = with_channel k.core d (Switch enabled) } → Leaves own k new Own
+leaves-switch own k new d enabled switch is = subst (λ (x : Kept). Leaves own k x Own) (sym is) (record {
+  only = switch-changes k.core d enabled switch;
+  others = λ t other far. (refl, refl);
+  there = tt;
+})
+
+-- ANOTHER TASK'S ROW
+
+abbrev IsRowOf : Core → ℕ → Core → Type 0
+IsRowOf old t core = row_of core t ≡ row_of old t
+
+row_closed : (old : Core) (u t : ℕ) → t ≢ u → one.Closed (IsRowOf old t) u
+row_closed old u t other = record {
+  row = λ core change is. by_row core change is (row_of core u);
+  tell = λ core e of is. is;
+}
+  where
+    by_row : (core : Core) (change : TaskRow → TaskRow) → IsRowOf old t core → (row : Option TaskRow) →
+        IsRowOf old t (on_row row core (λ r. with_row core u (change r)))
+    by_row core change is None = is
+    by_row core change is (Some row) = get-other core.tasks u t (change row) other ∙ is
+
+-- nothing but this task's row, and what is told of the task
+abbrev Alters : ℕ → Core → Core → Type 1
+Alters u old core = (P : Core → Type 0) → one.Closed P u → P old → P core
+
+leaves_own : (own : ℕ) (k : Kept) (core : Core) → Alters own k.core core → Leaves own k (record k { core = core }) Own
+leaves_own own k core alters = record {
+  only = alters (ChangesOnly Nothing k.core) (closed Nothing k.core own) (unchanged k.core);
+  others = λ t other far. (alters (IsRowOf k.core t) (row_closed k.core own t other) refl, refl);
+  there = tt;
+}
+
+leaves_other : (own u : ℕ) (k : Kept) (core : Core) → u < length k.core.tasks → Alters u k.core core →
+    Leaves own k (record k { core = core }) (Other u)
+leaves_other own u k core there alters = record {
+  only = alters (ChangesOnly Nothing k.core) (closed Nothing k.core u) (unchanged k.core);
+  others = λ t other far. (alters (IsRowOf k.core t) (row_closed k.core u t far) refl, refl);
+  there = there;
+}
+
+module _ (own : ℕ) (k new : Kept) where
+  pub leaves-resumed : (start : Start) → new ≡ record k { core = resuming k.core own start } → Leaves own k new Own
+  leaves-resumed start is = subst (λ (x : Kept). Leaves own k x Own) (sym is)
+      (leaves_own own k (resuming k.core own start) (λ P p. one.resuming-kept P own p k.core start))
+
+  module _ (u : ℕ) (there : u < length k.core.tasks) where
+    of_other : (core : Core) → Alters u k.core core → new ≡ record k { core = core } → Leaves own k new (Other u)
+    of_other core alters is = subst (λ (x : Kept). Leaves own k x (Other u)) (sym is)
+        (leaves_other own u k core there alters)
+
+    pub leaves-activated : (start : Start) (repeat : Repeat) (priority : ℕ) →
+        new ≡ record k { core = activated k.core u start repeat priority } → Leaves own k new (Other u)
+    leaves-activated start repeat priority is = of_other (activated k.core u start repeat priority)
+        (λ P p. one.activated-kept P u p k.core start repeat priority) is
+
+    pub leaves-continued : (start : Start) → new ≡ record k { core = continues k.core u start } →
+        Leaves own k new (Other u)
+    leaves-continued start is =
+        of_other (continues k.core u start) (λ P p. one.continues-kept P u p k.core start) is
+
+    pub leaves-suspended : new ≡ record k { core = with_mark k.core u true } → Leaves own k new (Other u)
+    leaves-suspended is = of_other (with_mark k.core u true) (λ P p. one.mark-kept P u p k.core true) is
+
+    pub leaves-row : (row : TaskRow) → new ≡ record k { core = with_row k.core u row } → Leaves own k new (Other u)
+    leaves-row row is = subst (λ (x : Kept). Leaves own k x (Other u)) (sym is) (record {
+      only = same_but Nothing k.core k.core (with_row k.core u row) (unchanged k.core) refl refl refl;
+      others = λ t other far. (get-other k.core.tasks u t row far, refl);
+      there = there;
+    })
+
+-- AN ACTION
+
+-- who acted last was noted before
+pub leaves-last : (own : ℕ) (k mid new : Kept) (last : Option ℕ) (touched : Touched) →
+    mid ≡ record k { core = record k.core { last = last } } → Leaves own mid new touched → Leaves own k new touched
+leaves-last own k mid new last touched is leaves =
+    let of : Leaves own (record k { core = record k.core { last = last } }) new touched =
+    subst (λ (x : Kept). Leaves own x new touched) is leaves in
+    record {
+      only = record {
+        counts = of.only.counts;
+        bytes = of.only.bytes;
+        values = of.only.values;
+        formats = of.only.formats;
+      };
+      others = of.others;
+      there = of.there;
+    }

@@ -1,6 +1,6 @@
 -- Channels of which one is changed.
 use Rattle.std.proofs.Common.{◌≡◌, ℕ, zero, suc, ◌<◌, List, [], ◌∷◌, ◌++◌, Bool, true, false, Option, Some, None, Result, Ok, Err}
-use Rattle.std.proofs.Common.{length, nat_lt, slice_get, slice_set, slice_index_or, refl, sym, ap, ◌∙◌, arith, if◌then◌else◌}
+use Rattle.std.proofs.Common.{drop, length, nat_lt, slice_get, slice_set, slice_index_or, refl, sym, ap, ◌∙◌, arith, if◌then◌else◌}
 use Rattle.std.proofs.lemmas.Option.{same_Some, slice_get_within}
 use Rattle.pearl_value.specs.declared.cell.Cell.{Cell}
 use Rattle.pearl_value.specs.declared.kind.Kind.{Kind}
@@ -9,8 +9,8 @@ use Rattle.pearl_value.specs.Conversions.{converted}
 use Rattle.pearl_rules.specs.declared.event.Event.TheVariants as event
 use Rattle.pearl_rules.specs.Core.{Core, Channel, Switch, Bytes, Values, Outward, note}
 use Rattle.pearl_rules.specs.Devices.{channel_of, with_channel, bytes_in, bytes_at, values_in, values_at, input_room, joined}
-use Rattle.pearl_rules.specs.Devices.{with_value_by, with_value, without_value_by, without_value}
-use Rattle.pearl_kernel.specs.Channels.{HasBytes, HasValuesFor, behind, taken_in, taken_in_of, without_oldest}
+use Rattle.pearl_rules.specs.Devices.{without_bytes, with_value_by, with_value, without_value_by, without_value}
+use Rattle.pearl_kernel.specs.Channels.{HasSwitch, HasBytes, HasValuesFor, behind, taken_in, taken_in_of, without_oldest}
 use Rattle.pearl_kernel.specs.Kept.{Kept}
 
 -- a place that is written with what stands there
@@ -32,6 +32,14 @@ bytes-there core device is = by_channel (channel_of core device) refl is
     by_channel None e is = absurd is
     by_channel (Some channel) e is = slice_get_within core.channels device channel e
 
+pub switch-there : (core : Core) (device : ℕ) → HasSwitch (channel_of core device) → device < length core.channels
+switch-there core device is = by_channel (channel_of core device) refl is
+  where
+    by_channel : (channel : Option Channel) → channel_of core device ≡ channel → HasSwitch channel →
+        device < length core.channels
+    by_channel None e is = absurd is
+    by_channel (Some channel) e is = slice_get_within core.channels device channel e
+
 pub values-there : (core : Core) (device : ℕ) (x : Cell) → HasValuesFor x (channel_of core device) →
     device < length core.channels
 values-there core device x is = by_channel (channel_of core device) refl is
@@ -48,6 +56,19 @@ module _ (k : Kept) (device : ℕ) where
   put_same : (old : Channel) → channel_of k.core device ≡ Some old → put old ≡ k
   put_same old at = ap (λ channels. record k { core = record k.core { channels = channels } })
       (set_same k.core.channels device old at)
+
+  -- no byte is used up
+  pub none-used : HasBytes (channel_of k.core device) → k ≡ record k { core = without_bytes k.core device 0 }
+  none-used is = by_channel (channel_of k.core device) refl is
+    where
+      by_channel : (channel : Option Channel) → channel_of k.core device ≡ channel → HasBytes channel →
+          k ≡ put (Bytes (drop 0 (bytes_at k.core device)))
+      by_channel (Some (Bytes pending)) at is =
+          sym (ap (λ c. put (Bytes (drop 0 (bytes_in c)))) at ∙ put_same (Bytes pending) at)
+      by_channel None at is = absurd is
+      by_channel (Some (Switch enabled)) at is = absurd is
+      by_channel (Some (Values kind pending)) at is = absurd is
+      by_channel (Some Outward) at is = absurd is
 
   pub added : (text : List ℕ) (old new : Channel) (room : Bool) → channel_of k.core device ≡ Some old →
       new ≡ (if room then Bytes (bytes_in (Some old) ++ text) else old) →

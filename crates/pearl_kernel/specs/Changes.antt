@@ -1,5 +1,6 @@
 -- What of all that decides whether an offer can be done may have changed, and whose offers are asked again after that.
-use Rattle.std.specs.Prelude.{◌≡◌, ℕ, ◌<◌, Bool, true, false, Option, Some, None, length, nat_eq, slice_get, if◌then◌else◌}
+use Rattle.std.specs.Prelude.{◌≡◌, ◌≢◌, ℕ, ◌<◌, Bool, true, false, Option, Some, None, length, nat_eq}
+use Rattle.std.specs.Prelude.{slice_get, if◌then◌else◌}
 use Rattle.pearl_rules.specs.declared.action.Action.{Action}
 use Rattle.pearl_rules.specs.declared.action.Action.TheVariants.{Request, Get, Take}
 use Rattle.pearl_rules.specs.Core.{Core}
@@ -8,7 +9,7 @@ use Rattle.pearl_rules.specs.Pick.{guard}
 use Rattle.pearl_kernel.specs.declared.changes.Changed.{Changed}
 use Rattle.pearl_kernel.specs.declared.changes.Changed.TheVariants.{Nothing, Counts, Device}
 use Rattle.pearl_kernel.specs.Kept.{Kept, offered}
-use Rattle.pearl_kernel.specs.Eligible.{Stand, able_at, entry_if}
+use Rattle.pearl_kernel.specs.Eligible.{Stand, able_at, entry_if, IsSameAt}
 
 abbrev pub is_counts : Changed → Bool
 is_counts Counts = true
@@ -50,6 +51,13 @@ renewed changed k t before = renewed_offer changed k.core (offered k t) before
 pub record IsRenewedAt (k : Kept) (changed : Changed) (old new : Stand) (t : ℕ) : Type 0 where
   pub able : slice_get new.able t ≡ Some (renewed changed k t (able_at old t))
   pub set : slice_get new.set t ≡ Some (entry_if k t (renewed changed k t (able_at old t)))
+
+-- what is kept of one task is renewed, and of the others it is as before
+pub record Renews (k : Kept) (changed : Changed) (u : ℕ) (old new : Stand) : Type 0 where
+  pub size : length new.able ≡ length old.able
+  pub set_size : length new.set ≡ length old.set
+  pub here : IsRenewedAt k changed old new u
+  pub others : (t : ℕ) → t ≢ u → IsSameAt old new t
 
 -- what is kept of each task is renewed
 pub record AreRenewed (k : Kept) (changed : Changed) (old new : Stand) : Type 0 where

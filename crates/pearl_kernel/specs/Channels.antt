@@ -34,6 +34,11 @@ abbrev pub HasBytes : Option Channel → Type 0
 HasBytes (Some (core.Bytes pending)) = Unit {0}
 HasBytes other = ⊥
 
+-- the channel is an interrupt's
+abbrev pub HasSwitch : Option Channel → Type 0
+HasSwitch (Some (core.Switch enabled)) = Unit {0}
+HasSwitch other = ⊥
+
 -- a value that suits a kind
 pub record IsFor (x : Cell) (kind : Kind) : Type 0 where
   pub is_kind : IsKind kind

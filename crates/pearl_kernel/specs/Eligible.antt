@@ -42,6 +42,11 @@ able_at s t = is_told (slice_get s.able t)
 abbrev pub noted : Kept → ℕ → Bool → Stand → Stand
 noted k t able s = record { able = slice_set s.able t able; set = slice_set s.set t (entry_if k t able) }
 
+-- what is kept of a task is as before
+pub record IsSameAt (old new : Stand) (t : ℕ) : Type 0 where
+  pub able : slice_get new.able t ≡ slice_get old.able t
+  pub set : slice_get new.set t ≡ slice_get old.set t
+
 -- what is kept is so
 pub record IsStandOf (k : Kept) (s : Stand) : Type 0 where
   pub size : length s.able ≡ length k.core.tasks

@@ -8,7 +8,7 @@ use Rattle.pearl_rules.specs.Core.{Core}
 use Rattle.pearl_rules.specs.Devices.{channel_of}
 use Rattle.pearl_sema.specs.Waiting.{AreThere}
 use Rattle.pearl_kernel.specs.Kept.{Kept, offered}
-use Rattle.pearl_kernel.specs.Channels.{HasBytes}
+use Rattle.pearl_kernel.specs.Channels.{HasSwitch, HasBytes}
 use Rattle.pearl_kernel.specs.Timing.{IsTimelyStart, IsTimelyRepeat}
 
 abbrev pub Names : Core → Action → Type 0
@@ -24,8 +24,8 @@ Names core (action.Resume start) = IsTimelyStart start
 Names core (action.Suspend task) = task < length core.tasks
 Names core (action.Terminate task) = task < length core.tasks
 Names core (action.Prevent task) = task < length core.tasks
-Names core (action.Enable device) = device < length core.channels
-Names core (action.Disable device) = device < length core.channels
+Names core (action.Enable device) = HasSwitch (channel_of core device)
+Names core (action.Disable device) = HasSwitch (channel_of core device)
 Names core (action.Get device format kinds) =
     HasBytes (channel_of core device) × (length kinds.items ≤ 64) × AllByRecursion IsKind kinds.items
 Names core (action.Take device) = device < length core.channels

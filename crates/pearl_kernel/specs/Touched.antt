@@ -1,16 +1,13 @@
 -- Which tasks besides its own an action touches: they may be able to act where they were not, or the other way round.
-use Rattle.std.specs.Prelude.{◌≡◌, ◌≢◌, ℕ, ◌<◌, ◌⊎◌, length, slice_get}
-use Rattle.pearl_rules.specs.declared.action.Action.{Action}
-use Rattle.pearl_rules.specs.declared.setup.Setup.{Setup}
+use Rattle.std.specs.Prelude.{◌≡◌, ◌≢◌, ℕ, ◌<◌, ◌⊎◌, Option, Some, None, length}
 use Rattle.pearl_rules.specs.Core.{Core, row_of}
-use Rattle.pearl_rules.specs.Slots.{Fits}
 use Rattle.pearl_kernel.specs.declared.changes.Changed.{Changed}
 use Rattle.pearl_kernel.specs.declared.changes.Changed.TheVariants.{Nothing}
-use Rattle.pearl_kernel.specs.declared.standing.Touched.{Touched}
-use Rattle.pearl_kernel.specs.declared.standing.Touched.TheVariants.{Own, Other, All}
-use Rattle.pearl_kernel.specs.Kept.{Kept, IsLawful, offered, done}
+use Rattle.pearl_kernel.specs.declared.changes.Touched.{Touched}
+use Rattle.pearl_kernel.specs.declared.changes.Touched.TheVariants.{Own, Other, All}
+use Rattle.pearl_kernel.specs.Kept.{Kept, offered}
 use Rattle.pearl_kernel.specs.Changes.{ChangesOnly, IsRenewedAt}
-use Rattle.pearl_kernel.specs.Eligible.{Stand}
+use Rattle.pearl_kernel.specs.Eligible.{Stand, IsSameAt}
 
 abbrev pub IsUntouched : Touched → ℕ → Type 0
 IsUntouched Own t = Unit {0}
@@ -23,12 +20,10 @@ changed_by Own = Nothing
 changed_by (Other task) = Nothing
 changed_by (All changed) = changed
 
--- an action changes no more than this of all that offers wait for, and another task that isn't touched stands as before
-pub record Leaves (action : Action) (touched : Touched) : Type 0 where
-  pub only : (setup : Setup) (k : Kept) (own : ℕ) → IsLawful setup k → Fits setup action →
-      ChangesOnly (changed_by touched) k.core (done k own action).core
-  pub others : (k : Kept) (own t : ℕ) → t ≢ own → IsUntouched touched t →
-      (row_of (done k own action).core t ≡ row_of k.core t) × (offered (done k own action) t ≡ offered k t)
+-- what an action touches that left all rows and offers as they were
+abbrev pub touched_if : Option Changed → Touched
+touched_if None = Own
+touched_if (Some changed) = All changed
 
 -- the task that is touched is there
 abbrev pub IsThere : Core → Touched → Type 0
@@ -36,10 +31,13 @@ IsThere core Own = Unit {0}
 IsThere core (Other task) = task < length core.tasks
 IsThere core (All changed) = Unit {0}
 
--- what is kept of a task is as before
-pub record IsSameAt (old new : Stand) (t : ℕ) : Type 0 where
-  pub able : slice_get new.able t ≡ slice_get old.able t
-  pub set : slice_get new.set t ≡ slice_get old.set t
+-- An action of the task `own` changed no more than this of all that offers wait for, and another task that it doesn't
+-- touch stands as before.
+pub record Leaves (own : ℕ) (old new : Kept) (touched : Touched) : Type 0 where
+  pub only : ChangesOnly (changed_by touched) old.core new.core
+  pub others : (t : ℕ) → t ≢ own → IsUntouched touched t →
+      (row_of new.core t ≡ row_of old.core t) × (offered new t ≡ offered old t)
+  pub there : IsThere old.core touched
 
 -- what is kept of each task is renewed; of a task that isn't touched it is as before
 pub record IsRenewed (k : Kept) (own : ℕ) (touched : Touched) (old new : Stand) : Type 0 where

@@ -2,6 +2,7 @@
 use Rattle.std.specs.Prelude.{◌≡◌, ℕ, ◌<◌, ◌≤◌, [], length}
 use Rattle.pearl_rules.specs.declared.setup.Setup.{Setup}
 use Rattle.pearl_kernel.specs.Kept.{Kept, IsLawful}
+use Rattle.pearl_kernel.specs.Names.{NamesAll}
 use Rattle.pearl_kernel.specs.Eligible.{Stand, IsStandOf}
 use Rattle.pearl_kernel.specs.Timing.{IsTimely}
 
@@ -10,6 +11,12 @@ pub record IsWhole (k : Kept) (s : Stand) : Type 0 where
   pub few : length k.core.tasks ≤ 200
   pub lawful : (setup : Setup) × IsLawful setup k
   pub stand : IsStandOf k s
+
+-- it is kept of each task, and there are at most 200, whose offers name what is there
+pub record IsOfTasks (k : Kept) (s : Stand) : Type 0 where
+  pub few : length k.core.tasks ≤ 200
+  pub size : length s.able ≡ length k.core.tasks
+  pub names : NamesAll k
 
 -- the task is there, each task has its place for an offer, no moment is too far, and there is room for the events of all tasks
 pub record HasRoom (k : Kept) (t : ℕ) : Type 0 where

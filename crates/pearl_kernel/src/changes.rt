@@ -1,7 +1,8 @@
-// What of all that decides whether an offer can be done may have changed.
+// What of all that decides whether an offer can be done may have changed, and which tasks that touches.
 
 ghost use Rattle.std.specs.Prelude.{◌≡◌};
 ghost use Rattle.pearl_kernel.specs.Changes.{looks_at, is_counts, is_device};
+ghost use Rattle.pearl_kernel.specs.Touched.{touched_if};
 
 use pearl_rules::action::Action;
 
@@ -14,14 +15,33 @@ pub enum Changed {
     Device(u32),
 }
 
+/// Which tasks besides its own an action touches: they may be able to act where they were not, or the other way round.
+#[derive(Clone, Copy)]
+pub enum Touched {
+    Own,
+    Other(u32),
+    // All tasks, and at most this changed of what their offers wait for.
+    All(Changed),
+}
+
+/// The tasks besides its own that an action touches, where it left their rows as they were and this may have changed of
+/// all that offers wait for.
+pub fn touched_if(changed: Option<Changed>) -> Touched
+    ensures { result ≡ touched_if changed }
+{
+    match changed {
+        None => Touched::Own,
+        Some(changed) => Touched::All(changed),
+    }
+}
+
 /// Whether an action waits for what changed.
 pub fn looks_at(changed: Changed, action: &Action) -> bool
     ensures { result ≡ looks_at changed action.now }
 {
     match action {
         Action::Request(_) => is_counts(changed),
-        Action::Get { device, .. } => is_device(changed, *device),
-        Action::Take(device) => is_device(changed, *device),
+        Action::Get { device, .. } | Action::Take(device) => is_device(changed, *device),
         _ => false,
     }
 }

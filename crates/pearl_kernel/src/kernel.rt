@@ -19,7 +19,8 @@ ghost use Rattle.pearl_kernel.specs.Eligible.{possible, entry};
 ghost use Rattle.pearl_kernel.specs.Timing.{timetable, passed, IsQuiet};
 
 use crate::changes::Changed;
-use crate::standing::{Standing, touched_by};
+use crate::perform::Done;
+use crate::standing::Standing;
 use crate::state::State;
 use pearl_rules::action::{Action, Answer};
 use pearl_rules::entry::Entry;
@@ -108,8 +109,7 @@ impl Kernel {
         let Some(action) = self.state.take_offer(task) else {
             return Acted::Idle;
         };
-        let touched = touched_by(&action);
-        let acted = self.state.act(task, action);
+        let Done { acted, touched } = self.state.act(task, action);
         self.standing.renew(&self.state, task, touched);
         acted
     }

@@ -2,20 +2,26 @@
 
 ghost use Rattle.std.specs.List.{AllByRecursion};
 ghost use Rattle.std.specs.Prelude.{◌≡◌, ◌<◌, ◌≤◌, [], ◌∷◌, IsTrue, true, length, nat_lt};
-ghost use Rattle.pearl_rules.specs.Counts.{all_below_most, count_at};
+ghost use Rattle.pearl_rules.specs.Counts.{all_below_most, all_free, count_at, lowered};
 ghost use Rattle.pearl_rules.specs.Effect.{effect, effect_of, ending, activated, priority_or_declared, is_at_once};
 ghost use Rattle.pearl_rules.specs.Effect.{continues, resuming, prevented, stopping, releasing, trying, getting, taking};
-ghost use Rattle.pearl_rules.specs.Devices.{channel_of, items_of, bytes_at, values_at};
+ghost use Rattle.pearl_rules.specs.Devices.{channel_of, interrupted, items_of, bytes_at, values_at, without_bytes};
+ghost use Rattle.pearl_rules.specs.Plans.{with_mark};
 ghost use Rattle.pearl_rules.specs.Pick.{guard, is_complete, is_some_value};
 ghost use Rattle.pearl_rules.specs.Scan.{scan};
 ghost use Rattle.pearl_sema.specs.Waiting.{AreThere};
+ghost use Rattle.pearl_rules.specs.declared.action.Answer.TheVariants.{Nothing, One};
+ghost use Rattle.pearl_kernel.specs.declared.kernel.Acted.TheVariants.{Went};
 ghost use Rattle.pearl_kernel.specs.Kept.{after, Replied};
+ghost use Rattle.pearl_kernel.specs.Changes.{Stirs};
+ghost use Rattle.pearl_kernel.specs.Touched.{Leaves};
 ghost use Rattle.pearl_value.specs.Kinds.{IsKind};
 ghost use Rattle.pearl_kernel.specs.Channels.{HasBytes};
 ghost use Rattle.pearl_kernel.specs.Names.{Names};
 ghost use Rattle.pearl_kernel.specs.Timing.{IsTimely, IsTimelyStart, IsTimelyRepeat};
 ghost use Rattle.pearl_kernel.specs.Whole.{HasRoom};
 
+use crate::changes::{Changed, Touched, touched_if};
 use crate::kernel::Acted;
 use crate::state::State;
 use arrayvec::ArrayVec;
@@ -27,37 +33,44 @@ use pearl_value::cell::Cell;
 use pearl_value::kind::Kind;
 use pearl_value::trap::Trap;
 
+/// What an action did: what became of its task, and which tasks besides it are touched.
+#[derive(Drop)]
+pub struct Done {
+    pub acted: Acted,
+    pub touched: Touched,
+}
+
 impl State {
     /// Does an action of the task `own`, which acted last from now on.
     #[tactic(auto, unfolding(pearl_rules::specs::Effect::effect))]
-    pub fn act(&mut self, own: u32, action: Action) -> Acted
+    pub fn act(&mut self, own: u32, action: Action) -> Done
         requires room { HasRoom self.old own }
         requires names { Names self.old.core action }
         requires able { guard self.old.core action ≡ true }
         ensures state { self.new ≡ after self.old (effect self.old.core own action) }
-        ensures reply { Replied own (effect self.old.core own action).reply result }
+        ensures reply { Replied own (effect self.old.core own action).reply result.acted }
+        ensures leaves { Leaves own self.old self.new result.touched }
     {
         self.set_last(own);
         self.perform(own, action)
     }
 
-    // One arm for each row of the actions.
-    fn perform(&mut self, own: u32, action: Action) -> Acted
+    // One arm for each row of the actions. Those that don't return here touch no other task, and their task hears
+    // nothing.
+    fn perform(&mut self, own: u32, action: Action) -> Done
         requires room { HasRoom self.old own }
         requires names { Names self.old.core action }
         requires able { guard self.old.core action ≡ true }
         ensures state { self.new ≡ after self.old (effect_of self.old.core own action) }
-        ensures reply { Replied own (effect_of self.old.core own action).reply result }
+        ensures reply { Replied own (effect_of self.old.core own action).reply result.acted }
+        ensures leaves { Leaves own self.old self.new result.touched }
     {
         match action {
-            Action::Read(slot) => return Acted::Went(own, Answer::One(self.slot(slot))),
+            Action::Read(slot) => return hears(own, self.slot(slot), Touched::Own),
             Action::Write(slot, value) => self.set_slot(slot, value),
             Action::Turn | Action::Enter => {}
-            Action::Now => {
-                let time = self.time_at(self.now());
-                return Acted::Went(own, Answer::One(Cell::Clock(time)));
-            }
-            Action::Request(list) => self.lower(&list),
+            Action::Now => return hears(own, Cell::Clock(self.time_at(self.now())), Touched::Own),
+            Action::Request(list) => return self.request(own, &list),
             Action::Release(list) => return self.release(own, &list),
             Action::Try(semaphore) => return self.attempt(own, semaphore),
             Action::Activate {
@@ -65,17 +78,15 @@ impl State {
                 start,
                 repeat,
                 priority,
-            } => self.activate(task, start, repeat, priority),
-            Action::Continue { task, start } => self.continue_task(task, start),
+            } => return self.activate(own, task, start, repeat, priority),
+            Action::Continue { task, start } => return self.continue_task(own, task, start),
             Action::Resume(start) => self.resume(own, start),
-            Action::Suspend(task) => self.mark(task, true),
+            Action::Suspend(task) => return self.suspend(own, task),
             Action::Terminate(task) => return self.stop(own, task),
-            Action::Prevent(task) => self.prevent(task),
+            Action::Prevent(task) => return self.prevent(own, task),
             Action::Enable(device) => self.set_switch(device, true),
             Action::Disable(device) => self.set_switch(device, false),
-            Action::Trigger(device) => {
-                self.interrupted(device);
-            }
+            Action::Trigger(device) => return self.trigger(own, device),
             Action::Put { device, text } => self.note(Event::Out { device, text }),
             Action::End => return self.end(own, Event::End(own)),
             Action::Trap(trap) => return self.end(own, Event::Trap { task: own, trap }),
@@ -87,17 +98,24 @@ impl State {
             Action::Take(device) => return self.take(own, device),
             Action::Send(device, value) => self.note(Event::Send { device, value }),
         }
-        Acted::Went(own, Answer::Nothing)
+        Done {
+            acted: Acted::Went(own, Answer::Nothing),
+            touched: Touched::Own,
+        }
     }
 
     // The task ends, and this event tells it.
-    fn end(&mut self, own: u32, event: Event) -> Acted
+    fn end(&mut self, own: u32, event: Event) -> Done
         requires { HasRoom self.old own }
         ensures state { self.new ≡ after self.old (ending self.old.core own event) }
-        ensures reply { Replied own (ending self.old.core own event).reply result }
+        ensures reply { Replied own (ending self.old.core own event).reply result.acted }
+        ensures leaves { Leaves own self.old self.new result.touched }
     {
         self.finish(own, event);
-        Acted::Ended(own)
+        Done {
+            acted: Acted::Ended(own),
+            touched: Touched::Own,
+        }
     }
 
     // A task becomes dormant, and its offer and the plan by which it goes on are gone.
@@ -114,18 +132,39 @@ impl State {
     }
 
     // A start of a task, now or by a plan, with this priority or with the declared one.
-    fn activate(&mut self, task: u32, start: Start, repeat: Repeat, priority: Option<u8>)
+    fn activate(
+        &mut self,
+        own: u32,
+        task: u32,
+        start: Start,
+        repeat: Repeat,
+        priority: Option<u8>,
+    ) -> Done
         requires task { task < length self.old.core.tasks }
         requires room { self.old.core.told ≡ [] }
         requires timely { IsTimely self.old.core }
         requires plan { IsTimelyStart start × IsTimelyRepeat repeat }
-        ensures { let core = self.old.core in
+        ensures state { let core = self.old.core in
             self.new ≡ record self.old { core = activated core task start repeat (priority_or_declared core task priority) } }
+        ensures reply { result.acted ≡ Went own Nothing }
+        ensures leaves { Leaves own self.old self.new result.touched }
     {
         let priority = match priority {
             None => self.row(task).declared,
             Some(priority) => priority,
         };
+        self.begin(task, start, repeat, priority);
+        goes_on(own, Touched::Other(task))
+    }
+
+    // A start of a task with this priority, now or by a plan.
+    fn begin(&mut self, task: u32, start: Start, repeat: Repeat, priority: u8)
+        requires task { task < length self.old.core.tasks }
+        requires room { self.old.core.told ≡ [] }
+        requires timely { IsTimely self.old.core }
+        requires plan { IsTimelyStart start × IsTimelyRepeat repeat }
+        ensures { self.new ≡ record self.old { core = activated self.old.core task start repeat priority } }
+    {
         if is_at_once(start, repeat) {
             self.start(task, priority);
         } else {
@@ -135,7 +174,19 @@ impl State {
     }
 
     // A suspended task goes on, now or by a plan.
-    fn continue_task(&mut self, task: u32, start: Start)
+    fn continue_task(&mut self, own: u32, task: u32, start: Start) -> Done
+        requires task { task < length self.old.core.tasks }
+        requires timely { IsTimely self.old.core }
+        requires plan { IsTimelyStart start }
+        ensures state { self.new ≡ record self.old { core = continues self.old.core task start } }
+        ensures reply { result.acted ≡ Went own Nothing }
+        ensures leaves { Leaves own self.old self.new result.touched }
+    {
+        self.go_on_from(task, start);
+        goes_on(own, Touched::Other(task))
+    }
+
+    fn go_on_from(&mut self, task: u32, start: Start)
         requires task { task < length self.old.core.tasks }
         requires timely { IsTimely self.old.core }
         requires plan { IsTimelyStart start }
@@ -161,70 +212,119 @@ impl State {
         self.plan_continuation(own, plan);
     }
 
-    // Both plans of a task are gone.
-    fn prevent(&mut self, task: u32)
+    // A task is suspended.
+    fn suspend(&mut self, own: u32, task: u32) -> Done
         requires { task < length self.old.core.tasks }
-        ensures { self.new ≡ record self.old { core = prevented self.old.core task } }
+        ensures state { self.new ≡ record self.old { core = with_mark self.old.core task true } }
+        ensures reply { result.acted ≡ Went own Nothing }
+        ensures leaves { Leaves own self.old self.new result.touched }
+    {
+        self.mark(task, true);
+        goes_on(own, Touched::Other(task))
+    }
+
+    // Both plans of a task are gone.
+    fn prevent(&mut self, own: u32, task: u32) -> Done
+        requires { task < length self.old.core.tasks }
+        ensures state { self.new ≡ record self.old { core = prevented self.old.core task } }
+        ensures reply { result.acted ≡ Went own Nothing }
+        ensures leaves { Leaves own self.old self.new result.touched }
     {
         let mut row = self.row(task);
         row.continuation = None;
         row.activation = None;
         self.set_row(task, row);
+        goes_on(own, Touched::Other(task))
     }
 
     // An end from outside.
-    fn stop(&mut self, own: u32, task: u32) -> Acted
+    fn stop(&mut self, own: u32, task: u32) -> Done
         requires { HasRoom self.old task }
         ensures state { self.new ≡ after self.old (stopping self.old.core own task) }
-        ensures reply { Replied own (stopping self.old.core own task).reply result }
+        ensures reply { Replied own (stopping self.old.core own task).reply result.acted }
+        ensures leaves { Leaves own self.old self.new result.touched }
     {
         match self.mode(task) {
             Mode::Dormant => {}
             Mode::Active { .. } => self.finish(task, Event::Stop(task)),
         }
-        if task == own {
-            Acted::Ended(own)
-        } else {
-            Acted::Went(own, Answer::Nothing)
+        Done {
+            acted: if task == own {
+                Acted::Ended(own)
+            } else {
+                Acted::Went(own, Answer::Nothing)
+            },
+            touched: Touched::Other(task),
         }
     }
 
+    // Each of these counts is lower by 1.
+    fn request(&mut self, own: u32, list: &ArrayVec<u16, 16>) -> Done
+        requires list { AreThere self.old.core.counts list.now.items }
+        requires free { IsTrue (all_free self.old.core.counts list.now.items) }
+        ensures state { let core = self.old.core in
+            self.new ≡ record self.old { core = record core { counts = lowered core.counts list.now.items } } }
+        ensures reply { result.acted ≡ Went own Nothing }
+        ensures leaves { Leaves own self.old self.new result.touched }
+    {
+        self.lower(list);
+        goes_on(own, Touched::All(Changed::Counts))
+    }
+
     // Each of these counts is higher by 1, or where one can't be raised none is, and the task is broken off.
-    fn release(&mut self, own: u32, list: &ArrayVec<u16, 16>) -> Acted
+    fn release(&mut self, own: u32, list: &ArrayVec<u16, 16>) -> Done
         requires room { HasRoom self.old own }
         requires list { AreThere self.old.core.counts list.now.items }
         ensures state { let can_raise = all_below_most self.old.core.counts list.now.items in
             self.new ≡ after self.old (releasing self.old.core own list.now.items can_raise) }
         ensures reply { let can_raise = all_below_most self.old.core.counts list.now.items in
-            Replied own (releasing self.old.core own list.now.items can_raise).reply result }
+            Replied own (releasing self.old.core own list.now.items can_raise).reply result.acted }
+        ensures leaves { Leaves own self.old self.new result.touched }
     {
         if self.raise(list) {
-            return Acted::Went(own, Answer::Nothing);
+            return goes_on(own, Touched::All(Changed::Counts));
         }
         let trap = Trap::SemaLimit;
         self.end(own, Event::Trap { task: own, trap })
     }
 
     // A semaphore's count is lower by 1 where it is above 0, and the answer tells whether it was.
-    fn attempt(&mut self, own: u32, semaphore: u16) -> Acted
+    fn attempt(&mut self, own: u32, semaphore: u16) -> Done
         requires { semaphore < length self.old.core.counts }
         ensures state { let free = nat_lt 0 (count_at self.old.core.counts semaphore) in
             self.new ≡ after self.old (trying self.old.core semaphore free) }
         ensures reply { let free = nat_lt 0 (count_at self.old.core.counts semaphore) in
-            Replied own (trying self.old.core semaphore free).reply result }
+            Replied own (trying self.old.core semaphore free).reply result.acted }
+        ensures leaves { Leaves own self.old self.new result.touched }
     {
         let mut list = ArrayVec::new();
         list.push(semaphore);
-        let free = self.is_free(&list);
-        if free {
-            self.lower(&list);
+        if !self.is_free(&list) {
+            return hears(own, Cell::Bits { len: 1, value: 0 }, Touched::Own);
         }
-        let value = u64::from(free);
-        Acted::Went(own, Answer::One(Cell::Bits { len: 1, value }))
+        self.lower(&list);
+        hears(
+            own,
+            Cell::Bits { len: 1, value: 1 },
+            Touched::All(Changed::Counts),
+        )
+    }
+
+    // An interrupt occurs; a masked one touches no task.
+    fn trigger(&mut self, own: u32, device: u32) -> Done
+        requires few { length self.old.core.tasks ≤ 200 }
+        requires told { self.old.core.told ≡ [] }
+        requires timely { IsTimely self.old.core }
+        ensures state { self.new ≡ record self.old { core = interrupted self.old.core device } }
+        ensures reply { result.acted ≡ Went own Nothing }
+        ensures leaves { Leaves own self.old self.new result.touched }
+    {
+        let changed = self.interrupted(device);
+        goes_on(own, touched_if(changed))
     }
 
     // The values that a terminal's bytes give, or the task is broken off.
-    fn get(&mut self, own: u32, device: u32, format: u32, kinds: &[Kind]) -> Acted
+    fn get(&mut self, own: u32, device: u32, format: u32, kinds: &[Kind]) -> Done
         requires room { HasRoom self.old own }
         requires terminal { HasBytes (channel_of self.old.core device) }
         requires few { length kinds.now ≤ 64 }
@@ -233,33 +333,76 @@ impl State {
         ensures state { self.new ≡ after self.old (getting self.old.core own device
             (scan (items_of self.old.core format) kinds.now (bytes_at self.old.core device))) }
         ensures reply { Replied own (getting self.old.core own device
-            (scan (items_of self.old.core format) kinds.now (bytes_at self.old.core device))).reply result }
+            (scan (items_of self.old.core format) kinds.now (bytes_at self.old.core device))).reply result.acted }
+        ensures leaves { Leaves own self.old self.new result.touched }
     {
         match self.scanned(device, format, kinds) {
             Scanned::Short => unreachable!(),
             Scanned::Bad(used) => {
-                self.drop_bytes(device, used);
+                let changed = self.use_up(device, used);
                 let trap = Trap::Format;
-                self.end(own, Event::Trap { task: own, trap })
+                self.finish(own, Event::Trap { task: own, trap });
+                Done {
+                    acted: Acted::Ended(own),
+                    touched: touched_if(changed),
+                }
             }
             Scanned::Got(used, values) => {
-                self.drop_bytes(device, used);
-                Acted::Went(own, Answer::Many(values))
+                let changed = self.use_up(device, used);
+                Done {
+                    acted: Acted::Went(own, Answer::Many(values)),
+                    touched: touched_if(changed),
+                }
             }
         }
     }
 
+    // The oldest bytes of a terminal, so many of them, are gone. The answer tells what may have changed of all that
+    // offers wait for.
+    fn use_up(&mut self, device: u32, used: usize) -> Option<Changed>
+        requires { HasBytes (channel_of self.old.core device) }
+        ensures used { self.new ≡ record self.old { core = without_bytes self.old.core device used } }
+        ensures stirs { Stirs self.old.core self.new.core result }
+    {
+        if used == 0 {
+            return None;
+        }
+        self.drop_bytes(device, used);
+        Some(Changed::Device(device))
+    }
+
     // The oldest value of an input.
-    fn take(&mut self, own: u32, device: u32) -> Acted
+    fn take(&mut self, own: u32, device: u32) -> Done
         requires there { device < length self.old.core.channels }
         requires able { is_some_value (values_at self.old.core device) ≡ true }
         ensures state { self.new ≡ after self.old (taking self.old.core own device (values_at self.old.core device)) }
-        ensures reply { Replied own (taking self.old.core own device (values_at self.old.core device)).reply result }
+        ensures reply { Replied own (taking self.old.core own device (values_at self.old.core device)).reply result.acted }
+        ensures leaves { Leaves own self.old self.new result.touched }
     {
         match self.next_value(device) {
             None => unreachable!(),
-            Some(value) => Acted::Went(own, Answer::One(value)),
+            Some(value) => hears(own, value, Touched::All(Changed::Device(device))),
         }
+    }
+}
+
+// The task goes on and hears nothing.
+fn goes_on(own: u32, touched: Touched) -> Done
+    ensures { result ≡ record { acted = Went own Nothing; touched = touched } }
+{
+    Done {
+        acted: Acted::Went(own, Answer::Nothing),
+        touched,
+    }
+}
+
+// The task goes on with this value.
+fn hears(own: u32, value: Cell, touched: Touched) -> Done
+    ensures { result ≡ record { acted = Went own (One value); touched = touched } }
+{
+    Done {
+        acted: Acted::Went(own, Answer::One(value)),
+        touched,
     }
 }
 

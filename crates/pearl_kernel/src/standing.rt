@@ -3,44 +3,17 @@
 
 ghost use Rattle.std.specs.Prelude.{◌≡◌, ◌<◌, ◌≤◌, Some, None, false, IfOk, MatchOption, length, replicate};
 ghost use Rattle.pearl_ready.specs.Best.{best_of, IsEmpty, IsBest};
-ghost use Rattle.pearl_rules.specs.Core.{Core};
-ghost use Rattle.pearl_kernel.specs.Names.{Names, NamesAll};
+ghost use Rattle.pearl_kernel.specs.Names.{NamesAll};
 ghost use Rattle.pearl_kernel.specs.Eligible.{possible, able_at, noted};
-ghost use Rattle.pearl_kernel.specs.Changes.{renewed, AreRenewed, AreRenewedIf};
-ghost use Rattle.pearl_kernel.specs.Touched.{Leaves, IsThere, IsRenewed};
+ghost use Rattle.pearl_kernel.specs.Whole.{IsOfTasks};
+ghost use Rattle.pearl_kernel.specs.Changes.{Renews, AreRenewed, AreRenewedIf};
+ghost use Rattle.pearl_kernel.specs.Touched.{IsThere, IsRenewed};
 
-use crate::changes::Changed;
+use crate::changes::{Changed, Touched};
 use crate::state::State;
 use pearl_ready::ready::Ready;
-use pearl_rules::action::Action;
 use std::alloc::{AllocError, Global};
 use std::marker::Model;
-
-/// Which tasks besides its own an action touches: they may be able to act where they were not, or the other way round.
-pub enum Touched {
-    Own,
-    Other(u32),
-    // All tasks, and at most this changed of what their offers wait for.
-    All(Changed),
-}
-
-/// The tasks besides its own that an action touches.
-pub fn touched_by(action: &Action) -> Touched
-    ensures leaves { Leaves action.now result }
-    ensures there { (core : Core) → Names core action.now → IsThere core result }
-{
-    match action {
-        Action::Request(_) | Action::Release(_) | Action::Try(_) => Touched::All(Changed::Counts),
-        Action::Trigger(_) => Touched::All(Changed::Nothing),
-        Action::Get { device, .. } => Touched::All(Changed::Device(*device)),
-        Action::Take(device) => Touched::All(Changed::Device(*device)),
-        Action::Activate { task, .. } | Action::Continue { task, .. } => Touched::Other(*task),
-        Action::Suspend(task) | Action::Terminate(task) | Action::Prevent(task) => Touched::Other(
-            *task,
-        ),
-        _ => Touched::Own,
-    }
-}
 
 /// Of each task whether what it has offered can be done, and the set of the tasks that can act.
 #[derive(Drop)]
@@ -50,11 +23,14 @@ pub struct Standing {
 }
 
 impl Model for Standing {
+    ghost use Rattle.std.specs.Prelude.{◌≡◌, length};
     ghost use Rattle.pearl_kernel.specs.Eligible.{Stand};
 
     ghost Value = { Stand };
 
     ghost view = { λ s. record { able = s.able.items; set = s.ready } };
+
+    ghost invariant = { λ s. length s.ready ≡ length s.able.items };
 }
 
 impl Standing {
@@ -87,9 +63,9 @@ impl Standing {
     }
 
     fn note(&mut self, state: &State, task: u32, able: bool)
-        requires there { task < length self.old.able }
-        requires stands { task < length self.old.set }
-        ensures { self.new ≡ noted state.now task able self.old }
+        requires { task < length self.old.able }
+        ensures noted { self.new ≡ noted state.now task able self.old }
+        ensures alike { length self.new.set ≡ length self.new.able }
     {
         self.able[task as usize] = able;
         match state.entry_if(task, able) {
@@ -101,7 +77,6 @@ impl Standing {
     /// A task has a new offer.
     pub fn offered(&mut self, state: &State, task: u32)
         requires there { task < length self.old.able }
-        requires stands { task < length self.old.set }
         requires names { NamesAll state.now }
         ensures { self.new ≡ noted state.now task (possible state.now task) self.old }
     {
@@ -110,9 +85,8 @@ impl Standing {
 
     fn renew_one(&mut self, state: &State, task: u32, changed: Changed)
         requires there { task < length self.old.able }
-        requires stands { task < length self.old.set }
         requires names { NamesAll state.now }
-        ensures { self.new ≡ noted state.now task (renewed changed state.now task (able_at self.old task)) self.old }
+        ensures { Renews state.now changed task self.old self.new }
     {
         let able = state.renewed(task, changed, self.is_able(task));
         self.note(state, task, able);
@@ -120,10 +94,7 @@ impl Standing {
 
     /// Each task stands as it does now, where at most this changed of what offers wait for.
     pub fn renew_all(&mut self, state: &State, changed: Changed)
-        requires few { length state.now.core.tasks ≤ 200 }
-        requires size { length self.old.able ≡ length state.now.core.tasks }
-        requires set_size { length self.old.set ≡ length state.now.core.tasks }
-        requires names { NamesAll state.now }
+        requires { IsOfTasks state.now self.old }
         ensures { AreRenewed state.now changed self.old self.new }
     {
         let count = state.tasks() as u32;
@@ -134,10 +105,7 @@ impl Standing {
 
     /// The same where something may have changed that matters to a task.
     pub fn renew_if(&mut self, state: &State, changed: Option<Changed>)
-        requires few { length state.now.core.tasks ≤ 200 }
-        requires size { length self.old.able ≡ length state.now.core.tasks }
-        requires set_size { length self.old.set ≡ length state.now.core.tasks }
-        requires names { NamesAll state.now }
+        requires { IsOfTasks state.now self.old }
         ensures { AreRenewedIf state.now changed self.old self.new }
     {
         match changed {
@@ -148,12 +116,9 @@ impl Standing {
 
     /// Each task stands as it does after an action of the task `own`.
     pub fn renew(&mut self, state: &State, own: u32, touched: Touched)
-        requires few { length state.now.core.tasks ≤ 200 }
-        requires size { length self.old.able ≡ length state.now.core.tasks }
-        requires set_size { length self.old.set ≡ length state.now.core.tasks }
+        requires tasks { IsOfTasks state.now self.old }
         requires own { own < length state.now.core.tasks }
         requires there { IsThere state.now.core touched }
-        requires names { NamesAll state.now }
         ensures { IsRenewed state.now own touched self.old self.new }
     {
         match touched {

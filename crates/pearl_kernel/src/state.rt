@@ -18,7 +18,7 @@ ghost use Rattle.pearl_rules.specs.Tables.{IsPreset};
 ghost use Rattle.pearl_port.specs.Pending.{IsTyped};
 ghost use Rattle.pearl_sema.specs.Waiting.{AreThere};
 ghost use Rattle.pearl_value.specs.Kinds.{IsKind};
-ghost use Rattle.pearl_kernel.specs.Channels.{HasBytes, HasValuesFor, taken_in_of};
+ghost use Rattle.pearl_kernel.specs.Channels.{HasSwitch, HasBytes, HasValuesFor, taken_in_of};
 ghost use Rattle.pearl_scan.specs.Answers.{told};
 ghost use Rattle.pearl_kernel.specs.Kept.{at_start, offered as offered_of};
 ghost use Rattle.pearl_kernel.specs.Kept.{is_silent as is_silent_in, is_unsettled as is_unsettled_in};
@@ -408,7 +408,7 @@ impl State {
 
     /// An interrupt is let through or masked from now on.
     pub fn set_switch(&mut self, device: u32, enabled: bool)
-        requires { device < length self.old.core.channels }
+        requires { HasSwitch (channel_of self.old.core device) }
         ensures { self.new ≡ record self.old { core = with_channel self.old.core device (Switch enabled) } }
     {
         self.channels[device as usize] = Channel::switch(enabled);

@@ -1,11 +1,10 @@
-use Rattle.std.proofs.Common.{◌≡◌, ◌<◌, ◌≤◌, [], Some, true, length, sym, subst, ◌∙◌, length-set}
+use Rattle.std.proofs.Common.{◌≡◌, ◌<◌, [], Some, true, length, sym, subst, ◌∙◌, length-set}
 use Rattle.pearl_rules.specs.Pick.{pick, guard}
 use Rattle.pearl_kernel.specs.Kept.{Kept, offered, done, IsLawful}
 use Rattle.pearl_kernel.specs.Names.{Names}
-use Rattle.pearl_kernel.specs.Whole.{IsWhole, HasRoom}
-use Rattle.pearl_kernel.specs.Touched.{IsThere, IsRenewed}
-use Rattle.pearl_kernel.proofs.Acting.{picked-offers, picked-able, there-after, kept-after, done-is}
-use Rattle.pearl_kernel.proofs.Lawful.{lawful-after}
+use Rattle.pearl_kernel.specs.Whole.{IsWhole, IsOfTasks, HasRoom}
+use Rattle.pearl_kernel.specs.Touched.{IsThere, IsRenewed, Leaves}
+use Rattle.pearl_kernel.proofs.Acting.{picked-offers, picked-able, still-of, there-after, kept-after, acted}
 use Rattle.pearl_kernel.proofs.Naming.{names-all, lawful-timely}
 use Rattle.pearl_kernel.proofs.kernel.Kernel.act.Goals as goal
 
@@ -32,7 +31,8 @@ act-acted-requires-clause-room c =
     let s = c.self.inside.state in
     let of = c.self.invariant.lawful in
     let timely = lawful-timely of.0 s of.1 in
-    let there = subst (λ (k : Kept). c.in-Some.task < length k.core.tasks) (sym c.self.view_is) c.in-Some.ensures.there in
+    let there = subst (λ (k : Kept). c.in-Some.task < length k.core.tasks) (sym c.self.view_is)
+    c.in-Some.ensures.there in
     let told = subst (λ (k : Kept). k.core.told ≡ []) (sym c.self.view_is) c.requires in
     subst (λ (k : Kept). HasRoom k c.in-Some.task) (sym c.take_offer.ensures.rest) (record {
       there = there;
@@ -57,110 +57,73 @@ act-acted-requires-clause-able c =
     subst (λ (k : Kept). guard k.core c.in-Some-take_offer.action ≡ true) (sym c.take_offer.ensures.rest)
     (picked-able s c.in-Some.task c.in-Some-take_offer.action picked (sym c.in-Some-take_offer.ensures.taken))
 
-pub renew-requires-clause-few : goal.renew-requires-clause-few
-renew-requires-clause-few c =
+pub renew-requires-clause-tasks : goal.renew-requires-clause-tasks
+renew-requires-clause-tasks c =
     let s = c.self.inside.state in
     let of = c.self.invariant.lawful in
-    let there = subst (λ (k : Kept). c.in-Some.task < length k.core.tasks) (sym c.self.view_is) c.in-Some.ensures.there in
-    let is = done-is s c.take_offer.new.self c.act-acted.new.self c.in-Some.task c.in-Some-take_offer.action
-    c.take_offer.ensures.rest c.act-acted.ensures.state in
-    let offer = sym c.in-Some-take_offer.ensures.taken in
-    let lawful = lawful-after of.0 s c.in-Some.task c.in-Some-take_offer.action there
-    (of.1.fits c.in-Some.task c.in-Some-take_offer.action offer) of.1 in
-    subst (λ (k : Kept). length k.core.tasks ≤ 200) (sym is)
-    (subst (λ n. n ≤ 200) (of.1.tasks ∙ sym lawful.tasks) c.self.invariant.few)
-
-pub renew-requires-clause-size : goal.renew-requires-clause-size
-renew-requires-clause-size c =
-    let s = c.self.inside.state in
-    let of = c.self.invariant.lawful in
-    let there = subst (λ (k : Kept). c.in-Some.task < length k.core.tasks) (sym c.self.view_is) c.in-Some.ensures.there in
-    let is = done-is s c.take_offer.new.self c.act-acted.new.self c.in-Some.task c.in-Some-take_offer.action
-    c.take_offer.ensures.rest c.act-acted.ensures.state in
-    let offer = sym c.in-Some-take_offer.ensures.taken in
-    let lawful = lawful-after of.0 s c.in-Some.task c.in-Some-take_offer.action there
-    (of.1.fits c.in-Some.task c.in-Some-take_offer.action offer) of.1 in
-    subst (λ (k : Kept). length c.self.inside.standing.able ≡ length k.core.tasks) (sym is)
-    (c.self.invariant.stand.size ∙ of.1.tasks ∙ sym lawful.tasks)
-
-pub renew-requires-clause-set_size : goal.renew-requires-clause-set_size
-renew-requires-clause-set_size c =
-    let s = c.self.inside.state in
-    let of = c.self.invariant.lawful in
-    let there = subst (λ (k : Kept). c.in-Some.task < length k.core.tasks) (sym c.self.view_is) c.in-Some.ensures.there in
-    let is = done-is s c.take_offer.new.self c.act-acted.new.self c.in-Some.task c.in-Some-take_offer.action
-    c.take_offer.ensures.rest c.act-acted.ensures.state in
-    let offer = sym c.in-Some-take_offer.ensures.taken in
-    let lawful = lawful-after of.0 s c.in-Some.task c.in-Some-take_offer.action there
-    (of.1.fits c.in-Some.task c.in-Some-take_offer.action offer) of.1 in
-    subst (λ (k : Kept). length c.self.inside.standing.set ≡ length k.core.tasks) (sym is)
-    (c.self.invariant.stand.ready.size ∙ of.1.tasks ∙ sym lawful.tasks)
+    let t = c.in-Some.task in
+    let a = c.in-Some-take_offer.action in
+    let there = subst (λ (k : Kept). t < length k.core.tasks) (sym c.self.view_is) c.in-Some.ensures.there in
+    let new = acted of.0 s c.take_offer.new.self c.act-acted.new.self t a of.1 there
+    (sym c.in-Some-take_offer.ensures.taken) c.take_offer.ensures.rest c.act-acted.ensures.state in
+    subst (λ (k : Kept). IsOfTasks k c.self.inside.standing) (sym new.is)
+    (still-of of.0 s (done s t a) c.self.inside.standing of.1 new.lawful c.self.invariant)
 
 pub renew-requires-clause-own : goal.renew-requires-clause-own
 renew-requires-clause-own c =
     let s = c.self.inside.state in
     let of = c.self.invariant.lawful in
-    let there = subst (λ (k : Kept). c.in-Some.task < length k.core.tasks) (sym c.self.view_is) c.in-Some.ensures.there in
-    let is = done-is s c.take_offer.new.self c.act-acted.new.self c.in-Some.task c.in-Some-take_offer.action
-    c.take_offer.ensures.rest c.act-acted.ensures.state in
-    let offer = sym c.in-Some-take_offer.ensures.taken in
-    let lawful = lawful-after of.0 s c.in-Some.task c.in-Some-take_offer.action there
-    (of.1.fits c.in-Some.task c.in-Some-take_offer.action offer) of.1 in
-    subst (λ (k : Kept). c.in-Some.task < length k.core.tasks) (sym is)
-    (subst (λ n. c.in-Some.task < n) (of.1.tasks ∙ sym lawful.tasks) there)
+    let t = c.in-Some.task in
+    let a = c.in-Some-take_offer.action in
+    let there = subst (λ (k : Kept). t < length k.core.tasks) (sym c.self.view_is) c.in-Some.ensures.there in
+    let new = acted of.0 s c.take_offer.new.self c.act-acted.new.self t a of.1 there
+    (sym c.in-Some-take_offer.ensures.taken) c.take_offer.ensures.rest c.act-acted.ensures.state in
+    subst (λ (k : Kept). t < length k.core.tasks) (sym new.is)
+    (subst (λ n. t < n) (of.1.tasks ∙ sym new.lawful.tasks) there)
 
 pub renew-requires-clause-there : goal.renew-requires-clause-there
 renew-requires-clause-there c =
     let s = c.self.inside.state in
     let of = c.self.invariant.lawful in
-    let there = subst (λ (k : Kept). c.in-Some.task < length k.core.tasks) (sym c.self.view_is) c.in-Some.ensures.there in
-    let is = done-is s c.take_offer.new.self c.act-acted.new.self c.in-Some.task c.in-Some-take_offer.action
-    c.take_offer.ensures.rest c.act-acted.ensures.state in
-    let offer = sym c.in-Some-take_offer.ensures.taken in
-    let lawful = lawful-after of.0 s c.in-Some.task c.in-Some-take_offer.action there
-    (of.1.fits c.in-Some.task c.in-Some-take_offer.action offer) of.1 in
-    let named = c.touched_by-touched.ensures.there s.core
-    (names-all of.0 s of.1 c.in-Some.task c.in-Some-take_offer.action offer) in
-    subst (λ (k : Kept). IsThere k.core c.touched_by-touched.result) (sym is)
-    (there-after s (done s c.in-Some.task c.in-Some-take_offer.action) c.touched_by-touched.result (lawful.tasks ∙ sym of.1.tasks) named)
-
-pub renew-requires-clause-names : goal.renew-requires-clause-names
-renew-requires-clause-names c =
-    let s = c.self.inside.state in
-    let of = c.self.invariant.lawful in
-    let there = subst (λ (k : Kept). c.in-Some.task < length k.core.tasks) (sym c.self.view_is) c.in-Some.ensures.there in
-    let is = done-is s c.take_offer.new.self c.act-acted.new.self c.in-Some.task c.in-Some-take_offer.action
-    c.take_offer.ensures.rest c.act-acted.ensures.state in
-    let offer = sym c.in-Some-take_offer.ensures.taken in
-    let lawful = lawful-after of.0 s c.in-Some.task c.in-Some-take_offer.action there
-    (of.1.fits c.in-Some.task c.in-Some-take_offer.action offer) of.1 in
-    names-all of.0 c.act-acted.new.self (subst (λ (k : Kept). IsLawful of.0 k) (sym is) lawful)
+    let t = c.in-Some.task in
+    let a = c.in-Some-take_offer.action in
+    let there = subst (λ (k : Kept). t < length k.core.tasks) (sym c.self.view_is) c.in-Some.ensures.there in
+    let new = acted of.0 s c.take_offer.new.self c.act-acted.new.self t a of.1 there
+    (sym c.in-Some-take_offer.ensures.taken) c.take_offer.ensures.rest c.act-acted.ensures.state in
+    let touched = c.act-acted.result.touched in
+    let named = subst (λ (k : Kept). IsThere k.core touched) c.take_offer.ensures.rest
+    c.act-acted.ensures.leaves.there in
+    subst (λ (k : Kept). IsThere k.core touched) (sym new.is)
+    (there-after s (done s t a) touched (new.lawful.tasks ∙ sym of.1.tasks) named)
 
 pub invariant_of-self-2 : goal.invariant_of-self-2
 invariant_of-self-2 c =
-    let s = c.self.inside in
+    let s = c.self.inside.state in
     let of = c.self.invariant.lawful in
-    let there = subst (λ (k : Kept). c.in-Some.task < length k.core.tasks) (sym c.self.view_is) c.in-Some.ensures.there in
-    let is = done-is s.state c.take_offer.new.self c.act-acted.new.self c.in-Some.task c.in-Some-take_offer.action
-    c.take_offer.ensures.rest c.act-acted.ensures.state in
-    let offer = sym c.in-Some-take_offer.ensures.taken in
-    let fits = of.1.fits c.in-Some.task c.in-Some-take_offer.action offer in
-    let lawful = lawful-after of.0 s.state c.in-Some.task c.in-Some-take_offer.action there fits of.1 in
-    let renewed = subst (λ (k : Kept). IsRenewed k c.in-Some.task c.touched_by-touched.result s.standing c.renew.new.self)
-    is c.renew.ensures in
-    subst (λ (k : Kept). IsWhole k c.renew.new.self) (sym is)
-    (kept-after of.0 s.state s.standing c.renew.new.self c.in-Some.task c.in-Some-take_offer.action c.touched_by-touched.result
-    of.1 lawful fits c.self.invariant c.touched_by-touched.ensures.leaves renewed)
+    let t = c.in-Some.task in
+    let a = c.in-Some-take_offer.action in
+    let there = subst (λ (k : Kept). t < length k.core.tasks) (sym c.self.view_is) c.in-Some.ensures.there in
+    let new = acted of.0 s c.take_offer.new.self c.act-acted.new.self t a of.1 there
+    (sym c.in-Some-take_offer.ensures.taken) c.take_offer.ensures.rest c.act-acted.ensures.state in
+    let standing = c.self.inside.standing in
+    let touched = c.act-acted.result.touched in
+    let renewed = subst (λ (k : Kept). IsRenewed k t touched standing c.renew.new.self) new.is
+    c.renew.ensures in
+    let leaves = subst (λ (k : Kept). Leaves t c.take_offer.new.self k touched) new.is
+    c.act-acted.ensures.leaves in
+    let leaving = subst (λ (k : Kept). Leaves t k (done s t a) touched)
+    c.take_offer.ensures.rest leaves in
+    subst (λ (k : Kept). IsWhole k c.renew.new.self) (sym new.is)
+    (kept-after of.0 s standing c.renew.new.self t a touched
+    of.1 new.lawful c.self.invariant leaving renewed)
 
 pub returns-clause-lawful : goal.returns-clause-lawful
 returns-clause-lawful c = λ setup lawful.
     let s = c.self.inside.state in
-    let is = done-is s c.take_offer.new.self c.act-acted.new.self c.in-Some.task c.in-Some-take_offer.action
-    c.take_offer.ensures.rest c.act-acted.ensures.state in
+    let t = c.in-Some.task in
+    let a = c.in-Some-take_offer.action in
     let before = subst (λ (k : Kept). IsLawful setup k) (sym c.self.view_is) lawful in
-    let there = subst (λ (k : Kept). c.in-Some.task < length k.core.tasks)
-    (sym c.self.view_is) c.in-Some.ensures.there in
-    let offer = sym c.in-Some-take_offer.ensures.taken in
-    subst (λ (k : Kept). IsLawful setup k) (sym is)
-    (lawful-after setup s c.in-Some.task c.in-Some-take_offer.action there
-    (before.fits c.in-Some.task c.in-Some-take_offer.action offer) before)
+    let there = subst (λ (k : Kept). t < length k.core.tasks) (sym c.self.view_is) c.in-Some.ensures.there in
+    let new = acted setup s c.take_offer.new.self c.act-acted.new.self t a before there
+    (sym c.in-Some-take_offer.ensures.taken) c.take_offer.ensures.rest c.act-acted.ensures.state in
+    subst (λ (k : Kept). IsLawful setup k) (sym new.is) new.lawful

@@ -1,9 +1,9 @@
-use Rattle.std.proofs.Common.{◌≤◌, sym, ap, subst, ◌∙◌}
+use Rattle.std.proofs.Common.{sym, ap, subst}
 use Rattle.pearl_rules.specs.Entries.{EntryFits}
 use Rattle.pearl_kernel.specs.Kept.{Kept, IsLawful}
-use Rattle.pearl_kernel.proofs.Acting.{kept-stirred}
+use Rattle.pearl_kernel.proofs.Acting.{still-of, kept-stirred}
 use Rattle.pearl_kernel.proofs.Lawful.{lawful-arrived}
-use Rattle.pearl_kernel.proofs.Naming.{names-all, lawful-timely, comes-in}
+use Rattle.pearl_kernel.proofs.Naming.{lawful-timely, comes-in}
 use Rattle.pearl_kernel.proofs.kernel.Kernel.input.Goals as goal
 
 pub arrive-changed-requires-clause-timely : goal.arrive-changed-requires-clause-timely
@@ -11,45 +11,15 @@ arrive-changed-requires-clause-timely c =
     let of = c.self.invariant.lawful in
     lawful-timely of.0 c.self.inside.state of.1
 
-pub renew_if-requires-clause-few : goal.renew_if-requires-clause-few
-renew_if-requires-clause-few c =
+pub renew_if-requires : goal.renew_if-requires
+renew_if-requires c =
     let s = c.self.inside.state in
     let f = c.requires.fits in
     let before = subst (λ (k : Kept). IsLawful f.0 k) (sym c.self.view_is) f.1 in
     let fits = subst (λ (k : Kept). EntryFits f.0 k.core.moment c.args.entry.now) (sym c.self.view_is) f.2 in
     let lawful = subst (λ (k : Kept). IsLawful f.0 k) (sym c.arrive-changed.ensures.arrived)
     (lawful-arrived f.0 s c.args.entry.now fits before) in
-    subst (λ n. n ≤ 200) (before.tasks ∙ sym lawful.tasks) c.self.invariant.few
-
-pub renew_if-requires-clause-size : goal.renew_if-requires-clause-size
-renew_if-requires-clause-size c =
-    let s = c.self.inside.state in
-    let f = c.requires.fits in
-    let before = subst (λ (k : Kept). IsLawful f.0 k) (sym c.self.view_is) f.1 in
-    let fits = subst (λ (k : Kept). EntryFits f.0 k.core.moment c.args.entry.now) (sym c.self.view_is) f.2 in
-    let lawful = subst (λ (k : Kept). IsLawful f.0 k) (sym c.arrive-changed.ensures.arrived)
-    (lawful-arrived f.0 s c.args.entry.now fits before) in
-    c.self.invariant.stand.size ∙ before.tasks ∙ sym lawful.tasks
-
-pub renew_if-requires-clause-set_size : goal.renew_if-requires-clause-set_size
-renew_if-requires-clause-set_size c =
-    let s = c.self.inside.state in
-    let f = c.requires.fits in
-    let before = subst (λ (k : Kept). IsLawful f.0 k) (sym c.self.view_is) f.1 in
-    let fits = subst (λ (k : Kept). EntryFits f.0 k.core.moment c.args.entry.now) (sym c.self.view_is) f.2 in
-    let lawful = subst (λ (k : Kept). IsLawful f.0 k) (sym c.arrive-changed.ensures.arrived)
-    (lawful-arrived f.0 s c.args.entry.now fits before) in
-    c.self.invariant.stand.ready.size ∙ before.tasks ∙ sym lawful.tasks
-
-pub renew_if-requires-clause-names : goal.renew_if-requires-clause-names
-renew_if-requires-clause-names c =
-    let s = c.self.inside.state in
-    let f = c.requires.fits in
-    let before = subst (λ (k : Kept). IsLawful f.0 k) (sym c.self.view_is) f.1 in
-    let fits = subst (λ (k : Kept). EntryFits f.0 k.core.moment c.args.entry.now) (sym c.self.view_is) f.2 in
-    let lawful = subst (λ (k : Kept). IsLawful f.0 k) (sym c.arrive-changed.ensures.arrived)
-    (lawful-arrived f.0 s c.args.entry.now fits before) in
-    names-all f.0 c.arrive-changed.new.self lawful
+    still-of f.0 s c.arrive-changed.new.self c.self.inside.standing before lawful c.self.invariant
 
 pub invariant_of-self : goal.invariant_of-self
 invariant_of-self c =

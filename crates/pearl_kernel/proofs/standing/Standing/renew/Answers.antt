@@ -1,6 +1,6 @@
 use Rattle.std.proofs.Common.{sym, subst}
-use Rattle.pearl_kernel.specs.declared.standing.Touched.{Touched}
-use Rattle.pearl_kernel.specs.Touched.{IsThere, IsRenewed}
+use Rattle.pearl_kernel.specs.declared.changes.Touched.{Touched}
+use Rattle.pearl_kernel.specs.Touched.{IsRenewed}
 use Rattle.pearl_kernel.proofs.Renewing.{touched-own, touched-other}
 use Rattle.pearl_kernel.proofs.standing.Standing.renew.Goals as goal
 
@@ -8,14 +8,12 @@ pub returns-in-Own : goal.returns-in-Own
 returns-in-Own c =
     let k = c.args.state.now in
     subst (λ (x : Touched). IsRenewed k c.args.own x c.args.self.now c.renew_one.new.self) (sym c.in-Own.is)
-    (touched-own k c.args.own c.args.self.now c.renew_one.new.self c.requires.own c.requires.size c.requires.set_size
-    c.renew_one.ensures)
+    (touched-own k c.args.own c.args.self.now c.renew_one.new.self c.renew_one.ensures)
 
 pub returns-in-Other : goal.returns-in-Other
 returns-in-Other c =
     let k = c.args.state.now in
-    let there = subst (λ (x : Touched). IsThere k.core x) c.in-Other.is c.requires.there in
-    subst (λ (x : Touched). IsRenewed k c.args.own x c.args.self.now c.renew_one-in-Other-2.new.self) (sym c.in-Other.is)
+    subst (λ (x : Touched). IsRenewed k c.args.own x c.args.self.now c.renew_one-in-Other-2.new.self)
+    (sym c.in-Other.is)
     (touched-other k c.args.own c.in-Other.task c.args.self.now c.renew_one-in-Other.new.self
-    c.renew_one-in-Other-2.new.self c.requires.own there c.requires.size c.requires.set_size
-    c.renew_one-in-Other.ensures c.renew_one-in-Other-2.ensures)
+    c.renew_one-in-Other-2.new.self c.renew_one-in-Other.ensures c.renew_one-in-Other-2.ensures)

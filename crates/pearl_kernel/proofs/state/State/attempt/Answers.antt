@@ -1,8 +1,8 @@
 use Rattle.pearl_kernel.proofs.Naming.{one-there}
 use Rattle.pearl_kernel.proofs.state.State.attempt.Goals as goal
 
-pub is_free-free-requires : goal.is_free-free-requires
-is_free-free-requires c =
+pub is_free-requires : goal.is_free-requires
+is_free-requires c =
     one-there c.args.self.now.core.counts c.new-list.result.items c.push.new.self.items c.args.semaphore c.requires
     c.new-list.ensures c.push.ensures.items
 
