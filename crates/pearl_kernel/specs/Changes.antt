@@ -26,8 +26,7 @@ pub record ChangesOnly (changed : Changed) (old core : Core) : Type 0 where
   pub values : (d : ℕ) → is_device changed d ≡ false → values_at core d ≡ values_at old d
   pub formats : core.formats ≡ old.formats
 
--- What came from outside left the tasks and all that their offers wait for as they were; or of what they wait for at most
--- this changed.
+-- None: the tasks and all that their offers wait for are as they were. Else at most this changed of what they wait for.
 abbrev pub Stirs : Core → Core → Option Changed → Type 0
 Stirs old new None = (new.tasks ≡ old.tasks) × ChangesOnly Nothing old new
 Stirs old new (Some changed) = ChangesOnly changed old new

@@ -20,7 +20,7 @@ changed_by Own = Nothing
 changed_by (Other task) = Nothing
 changed_by (All changed) = changed
 
--- what an action touches that left all rows and offers as they were
+-- none but its own where neither other rows nor what offers wait for changed; else all, and at most this changed
 abbrev pub touched_if : Option Changed → Touched
 touched_if None = Own
 touched_if (Some changed) = All changed

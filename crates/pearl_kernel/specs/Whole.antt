@@ -12,7 +12,7 @@ pub record IsWhole (k : Kept) (s : Stand) : Type 0 where
   pub lawful : (setup : Setup) × IsLawful setup k
   pub stand : IsStandOf k s
 
--- it is kept of each task, and there are at most 200, whose offers name what is there
+-- something is kept of each task, of which there are at most 200, and what they offer names what is there
 pub record IsOfTasks (k : Kept) (s : Stand) : Type 0 where
   pub few : length k.core.tasks ≤ 200
   pub size : length s.able ≡ length k.core.tasks

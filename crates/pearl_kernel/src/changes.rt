@@ -24,8 +24,8 @@ pub enum Touched {
     All(Changed),
 }
 
-/// The tasks besides its own that an action touches, where it left their rows as they were and this may have changed of
-/// all that offers wait for.
+/// The tasks that an action touches besides its own: none where neither their rows nor what offers wait for changed, and
+/// else all, where at most this changed of what offers wait for.
 pub fn touched_if(changed: Option<Changed>) -> Touched
     ensures { result ≡ touched_if changed }
 {

@@ -19,7 +19,6 @@ ghost use Rattle.pearl_kernel.specs.Eligible.{possible, entry};
 ghost use Rattle.pearl_kernel.specs.Timing.{timetable, passed, IsQuiet};
 
 use crate::changes::Changed;
-use crate::perform::Done;
 use crate::standing::Standing;
 use crate::state::State;
 use pearl_rules::action::{Action, Answer};
@@ -109,9 +108,9 @@ impl Kernel {
         let Some(action) = self.state.take_offer(task) else {
             return Acted::Idle;
         };
-        let Done { acted, touched } = self.state.act(task, action);
-        self.standing.renew(&self.state, task, touched);
-        acted
+        let done = self.state.act(task, action);
+        self.standing.renew(&self.state, task, done.touched);
+        done.acted
     }
 
     /// The task that acts next.

@@ -1,7 +1,7 @@
 // What an action does.
 
 ghost use Rattle.std.specs.List.{AllByRecursion};
-ghost use Rattle.std.specs.Prelude.{◌≡◌, ◌<◌, ◌≤◌, [], ◌∷◌, IsTrue, true, length, nat_lt};
+ghost use Rattle.std.specs.Prelude.{◌≡◌, ◌<◌, ◌≤◌, [], ◌∷◌, None, IsTrue, true, length, nat_lt};
 ghost use Rattle.pearl_rules.specs.Counts.{all_below_most, all_free, count_at, lowered};
 ghost use Rattle.pearl_rules.specs.Effect.{effect, effect_of, ending, activated, priority_or_declared, is_at_once};
 ghost use Rattle.pearl_rules.specs.Effect.{continues, resuming, prevented, stopping, releasing, trying, getting, taking};
@@ -363,6 +363,7 @@ impl State {
         requires { HasBytes (channel_of self.old.core device) }
         ensures used { self.new ≡ record self.old { core = without_bytes self.old.core device used } }
         ensures stirs { Stirs self.old.core self.new.core result }
+        ensures quiet { used ≡ 0 → result ≡ None }
     {
         if used == 0 {
             return None;

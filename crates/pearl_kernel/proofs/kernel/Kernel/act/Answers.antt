@@ -26,8 +26,8 @@ returns-in_default-take_offer-clause-lawful c =
     (sym c.in-Some.ensures.picked) in
     absurd (picked-offers c.self.inside.state c.in-Some.task picked (sym c.in_default-take_offer.ensures.taken))
 
-pub act-acted-requires-clause-room : goal.act-acted-requires-clause-room
-act-acted-requires-clause-room c =
+pub act-done-requires-clause-room : goal.act-done-requires-clause-room
+act-done-requires-clause-room c =
     let s = c.self.inside.state in
     let of = c.self.invariant.lawful in
     let timely = lawful-timely of.0 s of.1 in
@@ -42,15 +42,15 @@ act-acted-requires-clause-room c =
       room = told;
     })
 
-pub act-acted-requires-clause-names : goal.act-acted-requires-clause-names
-act-acted-requires-clause-names c =
+pub act-done-requires-clause-names : goal.act-done-requires-clause-names
+act-done-requires-clause-names c =
     let of = c.self.invariant.lawful in
     subst (λ (k : Kept). Names k.core c.in-Some-take_offer.action) (sym c.take_offer.ensures.rest)
     (names-all of.0 c.self.inside.state of.1 c.in-Some.task c.in-Some-take_offer.action
     (sym c.in-Some-take_offer.ensures.taken))
 
-pub act-acted-requires-clause-able : goal.act-acted-requires-clause-able
-act-acted-requires-clause-able c =
+pub act-done-requires-clause-able : goal.act-done-requires-clause-able
+act-done-requires-clause-able c =
     let s = c.self.inside.state in
     let picked = subst (λ (k : Kept). pick k.core (offered k) ≡ Some c.in-Some.task) (sym c.self.view_is)
     (sym c.in-Some.ensures.picked) in
@@ -64,8 +64,8 @@ renew-requires-clause-tasks c =
     let t = c.in-Some.task in
     let a = c.in-Some-take_offer.action in
     let there = subst (λ (k : Kept). t < length k.core.tasks) (sym c.self.view_is) c.in-Some.ensures.there in
-    let new = acted of.0 s c.take_offer.new.self c.act-acted.new.self t a of.1 there
-    (sym c.in-Some-take_offer.ensures.taken) c.take_offer.ensures.rest c.act-acted.ensures.state in
+    let new = acted of.0 s c.take_offer.new.self c.act-done.new.self t a of.1 there
+    (sym c.in-Some-take_offer.ensures.taken) c.take_offer.ensures.rest c.act-done.ensures.state in
     subst (λ (k : Kept). IsOfTasks k c.self.inside.standing) (sym new.is)
     (still-of of.0 s (done s t a) c.self.inside.standing of.1 new.lawful c.self.invariant)
 
@@ -76,8 +76,8 @@ renew-requires-clause-own c =
     let t = c.in-Some.task in
     let a = c.in-Some-take_offer.action in
     let there = subst (λ (k : Kept). t < length k.core.tasks) (sym c.self.view_is) c.in-Some.ensures.there in
-    let new = acted of.0 s c.take_offer.new.self c.act-acted.new.self t a of.1 there
-    (sym c.in-Some-take_offer.ensures.taken) c.take_offer.ensures.rest c.act-acted.ensures.state in
+    let new = acted of.0 s c.take_offer.new.self c.act-done.new.self t a of.1 there
+    (sym c.in-Some-take_offer.ensures.taken) c.take_offer.ensures.rest c.act-done.ensures.state in
     subst (λ (k : Kept). t < length k.core.tasks) (sym new.is)
     (subst (λ n. t < n) (of.1.tasks ∙ sym new.lawful.tasks) there)
 
@@ -88,11 +88,11 @@ renew-requires-clause-there c =
     let t = c.in-Some.task in
     let a = c.in-Some-take_offer.action in
     let there = subst (λ (k : Kept). t < length k.core.tasks) (sym c.self.view_is) c.in-Some.ensures.there in
-    let new = acted of.0 s c.take_offer.new.self c.act-acted.new.self t a of.1 there
-    (sym c.in-Some-take_offer.ensures.taken) c.take_offer.ensures.rest c.act-acted.ensures.state in
-    let touched = c.act-acted.result.touched in
+    let new = acted of.0 s c.take_offer.new.self c.act-done.new.self t a of.1 there
+    (sym c.in-Some-take_offer.ensures.taken) c.take_offer.ensures.rest c.act-done.ensures.state in
+    let touched = c.act-done.result.touched in
     let named = subst (λ (k : Kept). IsThere k.core touched) c.take_offer.ensures.rest
-    c.act-acted.ensures.leaves.there in
+    c.act-done.ensures.leaves.there in
     subst (λ (k : Kept). IsThere k.core touched) (sym new.is)
     (there-after s (done s t a) touched (new.lawful.tasks ∙ sym of.1.tasks) named)
 
@@ -103,14 +103,14 @@ invariant_of-self-2 c =
     let t = c.in-Some.task in
     let a = c.in-Some-take_offer.action in
     let there = subst (λ (k : Kept). t < length k.core.tasks) (sym c.self.view_is) c.in-Some.ensures.there in
-    let new = acted of.0 s c.take_offer.new.self c.act-acted.new.self t a of.1 there
-    (sym c.in-Some-take_offer.ensures.taken) c.take_offer.ensures.rest c.act-acted.ensures.state in
+    let new = acted of.0 s c.take_offer.new.self c.act-done.new.self t a of.1 there
+    (sym c.in-Some-take_offer.ensures.taken) c.take_offer.ensures.rest c.act-done.ensures.state in
     let standing = c.self.inside.standing in
-    let touched = c.act-acted.result.touched in
+    let touched = c.act-done.result.touched in
     let renewed = subst (λ (k : Kept). IsRenewed k t touched standing c.renew.new.self) new.is
     c.renew.ensures in
     let leaves = subst (λ (k : Kept). Leaves t c.take_offer.new.self k touched) new.is
-    c.act-acted.ensures.leaves in
+    c.act-done.ensures.leaves in
     let leaving = subst (λ (k : Kept). Leaves t k (done s t a) touched)
     c.take_offer.ensures.rest leaves in
     subst (λ (k : Kept). IsWhole k c.renew.new.self) (sym new.is)
@@ -124,6 +124,6 @@ returns-clause-lawful c = λ setup lawful.
     let a = c.in-Some-take_offer.action in
     let before = subst (λ (k : Kept). IsLawful setup k) (sym c.self.view_is) lawful in
     let there = subst (λ (k : Kept). t < length k.core.tasks) (sym c.self.view_is) c.in-Some.ensures.there in
-    let new = acted setup s c.take_offer.new.self c.act-acted.new.self t a before there
-    (sym c.in-Some-take_offer.ensures.taken) c.take_offer.ensures.rest c.act-acted.ensures.state in
+    let new = acted setup s c.take_offer.new.self c.act-done.new.self t a before there
+    (sym c.in-Some-take_offer.ensures.taken) c.take_offer.ensures.rest c.act-done.ensures.state in
     subst (λ (k : Kept). IsLawful setup k) (sym new.is) new.lawful
