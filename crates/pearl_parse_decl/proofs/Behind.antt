@@ -1,21 +1,27 @@
--- Why a part is not read, where one within it is not, behind others that were read.
-use Rattle.std.proofs.Common.{refl, ◌≡◌, ℕ, ◌+◌, ◌<◌, ◌≤◌, ◌||◌, true, sym, ap, ◌∙◌}
-use Rattle.std.proofs.Common.{max, Result, Ok, Err, IfOk, IfErr, Bool, List, Option, Some, None, ◌⊎◌, inl, inr}
+-- What is told of a whole whose parts are read, are not read, or may be missing.
+use Rattle.std.proofs.Common.{refl, ◌≡◌, ℕ, ◌+◌, ◌*◌, ◌<◌, ◌≤◌, ◌||◌, sym, ap, ◌∙◌}
+use Rattle.std.proofs.Common.{max, Result, Ok, Err, IfOk, IfErr, Bool, true, false, List, Vec, Option, Some, None, ◌⊎◌}
+use Rattle.std.proofs.Common.{inl, inr}
 use Rattle.std.proofs.Common.{length, subst, arith}
 use Rattle.pearl_tree.specs.declared.token.Token.{Token}
 use Rattle.pearl_tree.specs.declared.token.What.{What}
-use Rattle.pearl_tree.specs.Standing.{Spelling, SpellsMaybe, what_at}
+use Rattle.pearl_tree.specs.declared.token.What.TheVariants as what
+use Rattle.pearl_tree.specs.Standing.{Spelling, SpellsMaybe, SpellsFlag, what_at}
 use Rattle.pearl_tree.specs.Stops.{BeginAlike}
 use Rattle.pearl_parse_expr.specs.declared.reading.Halt.{Halt}
 use Rattle.pearl_parse_expr.specs.declared.reading.Halt.TheVariants.{Refused, NoMemory}
 use Rattle.pearl_parse_expr.specs.Stops.{IsLongest, IsOnly, IsAhead, Stuck, EndsEarly, IsHalted}
-use Rattle.pearl_parse_expr.specs.Least.{ReachesIn, GoesIn, HaltsIn, Reaches, GoesToHalt, IsLeast}
-use Rattle.pearl_parse_expr.specs.Reads.{ReadsOnlyAs, ReadsOnly, ReadsAs, ReadsMaybe}
+use Rattle.pearl_parse_expr.specs.Least.{AlikeBefore, ReachesIn, GoesIn, HaltsIn, Reaches, GoesToHalt, IsLeast}
+use Rattle.pearl_parse_expr.specs.Reads.{ReadsOnlyAs, ReadsOnly, ReadsAs, Reads, ReadsList, ReadsMaybe, ReadsMaybeList}
 use Rattle.pearl_parse_expr.specs.declared.reading.Reading.{Reading}
 use Rattle.pearl_parse_expr.proofs.Reaching.{IsLocal, goes, goes_as, goes_max, halts_as, reach_of, reaches_as}
+use Rattle.pearl_parse_expr.proofs.Reaching.{reaches_closed}
+use Rattle.pearl_tree.specs.Tokens.{IsLawfulWhat}
+use Rattle.std.specs.Option.{option_map}
 use Rattle.pearl_parse_expr.proofs.Reaching.{reaches_max}
-use Rattle.pearl_parse_decl.specs.Readings.{behind, IsPast, ReadsMaybePart}
+use Rattle.pearl_parse_decl.specs.Readings.{behind, IsOptional, IsPast, ReadsMaybePart}
 use Rattle.pearl_parse_expr.proofs.Parts.{shorter, or_first, or_second}
+use Rattle.pearl_parse_expr.proofs.Primaries.{clash}
 
 -- ---- no part is read
 
@@ -144,16 +150,6 @@ halts_behind spells whole tokens from at stop (Refused k) before step h r =
     let same : k ≡ max k stop = omega (arith, h.1) in
     subst (λ k. Reaches whole tokens from k) same (step k h.1 h.2 r)
 
--- the same, where some whole goes on as far as those parts were stopped
-pub halts_max : {X Y : Type 0} (spells : List Token → Spelling X) (whole : List Token →
-    Spelling Y) (tokens : List Token) (from at stop : ℕ) (halt : Halt) → Reaches whole tokens from stop →
-    ((k : ℕ) → at ≤ k → k ≤ length tokens → Reaches spells tokens at k → Reaches whole tokens from k) →
-    IsHalted spells tokens at halt → GoesToHalt spells tokens at halt →
-    GoesToHalt whole tokens from (behind halt stop)
-halts_max spells whole tokens from at stop NoMemory before step h r = tt
-halts_max spells whole tokens from at stop (Refused k) before step h r =
-    reaches_max whole tokens from k stop (max k stop) refl (step k h.1 h.2 r) before
-
 -- a part that is told as another one is
 pub least_as : {X Y Z : Type 0} (spells : List Token → Spelling X) (whole : List Token →
     Spelling Y) (tokens : List Token) (from : ℕ) (result : Result (Reading Z) Halt) →
@@ -166,29 +162,137 @@ least_as spells whole tokens from (Ok reading) step ahead none h =
 least_as spells whole tokens from (Err halt) step ahead none h =
     halts_as spells whole tokens from from halt (λ stop near within r. step stop within r) none h
 
--- ---- a part within a whole, as it was read
+-- ---- a part within a whole
 
-module _ {X Y : Type 0} {inner room : ℕ} (spells : List Token → Spelling X) (whole : List Token → Spelling Y)
-    (local : IsLocal spells) (tokens : List Token) (from at : ℕ)
-    (makes : (stop : ℕ) → at ≤ stop → stop ≤ length tokens → ReachesIn inner spells tokens at stop →
-    ReachesIn room whole tokens from stop)
-    (x : X) (end stop : ℕ) (h : spells tokens at x end) (ahead : IsAhead tokens at end stop)
-    (g : GoesIn inner spells tokens at end stop) where
-  -- behind it the token that closes the whole is missing
-  pub unclosed : ReachesIn room whole tokens from stop
-  unclosed = makes stop (omega (arith, ahead)) (omega (arith, ahead))
-      (reach_of spells tokens local at x end stop h (omega (arith, ahead)) (omega (arith, ahead)) g)
+-- a whole from `from` goes on as far as its part at `at` does
+pub record Holds {X Y : Type 0} (inner room : ℕ) (part : List Token → Spelling X) (whole : List Token → Spelling Y)
+    (tokens : List Token) (from at : ℕ) : Type 0 where
+  pub carries : (stop : ℕ) → at ≤ stop → stop ≤ length tokens → ReachesIn inner part tokens at stop →
+      ReachesIn room whole tokens from stop
 
-  -- one token closes the whole
-  pub closed : (last : ℕ) → last ≡ max stop (end + 1) → GoesIn room whole tokens from (end + 1) last
-  closed last is = goes_max whole tokens from stop (end + 1) last is unclosed
+-- it ends with the part
+pub ends_with : {X Y : Type 0} (part : List Token → Spelling X) (whole : List Token → Spelling Y)
+    (tokens : List Token) (from at : ℕ) → from ≤ at → ((others : List Token) (stop : ℕ) → at ≤ stop →
+    stop ≤ length others → AlikeBefore tokens others stop → (x : X) → part others at x (length others) →
+    (y : Y) × whole others from y (length others)) → Holds 16 16 part whole tokens from at
+ends_with part whole tokens from at before makes = record {
+  carries = λ stop near within r. reaches_as part whole tokens from at stop before
+      (λ others alike long short x h. makes others stop near long alike x h) r;
+}
 
-  -- the whole ends with it, or behind a part that may be missing, and some whole goes on as far as what stands before
-  -- it
-  pub joined : (to before last : ℕ) → last ≡ max stop before → ReachesIn room whole tokens from before →
-      GoesIn room whole tokens from to last
-  joined to before last is first = goes whole tokens from to last
-      (reaches_max whole tokens from stop before last is unclosed first)
+-- it ends with the part and one token
+pub closes_with : {X Y : Type 0} (part : List Token → Spelling X) (whole : List Token → Spelling Y) → IsLocal part →
+    (tokens : List Token) (from at : ℕ) → from < at → (last : Token) → IsLawfulWhat last.what →
+    ((others : List Token) (stop : ℕ) → at ≤ stop → stop ≤ length tokens → AlikeBefore tokens others stop →
+    length others + 8 * from ≤ 9 * stop + 16 → (m : ℕ) → length others ≡ m + 1 →
+    what_at others m ≡ Some last.what → (x : X) → part others at x m → (y : Y) × whole others from y (m + 1)) →
+    Holds 16 16 part whole tokens from at
+closes_with part whole local tokens from at before last known makes = record {
+  carries = λ stop near within r. reaches_closed part whole tokens from at stop last before known
+      (λ others alike short m size end x h. makes others stop near within alike short m size
+      (ap (option_map (λ token. token.what)) end) x h) local r;
+}
+
+-- a part as it was read, and stopped
+pub record WasRead {X : Type 0} (room : ℕ) (part : List Token → Spelling X) (tokens : List Token) (from : ℕ) (x : X)
+    (end stop : ℕ) : Type 0 where
+  pub spells : part tokens from x end
+  pub within : (from ≤ end) × (end ≤ stop) × (stop ≤ length tokens)
+  pub least : GoesIn room part tokens from end stop
+
+module _ {X : Type 0} {room : ℕ} {part : List Token → Spelling X} {tokens : List Token} {from : ℕ}
+    {reading : Reading X} where
+  pub only_is_read : ReadsOnly room part tokens from (Ok reading) →
+      WasRead room part tokens from reading.part reading.end reading.stop
+  only_is_read read = record {
+    spells = read.spells;
+    within = (omega (arith, read.ahead), read.ahead.1, read.ahead.2);
+    least = read.least;
+  }
+
+  module _ {extends : Option What → Bool} where
+    pub longest_is_read : Reads room part extends tokens from (Ok reading) →
+        WasRead room part tokens from reading.part reading.end reading.stop
+    longest_is_read read = record {
+      spells = read.spells;
+      within = (omega (arith, read.ahead), read.ahead.1, read.ahead.2);
+      least = read.least;
+    }
+
+    pub maybe_is_read : ReadsMaybePart room part extends tokens from (Ok reading) →
+        WasRead room part tokens from reading.part reading.end reading.stop
+    maybe_is_read read = record {
+      spells = read.spells;
+      within = (read.bounds.0, read.bounds.1, read.bounds.3);
+      least = read.least;
+    }
+
+pub list_is_read : {X A : Type 0} {room : ℕ} (part : List Token → Spelling (List X))
+    {extends : Option What → Bool} {tokens : List Token} {from : ℕ} {reading : Reading (Vec X A)} →
+    ReadsList room part extends tokens from (Ok reading) →
+    WasRead room part tokens from reading.part.items reading.end reading.stop
+list_is_read part read = record {
+  spells = read.spells;
+  within = (omega (arith, read.ahead), read.ahead.1, read.ahead.2);
+  least = read.least;
+}
+
+pub maybe_list_is_read : {X A : Type 0} {room : ℕ} (part : List Token → Spelling (List X))
+    {extends : Option What → Bool} {tokens : List Token} {from : ℕ} {reading : Reading (Vec X A)} →
+    ReadsMaybeList room part extends tokens from (Ok reading) →
+    WasRead room part tokens from reading.part.items reading.end reading.stop
+maybe_list_is_read part read = record {
+  spells = read.spells;
+  within = (read.bounds.0, read.bounds.1, read.bounds.3);
+  least = read.least;
+}
+
+module _ {X Y : Type 0} {inner room : ℕ} {part : List Token → Spelling X} {whole : List Token → Spelling Y}
+    {tokens : List Token} {from at : ℕ} (holds : Holds inner room part whole tokens from at) where
+  -- the part is not read
+  pub part_unread : {Z : Type 0} {told : List Token → Spelling Z} {halt : Halt} → IsHalted whole tokens from halt →
+      IsHalted part tokens at halt → HaltsIn inner part tokens at halt →
+      ReadsOnlyAs room told whole tokens from (Err halt)
+  part_unread {Z} {told} {halt} refused none least =
+      none_only refused (halts_as part whole tokens from at halt holds.carries none least)
+
+  module _ {x : X} {end stop : ℕ} (read : WasRead inner part tokens at x end stop) where
+    -- the whole ends with it
+    pub part_ends : {Z : Type 0} {told : List Token → Spelling Z} {extends : Option What → Bool} {z : Z} →
+        told tokens from z end → IsLongest whole extends tokens from end stop → IsAhead tokens from end stop →
+        ReadsAs room told whole extends tokens from (Ok (record { part = z; end = end; stop = stop }))
+    part_ends spells longest ahead = record {
+      spells = spells;
+      longest = longest;
+      ahead = ahead;
+      refused = tt;
+      least = goes_as part whole tokens from at end stop
+          (λ r. holds.carries stop (omega (arith, read.within)) read.within.2 r) read.least;
+    }
+
+    module _ (local : IsLocal part) where
+      -- as far as it was stopped some whole goes on
+      pub unclosed : ReachesIn room whole tokens from stop
+      unclosed =
+          holds.carries stop (omega (arith, read.within)) read.within.2
+          (reach_of part tokens local at x end stop read.spells read.within.0 (omega (arith, read.within)) read.least)
+
+      -- the token is missing that closes the whole
+      pub part_unclosed : {Z : Type 0} {told : List Token → Spelling Z} → IsHalted whole tokens from (Refused stop) →
+          ReadsOnlyAs room told whole tokens from (Err (Refused stop))
+      part_unclosed none = none_only none unclosed
+
+      -- it closes the whole
+      pub part_closed : {Z : Type 0} {told : List Token → Spelling Z} {z : Z} {last : ℕ} → last ≡ max stop (end + 1) →
+          told tokens from z (end + 1) → IsOnly whole tokens from (end + 1) last → IsAhead tokens from (end + 1) last →
+          ReadsOnlyAs room told whole tokens from (Ok (record { part = z; end = end + 1; stop = last }))
+      part_closed {Z} {told} {z} {last} is spells only ahead = record {
+        spells = spells;
+        only = only;
+        ahead = ahead;
+        refused = tt;
+        least = goes_max whole tokens from stop (end + 1) last is unclosed;
+      }
 
 -- a part within a whole isn't read, behind others that were stopped
 module _ {X Y Z : Type 0} (spells : List Token → Spelling X) (whole : List Token → Spelling Y)
@@ -202,19 +306,36 @@ module _ {X Y Z : Type 0} (spells : List Token → Spelling X) (whole : List Tok
       subst (λ halt. ReadsAs 16 told whole extends tokens from (Err halt)) (sym is)
       (none_read (halted_behind spells whole tokens from at stop halt on within has none) least)
 
+module _ {X Y : Type 0} {part : List Token → Spelling X} {whole : List Token → Spelling Y}
+    {tokens : List Token} {from at : ℕ} (holds : Holds 16 16 part whole tokens from at) (stop : ℕ)
+    (before : Reaches whole tokens from stop) where
+  halts_max : (halt : Halt) → IsHalted part tokens at halt → GoesToHalt part tokens at halt →
+      GoesToHalt whole tokens from (behind halt stop)
+  halts_max NoMemory none least = tt
+  halts_max (Refused k) none least =
+      reaches_max whole tokens from k stop (max k stop) refl (holds.carries k none.1 none.2 least) before
+
+  -- the same, where some whole goes on as far as those parts were stopped
+  pub unread_behind : {Z : Type 0} {told : List Token → Spelling Z} {extends : Option What → Bool}
+      {result : Halt} (halt : Halt) → result ≡ behind halt stop → from ≤ at → stop ≤ length tokens →
+      Has part whole tokens from at stop → IsHalted part tokens at halt → GoesToHalt part tokens at halt →
+      ReadsAs 16 told whole extends tokens from (Err result)
+  unread_behind {Z} {told} {extends} {result} halt is on within has none least =
+      read_behind part whole tokens from at stop halt result is on within has none (halts_max halt none least)
+
 -- ---- a part that may be missing
 
 module _ {X : Type 0} (spells : List Token → Spelling X) (extends : Option What → Bool) (tokens : List Token)
     (from : ℕ) where
   -- what may be missing goes on as it does where it stands
-  pub maybe_reaches : (stop : ℕ) → Reaches spells tokens from stop →
+  maybe_reaches : (stop : ℕ) → Reaches spells tokens from stop →
       Reaches (λ tokens. SpellsMaybe (spells tokens)) tokens from stop
   maybe_reaches stop r =
       reaches_as spells (λ tokens. SpellsMaybe (spells tokens)) tokens from from stop (omega arith)
       (λ others alike long short x h. (Some x, h)) r
 
   -- it is missing
-  pub maybe_missing : (stop : ℕ) → IsHalted spells tokens from (Refused stop) →
+  maybe_missing : (stop : ℕ) → IsHalted spells tokens from (Refused stop) →
       Reaches spells tokens from stop →
       ReadsMaybePart 16 (λ tokens. SpellsMaybe (spells tokens)) extends tokens from
       (Ok (record { part = None; end = from; stop = stop }))
@@ -227,7 +348,7 @@ module _ {X : Type 0} (spells : List Token → Spelling X) (extends : Option Wha
   }
 
   -- it stands there
-  pub maybe_stands : (reading : Reading X) → extends (what_at tokens from) ≡ true →
+  maybe_stands : (reading : Reading X) → extends (what_at tokens from) ≡ true →
       ReadsOnly 16 spells tokens from (Ok reading) →
       ReadsMaybePart 16 (λ tokens. SpellsMaybe (spells tokens)) extends tokens from
       (Ok (record { part = Some reading.part; end = reading.end; stop = reading.stop }))
@@ -241,3 +362,23 @@ module _ {X : Type 0} (spells : List Token → Spelling X) (extends : Option Wha
     least = goes_as spells (λ tokens. SpellsMaybe (spells tokens)) tokens from from reading.end reading.stop
         (maybe_reaches reading.stop) read.least;
   }
+
+  -- either, as it is told
+  pub maybe_reads : (opens : (x : X) (to : ℕ) → spells tokens from x to → extends (what_at tokens from) ≡ true)
+      (read : Result (Reading X) Halt) (maybe : Reading (Option X)) → IsOptional from read maybe →
+      ReadsOnly 16 spells tokens from read →
+      ReadsMaybePart 16 (λ tokens. SpellsMaybe (spells tokens)) extends tokens from (Ok maybe)
+  maybe_reads opens (Ok reading) maybe is read =
+      subst (λ maybe. ReadsMaybePart 16 (λ tokens. SpellsMaybe (spells tokens)) extends tokens from (Ok maybe)) (sym is)
+      (maybe_stands reading (opens reading.part reading.end read.spells) read)
+  maybe_reads opens (Err (Refused stop)) maybe is none =
+      subst (λ maybe. ReadsMaybePart 16 (λ tokens. SpellsMaybe (spells tokens)) extends tokens from (Ok maybe)) (sym is)
+      (maybe_missing stop none.refused none.least)
+  maybe_reads opens (Err NoMemory) maybe is none = absurd is
+
+-- where a token stands that is not this word, no flag does
+pub no_flag : (first : Option What → Bool) (word : ℕ) → first (Some (what.Word word)) ≡ false →
+    (others : List Token) (m : ℕ) (stands : Bool) (to : ℕ) → SpellsFlag others word m stands to →
+    first (what_at others m) ≡ true → to ≡ m
+no_flag first word other others m false to h opens = h
+no_flag first word other others m true to h opens = absurd (clash _ opens (ap first h.0 ∙ other))

@@ -2,7 +2,6 @@
 use Rattle.std.proofs.Common.{◌≡◌, ℕ, ◌+◌, ◌<◌, ◌≤◌, ◌^◌, ◌⊎◌, max, Bool, true, false}
 use Rattle.std.proofs.Common.{List, [], ◌∷◌, Option, Vec, Global, Ok, Err, length, codes, refl, sym, ap, subst}
 use Rattle.std.proofs.Common.{◌∙◌, arith}
-use Rattle.std.specs.Option.{option_map}
 use Rattle.pearl_tree.specs.declared.name.Name.{Name}
 use Rattle.pearl_tree.specs.declared.name.Names.{Names}
 use Rattle.pearl_tree.specs.declared.parts.Parts.{Parts}
@@ -30,28 +29,29 @@ use Rattle.pearl_tree.specs.Declarations.{SpellsSpec, SpellsParam, direction_wor
 use Rattle.pearl_tree.specs.Modules.{SpellsDecl}
 use Rattle.pearl_tree.specs.declared.symbol.TheConstants as s
 use Rattle.pearl_tree.specs.declared.word_code.TheConstants as w
-use Rattle.pearl_parse_expr.specs.Least.{AlikeBefore, ReachesIn, Reaches, GoesTo}
+use Rattle.pearl_parse_expr.specs.Least.{AlikeBefore, Reaches, GoesTo}
 use Rattle.pearl_parse_expr.proofs.Ids.{x_name, x_token, x_lawful}
 use Rattle.pearl_parse_expr.proofs.Local as local
-use Rattle.pearl_parse_expr.proofs.Reaching.{IsLocal, Lawful, begun, completed, goes, goes_as, halts_as, reach_of}
-use Rattle.pearl_parse_expr.proofs.Reaching.{reaches_max, reaches_as, reaches_as_in, reaches_closed, one_lawful}
+use Rattle.pearl_parse_expr.proofs.Reaching.{IsLocal, Lawful, begun, completed, goes, goes_as, halts_as}
+use Rattle.pearl_parse_expr.proofs.Reaching.{reaches_max, reaches_as, reaches_as_in, one_lawful}
 use Rattle.pearl_parse_expr.proofs.Reaching.{none_lawful, placed_within, what_stands, place_stands}
 use Rattle.pearl_parse_expr.proofs.Trees.{parts_of}
 use Rattle.pearl_parse_expr.specs.declared.reading.Halt.{Halt}
 use Rattle.pearl_parse_expr.specs.declared.reading.Halt.TheVariants.{Refused}
 use Rattle.pearl_parse_expr.specs.declared.reading.Reading.{Reading}
 use Rattle.pearl_parse_expr.specs.Reads.{Reads, ReadsMaybeList}
-use Rattle.pearl_parse_expr.specs.Stops.{IsLongest, EndsEarly, is_name, is_word}
-use Rattle.pearl_parse_expr.proofs.Parts.{shorter}
+use Rattle.pearl_parse_expr.specs.Stops.{IsLongest, EndsEarly, StopsWithin, is_name, is_word}
+use Rattle.pearl_parse_expr.proofs.Parts.{shorter, or_first, or_second}
 use Rattle.pearl_parse_expr.proofs.Primaries.{word_within}
 use Rattle.pearl_tree.specs.Stops.{BeginAlike}
 use Rattle.pearl_tree.specs.declared.token.What.{What}
 use Rattle.pearl_tree.specs.declared.literal.Const.{Const}
 use Rattle.pearl_tree.specs.declared.declaration.Item.{Item}
-use Rattle.pearl_tree.specs.declared.declaration.Sema.{Sema}
 use Rattle.pearl_parse_decl.specs.Readings.{IsSelfContained, IsPast, ReadsMaybePart, behind, by_bracket}
-use Rattle.pearl_parse_decl.specs.Readings.{extends_item, extends_declared, extends_spec}
-use Rattle.pearl_parse_decl.proofs.Behind.{none_read, halted_past, halts_max, ends_as, read_behind, unclosed}
+use Rattle.pearl_parse_decl.specs.Readings.{extends_item, extends_sema, extends_declared, extends_spec}
+use Rattle.pearl_parse_decl.proofs.Behind.{Holds, closes_with, ends_with, none_read, halted_past, ends_as}
+use Rattle.pearl_parse_decl.proofs.Behind.{longest_is_read, maybe_is_read}
+use Rattle.pearl_parse_decl.proofs.Behind.{maybe_list_is_read, only_is_read, unread_behind, unclosed}
 use Rattle.pearl_parse_decl.proofs.Items as items
 use Rattle.pearl_parse_decl.proofs.Items.{init_last, only_sema, only_item}
 use Rattle.pearl_parse_decl.proofs.Specifications.{only_dation, only_direction, control_last}
@@ -62,15 +62,14 @@ use Rattle.pearl_parse_decl.proofs.LocalLists.{number_keeps, flag_keeps}
 use Rattle.pearl_parse_decl.proofs.LocalDeclarations.{bounds_keep, const_keeps, whole_typing_keeps, class_keeps}
 use Rattle.pearl_parse_decl.proofs.LocalDeclarations.{control_keeps, declared_keeps, spec_keeps}
 use Rattle.pearl_parse_decl.proofs.TypeReach.{NamesRead, BoundsRead, clock, clock_stands, names_are_local}
-use Rattle.pearl_parse_decl.proofs.TypeReach.{bounds_are_local, names_read, bounds_read, names_then, bounds_then}
+use Rattle.pearl_parse_decl.proofs.TypeReach.{bounds_are_local, names_then, bounds_then}
 use Rattle.pearl_parse_decl.proofs.TypeReach.{names_ahead}
 
 -- ---- items
 
-pub item_names : (tokens : List Token) (from stop : ℕ) → ReachesIn 9 SpellsNames tokens from stop →
-    Reaches SpellsItem tokens from stop
-item_names tokens from stop r =
-    names_then SpellsItem tokens from stop clock (omega arith)
+pub item_names : (tokens : List Token) (from : ℕ) → Holds 9 16 SpellsNames SpellsItem tokens from from
+item_names tokens from =
+    names_then SpellsItem tokens from clock (omega arith)
     (λ others names m at here h last. (
       record {
         names = names;
@@ -81,13 +80,12 @@ item_names tokens from stop r =
         place = at;
       },
       (m, m, m, m + 1, here, h, refl, refl, clock_stands others m last, refl),
-    )) r
+    ))
 
 module _ (tokens : List Token) (from : ℕ) (names : Names) (a : ℕ) (named : SpellsNames tokens from names a) where
-  pub item_bounds : (stop : ℕ) → a ≤ stop → ReachesIn 9 SpellsBounds tokens a stop →
-      Reaches SpellsItem tokens from stop
-  item_bounds stop near r =
-      bounds_then tokens from names a named SpellsItem stop clock (omega arith) near
+  pub item_bounds : Holds 9 16 SpellsBounds SpellsItem tokens from a
+  item_bounds =
+      bounds_then tokens from names a named SpellsItem clock (omega arith)
       (λ others bounds b at here h g last. (
         record {
           names = names;
@@ -98,7 +96,7 @@ module _ (tokens : List Token) (from : ℕ) (names : Names) (a : ℕ) (named : S
           place = at;
         },
         (a, b, b, b + 1, here, h, g, refl, clock_stands others b last, refl),
-      )) r
+      ))
 
   module _ (bounds : Parts Bound) (b : ℕ) (bounded : SpellsBounds tokens a bounds b) (inv : Bool) (c : ℕ)
       (flagged : SpellsFlag tokens w.INV b inv c) where
@@ -154,12 +152,11 @@ module _ (tokens : List Token) (from : ℕ) (names : Names) (a : ℕ) (named : S
           refl,
         ))
 
-    pub item_typing : (stop : ℕ) → c ≤ stop → Reaches SpellsWholeTyping tokens c stop →
-        Reaches SpellsItem tokens from stop
-    item_typing stop near r =
-        reaches_as SpellsWholeTyping SpellsItem tokens from c stop (omega (arith, ahead))
-        (λ others alike long short x h.
-        let first = before others stop alike near (omega arith) in (
+    pub item_typing : Holds 16 16 SpellsWholeTyping SpellsItem tokens from c
+    item_typing =
+        ends_with SpellsWholeTyping SpellsItem tokens from c (omega (arith, ahead))
+        (λ others stop near long alike x h.
+        let first = before others stop alike near (omega (arith, near, long)) in (
           record {
             names = names;
             bounds = bounds;
@@ -169,42 +166,42 @@ module _ (tokens : List Token) (from : ℕ) (names : Names) (a : ℕ) (named : S
             place = first.0;
           },
           (a, b, c, length others, first.1, first.2, first.3, first.4, h, refl),
-        )) r
+        ))
 
-    pub item_init : (part : Typing) (d stop : ℕ) → SpellsWholeTyping tokens c part d → d ≤ stop →
-        length tokens < 2 ^ 55 → stop ≤ length tokens →
-        ReachesIn 9 (λ tokens. SpellsMaybeHeaded tokens w.INIT (SpellsConst tokens)) tokens d stop →
-        Reaches SpellsItem tokens from stop
-    item_init part d stop typed near few within r =
-        let behind = after_of 1 SpellsWholeTyping whole_typing_keeps tokens c part d typed in
-        reaches_as_in (λ tokens. SpellsMaybeHeaded tokens w.INIT (SpellsConst tokens)) SpellsItem tokens from d 9 16
-        stop (omega (arith, ahead, behind))
-        (λ others alike long short xs h.
-        let first = before others stop alike (omega (arith, behind)) (omega (arith, behind)) in
-        let all = maybe_headed_long others (SpellsConst others) (after_of 1 SpellsConst const_keeps others) w.INIT d xs
-        (length others) h in
-        let small : length xs < 2 ^ 63 = omega (arith, all) in (
-          record {
-            names = names;
-            bounds = bounds;
-            inv = inv;
-            typing = part;
-            init = parts_of xs small;
-            place = first.0;
-          },
-          (
-            a,
-            b,
-            c,
-            d,
-            first.1,
-            first.2,
-            first.3,
-            first.4,
-            (whole_typing_keeps tokens others stop alike c part d typed near).1,
-            h,
-          ),
-        )) r
+    pub item_init : (part : Typing) (d : ℕ) → SpellsWholeTyping tokens c part d → length tokens < 2 ^ 55 →
+        Holds 9 16 (λ tokens. SpellsMaybeHeaded tokens w.INIT (SpellsConst tokens)) SpellsItem tokens from d
+    item_init part d typed few = record {
+      carries = λ stop near within r.
+          let behind = after_of 1 SpellsWholeTyping whole_typing_keeps tokens c part d typed in
+          reaches_as_in (λ tokens. SpellsMaybeHeaded tokens w.INIT (SpellsConst tokens)) SpellsItem tokens from d 9 16
+          stop (omega (arith, ahead, behind))
+          (λ others alike long short xs h.
+          let first = before others stop alike (omega (arith, behind, near)) (omega (arith, behind, near, long)) in
+          let all = maybe_headed_long others (SpellsConst others) (after_of 1 SpellsConst const_keeps others) w.INIT d
+          xs (length others) h in
+          let small : length xs < 2 ^ 63 = omega (arith, all, few, within, short) in (
+            record {
+              names = names;
+              bounds = bounds;
+              inv = inv;
+              typing = part;
+              init = parts_of xs small;
+              place = first.0;
+            },
+            (
+              a,
+              b,
+              c,
+              d,
+              first.1,
+              first.2,
+              first.3,
+              first.4,
+              (whole_typing_keeps tokens others stop alike c part d typed near).1,
+              h,
+            ),
+          )) r;
+    }
 
 pub inits_are_local : IsLocal (λ tokens. SpellsMaybeHeaded tokens w.INIT (SpellsConst tokens))
 inits_are_local =
@@ -223,17 +220,15 @@ module _ (tokens : List Token) (from : ℕ) (names : Reading Names) (named : Nam
   before_type =
       reaches_max SpellsItem tokens from first inv.end stop (omega (arith, later, once))
       (reaches_max SpellsItem tokens from names.stop bounds.stop first is
-      (item_names tokens from names.stop (names_read tokens from names named))
-      (item_bounds tokens from names.part names.end named.spells bounds.stop (omega (arith, bounded.bounds))
-      (bounds_read tokens names.end bounds bounded)))
+      (unclosed (item_names tokens from) (only_is_read named) names_are_local)
+      (unclosed (item_bounds tokens from names.part names.end named.spells) (maybe_is_read bounded) bounds_are_local))
       (item_inv tokens from names.part names.end named.spells bounds.part bounds.end bounded.spells inv.part inv.end
       flagged.spells (omega (arith, flagged.bounds)))
 
-  with_type : (k : ℕ) → inv.end ≤ k → k ≤ length tokens → Reaches SpellsWholeTyping tokens inv.end k →
-      Reaches SpellsItem tokens from k
-  with_type k near within r =
+  with_type : Holds 16 16 SpellsWholeTyping SpellsItem tokens from inv.end
+  with_type =
       item_typing tokens from names.part names.end named.spells bounds.part bounds.end bounded.spells inv.part inv.end
-      flagged.spells k near r
+      flagged.spells
 
   type_of : (others : List Token) (k : ℕ) → stop ≤ k → BeginAlike tokens others k →
       (x : Item) (to : ℕ) → SpellsItem others from x to →
@@ -248,13 +243,10 @@ module _ (tokens : List Token) (from : ℕ) (names : Reading Names) (named : Nam
       Reads 16 SpellsWholeTyping by_bracket tokens inv.end (Err halt) →
       Reads 16 SpellsItem extends_item tokens from (Err result)
   item_unread halt result same none =
-      read_behind SpellsWholeTyping SpellsItem tokens from inv.end stop halt result same
-      (omega (arith, named.ahead, bounded.bounds, flagged.bounds))
+      unread_behind with_type stop before_type halt same (omega (arith, named.ahead, bounded.bounds, flagged.bounds))
       (omega (arith, is, later, named.ahead, bounded.bounds, flagged.bounds))
       (λ others agree x to h. let read = type_of others stop (omega arith) agree x to h in (x.typing, read.0, read.1))
-      none.refused
-      (halts_max SpellsWholeTyping SpellsItem tokens from inv.end stop halt before_type with_type
-      none.refused none.least)
+      none.refused none.least
 
   module _ (part : Reading Typing) (read : Reads 16 SpellsWholeTyping by_bracket tokens inv.end (Ok part))
       (init : Reading (Vec Const Global))
@@ -272,17 +264,13 @@ module _ (tokens : List Token) (from : ℕ) (names : Reading Names) (named : Nam
     pub item_goes : length tokens < 2 ^ 55 → GoesTo SpellsItem tokens from init.end end
     item_goes few =
         let with_init = item_init tokens from names.part names.end named.spells bounds.part bounds.end bounded.spells
-        inv.part inv.end flagged.spells part.part part.end init.stop
-        read.spells (omega (arith, last.bounds)) few (omega (arith, last.bounds))
-        (reach_of (λ tokens. SpellsMaybeHeaded tokens w.INIT (SpellsConst tokens)) tokens inits_are_local part.end
-        init.part.items init.end init.stop last.spells
-        (omega (arith, last.bounds)) (omega (arith, last.bounds)) last.least) in
-        let with_part = unclosed SpellsWholeTyping SpellsItem (local_of 1 SpellsWholeTyping whole_typing_keeps) tokens
-        from inv.end with_type part.part part.end part.stop read.spells
-        read.ahead read.least in
+        inv.part inv.end flagged.spells part.part part.end read.spells few in
         goes SpellsItem tokens from init.end end
-        (reaches_max SpellsItem tokens from init.stop second end all with_init
-        (reaches_max SpellsItem tokens from part.stop stop second next with_part before_type))
+        (reaches_max SpellsItem tokens from init.stop second end all
+        (unclosed with_init (maybe_list_is_read (λ tokens. SpellsMaybeHeaded tokens w.INIT (SpellsConst tokens)) last)
+        inits_are_local)
+        (reaches_max SpellsItem tokens from part.stop stop second next
+        (unclosed with_type (longest_is_read read) (local_of 1 SpellsWholeTyping whole_typing_keeps)) before_type))
 
 -- ---- semaphores
 
@@ -292,64 +280,68 @@ presets_are_local =
     (λ tokens others k alike. maybe_headed_keeps tokens others k alike 1 SpellsNumber
     (number_keeps tokens others k alike) w.PRESET)
 
-pub sema_names : (tokens : List Token) (from stop : ℕ) → ReachesIn 9 SpellsNames tokens from stop →
-    Reaches SpellsSema tokens from stop
-sema_names tokens from stop r =
-    names_then SpellsSema tokens from stop (word w.SEMA) (omega arith)
+pub sema_names : (tokens : List Token) (from : ℕ) → Holds 9 16 SpellsNames SpellsSema tokens from from
+sema_names tokens from =
+    names_then SpellsSema tokens from (word w.SEMA) (omega arith)
     (λ others names m at here h last.
-    (record { names = names; preset = parts_of [] (omega arith); place = at }, (m, here, h, last.0, refl))) r
+    (record { names = names; preset = parts_of [] (omega arith); place = at }, (m, here, h, last.0, refl)))
 
-pub sema_preset : (tokens : List Token) (from : ℕ) (names : Names) (a stop : ℕ) →
-    SpellsNames tokens from names a → HasWord tokens a w.SEMA → a < stop →
-    length tokens < 2 ^ 55 → stop ≤ length tokens →
-    ReachesIn 9 (λ tokens. SpellsMaybeHeaded tokens w.PRESET (SpellsNumber tokens)) tokens (a + 1) stop →
-    Reaches SpellsSema tokens from stop
-sema_preset tokens from names a stop named sema near few within r =
-    let ahead = names_ahead tokens from names a named in
-    reaches_as_in (λ tokens. SpellsMaybeHeaded tokens w.PRESET (SpellsNumber tokens)) SpellsSema tokens from
-    (a + 1) 9 16 stop (omega arith)
-    (λ others alike long short xs h.
-    let at = placed_within others from (omega arith) in
-    let all = maybe_headed_long others (SpellsNumber others) (λ from x to g. omega (arith, g.1)) w.PRESET (a + 1) xs
-    (length others) h in
-    let small : length xs < 2 ^ 63 = omega (arith, all) in (
-      record { names = names; preset = parts_of xs small; place = at.0 },
-      (
-        a,
-        at.1,
-        names_are_local tokens others stop alike from names a named (omega arith),
-        local.what tokens others stop alike a near ∙ sema,
-        h,
-      ),
-    )) r
+pub sema_preset : (tokens : List Token) (from : ℕ) (names : Names) (a : ℕ) → SpellsNames tokens from names a →
+    HasWord tokens a w.SEMA → length tokens < 2 ^ 55 →
+    Holds 9 16 (λ tokens. SpellsMaybeHeaded tokens w.PRESET (SpellsNumber tokens)) SpellsSema tokens from (a + 1)
+sema_preset tokens from names a named sema few = record {
+  carries = λ stop near within r.
+      let ahead = names_ahead tokens from names a named in
+      reaches_as_in (λ tokens. SpellsMaybeHeaded tokens w.PRESET (SpellsNumber tokens)) SpellsSema tokens from
+      (a + 1) 9 16 stop (omega (arith, ahead))
+      (λ others alike long short xs h.
+      let at = placed_within others from (omega (arith, ahead, near, long)) in
+      let all = maybe_headed_long others (SpellsNumber others) (λ from x to g. omega (arith, g.1)) w.PRESET (a + 1) xs
+      (length others) h in
+      let small : length xs < 2 ^ 63 = omega (arith, all, few, within, short) in (
+        record { names = names; preset = parts_of xs small; place = at.0 },
+        (
+          a,
+          at.1,
+          names_are_local tokens others stop alike from names a named (omega (arith, near)),
+          local.what tokens others stop alike a (omega (arith, near)) ∙ sema,
+          h,
+        ),
+      )) r;
+}
 
 -- ---- variables and semaphores
 
-pub declared_item : (tokens : List Token) (from stop : ℕ) → Reaches SpellsItem tokens from stop →
-    Reaches SpellsDeclared tokens from stop
-declared_item tokens from stop r = reaches_as SpellsItem SpellsDeclared tokens from from stop (omega arith)
-    (λ others alike long short x h. (declared.Item x, h)) r
+pub declared_names : (tokens : List Token) (from : ℕ) → Holds 9 16 SpellsNames SpellsDeclared tokens from from
+declared_names tokens from = record {
+  carries = λ stop near within r.
+      reaches_as SpellsItem SpellsDeclared tokens from from stop (omega arith)
+      (λ others alike long short x h. (declared.Item x, h)) ((item_names tokens from).carries stop near within r);
+}
 
 -- what is declared is of one kind, by what follows its names
-module _ {X : Type 0} (spells : List Token → Spelling X) (extends : Option What → Bool)
-    (more : (token : Option What) → extends token ≡ true → extends_declared token ≡ true)
-    (wrap : X → Declared) (wrapped : (others : List Token) (from : ℕ) (x : X) (to : ℕ) →
-    spells others from x to → SpellsDeclared others from (wrap x) to)
-    (tokens : List Token) (from stop : ℕ)
-    (only : (others : List Token) → BeginAlike tokens others stop → (x : Declared) (to : ℕ) →
-    SpellsDeclared others from x to → (x : X) × (k : ℕ) × spells others from x k × (k ≡ to)) where
+pub record IsKind {X : Type 0} (spells : List Token → Spelling X) (extends : Option What → Bool) (wrap : X → Declared)
+    (tokens : List Token) (from stop : ℕ) : Type 0 where
+  pub more : (token : Option What) → extends token ≡ true → extends_declared token ≡ true
+  pub wrapped : (others : List Token) (x : X) (to : ℕ) → spells others from x to →
+      SpellsDeclared others from (wrap x) to
+  pub only : (others : List Token) → BeginAlike tokens others stop → (x : Declared) (to : ℕ) →
+      SpellsDeclared others from x to → (x : X) × (k : ℕ) × spells others from x k × (k ≡ to)
+
+module _ {X : Type 0} {spells : List Token → Spelling X} {extends : Option What → Bool} {wrap : X → Declared}
+    {tokens : List Token} {from stop : ℕ} (kind : IsKind spells extends wrap tokens from stop) where
   reaches_so : (k : ℕ) → Reaches spells tokens from k → Reaches SpellsDeclared tokens from k
   reaches_so k r = reaches_as spells SpellsDeclared tokens from from k (omega arith)
-      (λ others alike long short x h. (wrap x, wrapped others from x (length others) h)) r
+      (λ others alike long short x h. (wrap x, kind.wrapped others x (length others) h)) r
 
   pub kind_read : (part : Reading X) → stop ≤ part.stop → Reads 16 spells extends tokens from (Ok part) →
       Reads 16 SpellsDeclared extends_declared tokens from
       (Ok (record { part = wrap part.part; end = part.end; stop = part.stop }))
   kind_read part far read = record {
-    spells = wrapped tokens from part.part part.end read.spells;
+    spells = kind.wrapped tokens part.part part.end read.spells;
     longest = λ others agree x to h.
-        let found = only others (shorter tokens others stop part.stop far agree) x to h in
-        ends_as extends extends_declared others part.end to more
+        let found = kind.only others (shorter tokens others stop part.stop far agree) x to h in
+        ends_as extends extends_declared others part.end to kind.more
         (subst (λ k. (k ≡ part.end) ⊎ EndsEarly extends others part.end k) found.3
         (read.longest others agree found.0 found.1 found.2));
     ahead = read.ahead;
@@ -362,58 +354,59 @@ module _ {X : Type 0} (spells : List Token → Spelling X) (extends : Option Wha
   kind_unread halt past none =
       none_read
       (halted_past spells SpellsDeclared tokens from stop halt past
-      (λ others agree x to h. let found = only others agree x to h in (found.0, found.1, found.2)) none.refused)
+      (λ others agree x to h. let found = kind.only others agree x to h in (found.0, found.1, found.2)) none.refused)
       (halts_as spells SpellsDeclared tokens from from halt (λ k near within r. reaches_so k r)
       none.refused none.least)
 
 -- the names that were read, and whether SEMA stands behind them
 module _ (tokens : List Token) (from : ℕ) (names : Reading Names) (named : NamesRead tokens from names) where
-  pub sema_only : is_word w.SEMA (what_at tokens names.end) ≡ true → (others : List Token) →
-      BeginAlike tokens others names.stop → (x : Declared) (to : ℕ) →
-      SpellsDeclared others from x to → (x : Sema) × (k : ℕ) × SpellsSema others from x k × (k ≡ to)
-  sema_only stands others agree =
-      only_sema others from names.end
-      (ap (is_word w.SEMA) (sym (agree names.end (omega (arith, named.ahead)))) ∙ stands)
-      (λ x to h. named.only others agree x to h)
+  pub sema_kind : is_word w.SEMA (what_at tokens names.end) ≡ true →
+      IsKind SpellsSema extends_sema (λ x. declared.Sema x) tokens from names.stop
+  sema_kind stands = record {
+    more = λ token h. or_second (extends_item token) (extends_sema token) h;
+    wrapped = λ others x to h. h;
+    only = λ others agree. only_sema others from names.end
+        (ap (is_word w.SEMA) (sym (agree names.end (omega (arith, named.ahead)))) ∙ stands)
+        (λ x to h. named.only others agree x to h);
+  }
 
-  pub item_only : is_word w.SEMA (what_at tokens names.end) ≡ false → (others : List Token) →
-      BeginAlike tokens others names.stop → (x : Declared) (to : ℕ) →
-      SpellsDeclared others from x to → (x : Item) × (k : ℕ) × SpellsItem others from x k × (k ≡ to)
-  item_only none others agree =
-      only_item others from names.end
-      (ap (is_word w.SEMA) (sym (agree names.end (omega (arith, named.ahead)))) ∙ none)
-      (λ x to h. named.only others agree x to h)
+  pub item_kind : is_word w.SEMA (what_at tokens names.end) ≡ false →
+      IsKind SpellsItem extends_item (λ x. declared.Item x) tokens from names.stop
+  item_kind none = record {
+    more = λ token h. or_first (extends_item token) (extends_sema token) h;
+    wrapped = λ others x to h. h;
+    only = λ others agree. only_item others from names.end
+        (ap (is_word w.SEMA) (sym (agree names.end (omega (arith, named.ahead)))) ∙ none)
+        (λ x to h. named.only others agree x to h);
+  }
 
 -- ---- parameters
 
-pub param_names : (tokens : List Token) (from stop : ℕ) → ReachesIn 9 SpellsNames tokens from stop →
-    Reaches SpellsParam tokens from stop
-param_names tokens from stop r =
-    names_then SpellsParam tokens from stop clock (omega arith)
+pub param_names : (tokens : List Token) (from : ℕ) → Holds 9 16 SpellsNames SpellsParam tokens from from
+param_names tokens from =
+    names_then SpellsParam tokens from clock (omega arith)
     (λ others names m at here h last. (
       record { names = names; basic = basic.Clock 0; ident = false; place = at },
       (m, m + 1, here, h, clock_stands others m last, refl),
-    )) r
+    ))
 
-pub param_basic : (tokens : List Token) (from : ℕ) (names : Names) (a stop : ℕ) →
-    SpellsNames tokens from names a → a ≤ stop → Reaches SpellsBasic tokens a stop →
-    Reaches SpellsParam tokens from stop
-param_basic tokens from names a stop named near r =
+pub param_basic : (tokens : List Token) (from : ℕ) (names : Names) (a : ℕ) → SpellsNames tokens from names a →
+    Holds 16 16 SpellsBasic SpellsParam tokens from a
+param_basic tokens from names a named =
     let ahead = names_ahead tokens from names a named in
-    reaches_as SpellsBasic SpellsParam tokens from a stop (omega arith)
-    (λ others alike long short x h.
-    let at = placed_within others from (omega arith) in (
+    ends_with SpellsBasic SpellsParam tokens from a (omega (arith, ahead))
+    (λ others stop near long alike x h.
+    let at = placed_within others from (omega (arith, ahead, near, long)) in (
       record { names = names; basic = x; ident = false; place = at.0 },
       (a, length others, at.1, names_are_local tokens others stop alike from names a named near, h, refl),
-    )) r
+    ))
 
 -- ---- specifications
 
-pub spec_names : (tokens : List Token) (from stop : ℕ) → ReachesIn 9 SpellsNames tokens from stop →
-    Reaches SpellsSpec tokens from stop
-spec_names tokens from stop r =
-    names_then SpellsSpec tokens from stop (word w.INTERRUPT) (omega arith)
-    (λ others names m at here h last. (spec.Interrupt names at, (m, here, h, last.0, refl))) r
+pub spec_names : (tokens : List Token) (from : ℕ) → Holds 9 16 SpellsNames SpellsSpec tokens from from
+spec_names tokens from =
+    names_then SpellsSpec tokens from (word w.INTERRUPT) (omega arith)
+    (λ others names m at here h last. (spec.Interrupt names at, (m, here, h, last.0, refl)))
 
 module _ (tokens : List Token) (from : ℕ) (names : Names) (a : ℕ) (named : SpellsNames tokens from names a)
     (dation : HasWord tokens a w.DATION) where
@@ -441,46 +434,45 @@ module _ (tokens : List Token) (from : ℕ) (names : Names) (a : ℕ) (named : S
       ))
 
   module _ (direction : Direction) (directed : HasWord tokens (a + 1) (direction_word direction)) where
-    pub spec_class : (stop : ℕ) → a + 1 < stop → Reaches SpellsClass tokens (a + 2) stop →
-        Reaches SpellsSpec tokens from stop
-    spec_class stop near r =
+    pub spec_class : Holds 16 16 SpellsClass SpellsSpec tokens from (a + 2)
+    spec_class =
         let ahead = names_ahead tokens from names a named in
-        reaches_as SpellsClass SpellsSpec tokens from (a + 2) stop (omega arith)
-        (λ others alike long short x h.
-        let at = placed_within others from (omega arith) in (
+        ends_with SpellsClass SpellsSpec tokens from (a + 2) (omega (arith, ahead))
+        (λ others stop near long alike x h.
+        let at = placed_within others from (omega (arith, ahead, near, long)) in (
           spec.Dation names direction x false at.0,
           (
             a,
             length others,
             at.1,
-            names_are_local tokens others stop alike from names a named (omega arith),
-            local.what tokens others stop alike a (omega arith) ∙ dation,
-            local.what tokens others stop alike (a + 1) near ∙ directed,
+            names_are_local tokens others stop alike from names a named (omega (arith, near)),
+            local.what tokens others stop alike a (omega (arith, near)) ∙ dation,
+            local.what tokens others stop alike (a + 1) (omega (arith, near)) ∙ directed,
             h,
             refl,
           ),
-        )) r
+        ))
 
-    pub spec_control : (part : Class) (b stop : ℕ) → SpellsClass tokens (a + 2) part b → b ≤ stop →
-        Reaches SpellsControl tokens b stop → Reaches SpellsSpec tokens from stop
-    spec_control part b stop classed near r =
+    pub spec_control : (part : Class) (b : ℕ) → SpellsClass tokens (a + 2) part b →
+        Holds 16 16 SpellsControl SpellsSpec tokens from b
+    spec_control part b classed =
         let ahead = names_ahead tokens from names a named in
         let behind = after_of 1 SpellsClass class_keeps tokens (a + 2) part b classed in
-        reaches_as SpellsControl SpellsSpec tokens from b stop (omega arith)
-        (λ others alike long short x h.
-        let at = placed_within others from (omega arith) in (
+        ends_with SpellsControl SpellsSpec tokens from b (omega (arith, ahead, behind))
+        (λ others stop near long alike x h.
+        let at = placed_within others from (omega (arith, ahead, behind, near, long)) in (
           spec.Dation names direction part x at.0,
           (
             a,
             b,
             at.1,
-            names_are_local tokens others stop alike from names a named (omega arith),
-            local.what tokens others stop alike a (omega arith) ∙ dation,
-            local.what tokens others stop alike (a + 1) (omega arith) ∙ directed,
+            names_are_local tokens others stop alike from names a named (omega (arith, behind, near)),
+            local.what tokens others stop alike a (omega (arith, behind, near)) ∙ dation,
+            local.what tokens others stop alike (a + 1) (omega (arith, behind, near)) ∙ directed,
             (class_keeps tokens others stop alike (a + 2) part b classed near).1,
             h,
           ),
-        )) r
+        ))
 
 pub classes_are_local : IsLocal SpellsClass
 classes_are_local = local_of 1 SpellsClass class_keeps
@@ -499,7 +491,7 @@ module _ (tokens : List Token) (from : ℕ) (names : Reading Names) (named : Nam
   before_class : Reaches SpellsSpec tokens from stop
   before_class =
       reaches_max SpellsSpec tokens from names.stop (names.end + 1) stop is
-      (spec_names tokens from names.stop (names_read tokens from names named))
+      (unclosed (spec_names tokens from) (only_is_read named) names_are_local)
       (spec_dation tokens from names.part names.end named.spells dation
       (omega (arith, word_within tokens names.end w.DATION dation)))
 
@@ -533,21 +525,16 @@ module _ (tokens : List Token) (from : ℕ) (names : Reading Names) (named : Nam
       before_class
 
   module _ (direction : Direction) (directed : HasWord tokens (names.end + 1) (direction_word direction)) where
-    with_class : (k : ℕ) → names.end + 2 ≤ k → k ≤ length tokens →
-        Reaches SpellsClass tokens (names.end + 2) k → Reaches SpellsSpec tokens from k
-    with_class k near within r = spec_class tokens from names.part names.end named.spells dation direction directed k
-        (omega arith) r
+    with_class : Holds 16 16 SpellsClass SpellsSpec tokens from (names.end + 2)
+    with_class = spec_class tokens from names.part names.end named.spells dation direction directed
 
     pub spec_unread : (halt result : Halt) → result ≡ behind halt stop →
         Reads 16 SpellsClass by_bracket tokens (names.end + 2) (Err halt) →
         Reads 16 SpellsSpec extends_spec tokens from (Err result)
     spec_unread halt result same none =
-        read_behind SpellsClass SpellsSpec tokens from (names.end + 2) stop halt result same
-        (omega (arith, named.ahead)) inside
+        unread_behind with_class stop before_class halt same (omega (arith, named.ahead)) inside
         (λ others agree x to h. let found = class_of others stop (omega arith) agree x to h in
-        (found.0, found.1, found.3)) none.refused
-        (halts_max SpellsClass SpellsSpec tokens from (names.end + 2) stop halt before_class with_class
-        none.refused none.least)
+        (found.0, found.1, found.3)) none.refused none.least
 
     module _ (part : Reading Class) (read : Reads 16 SpellsClass by_bracket tokens (names.end + 2) (Ok part))
         (control : Reading Bool)
@@ -564,14 +551,24 @@ module _ (tokens : List Token) (from : ℕ) (names : Reading Names) (named : Nam
       pub spec_goes : GoesTo SpellsSpec tokens from control.end end
       spec_goes =
           let with_control = spec_control tokens from names.part names.end named.spells dation direction directed
-          part.part part.end control.stop read.spells (omega (arith, last.bounds))
-          (reach_of SpellsControl tokens controls_are_local part.end control.part control.end control.stop last.spells
-          (omega (arith, last.bounds)) (omega (arith, last.bounds)) last.least) in
-          let with_part = unclosed SpellsClass SpellsSpec classes_are_local tokens from
-          (names.end + 2) with_class part.part part.end part.stop read.spells read.ahead read.least in
+          part.part part.end read.spells in
           goes SpellsSpec tokens from control.end end
-          (reaches_max SpellsSpec tokens from control.stop second end all with_control
-          (reaches_max SpellsSpec tokens from part.stop stop second next with_part before_class))
+          (reaches_max SpellsSpec tokens from control.stop second end all
+          (unclosed with_control (maybe_is_read last) controls_are_local)
+          (reaches_max SpellsSpec tokens from part.stop stop second next
+          (unclosed with_class (longest_is_read read) classes_are_local) before_class))
+
+-- CONTROL is missing
+pub control_missing : {tokens : List Token} {from stop : ℕ} → IsLongest SpellsControl is_name tokens from from stop →
+    StopsWithin tokens from from from stop → Reaches SpellsControl tokens from stop →
+    ReadsMaybePart 16 SpellsControl is_name tokens from (Ok (record { part = false; end = from; stop = stop }))
+control_missing {tokens} {from} {stop} longest bounds r = record {
+  spells = refl;
+  longest = longest;
+  bounds = bounds;
+  refused = tt;
+  least = goes SpellsControl tokens from from stop r;
+}
 
 module _ (tokens : List Token) (from : ℕ) (control : HasId tokens from (codes "CONTROL")) where
   pub control_named : from + 1 ≤ length tokens → Reaches SpellsControl tokens from (from + 1)
@@ -650,26 +647,25 @@ module _ (tokens : List Token) (from : ℕ) (stands : HasWord tokens from w.TYPE
         omega arith,
       ))
 
-  pub type_reaches : (name : Name) → IsName tokens (from + 1) name → (stop : ℕ) → from + 2 ≤ stop →
-      stop ≤ length tokens → Reaches SpellsWholeTyping tokens (from + 2) stop →
-      Reaches SpellsDecl tokens from stop
-  type_reaches name named stop near within r =
-      reaches_closed SpellsWholeTyping SpellsDecl tokens from (from + 2) stop (symbol s.SEMICOLON) (omega arith)
-      (omega arith)
-      (λ others alike short m size end x h.
+  pub type_holds : (name : Name) → IsName tokens (from + 1) name →
+      Holds 16 16 SpellsWholeTyping SpellsDecl tokens from (from + 2)
+  type_holds name named =
+      closes_with SpellsWholeTyping SpellsDecl (local_of 1 SpellsWholeTyping whole_typing_keeps) tokens from (from + 2)
+      (omega arith) (symbol s.SEMICOLON) (omega arith)
+      (λ others stop near within alike short m size end x h.
       let at = placed_within others from
       (omega (arith, size, after_of 1 SpellsWholeTyping whole_typing_keeps others (from + 2) x m h)) in (
         decl.Type name x at.0,
         (
           m,
           at.1,
-          local.what tokens others stop alike from (omega arith) ∙ stands,
-          local.name tokens others stop alike (from + 1) name (omega arith) named,
+          local.what tokens others stop alike from (omega (arith, near)) ∙ stands,
+          local.name tokens others stop alike (from + 1) name (omega (arith, near)) named,
           h,
-          ap (option_map (λ token. token.what)) end,
+          end,
           refl,
         ),
-      )) (local_of 1 SpellsWholeTyping whole_typing_keeps) r
+      ))
 
 pub declared_is_contained : IsSelfContained SpellsDeclared
 declared_is_contained = contained_of 2 SpellsDeclared (omega arith) declared_keeps
@@ -685,36 +681,38 @@ module _ {X : Type 0} (spells : List Token → Spelling X) (contained : IsSelfCo
     SpellsList others (spells others) (from + 1) xs m → HasSymbol others m s.SEMICOLON →
     SpellsDecl others from (make xs small at) (m + 1))
     (tokens : List Token) (from : ℕ) (few : length tokens < 2 ^ 55) (stands : HasWord tokens from word) where
-  list_declared : (stop : ℕ) → from + 1 ≤ stop → stop ≤ length tokens →
-      Reaches (λ tokens. SpellsList tokens (spells tokens)) tokens (from + 1) stop →
-      Reaches SpellsDecl tokens from stop
-  list_declared stop near within r =
-      reaches_closed (λ tokens. SpellsList tokens (spells tokens)) SpellsDecl tokens from (from + 1) stop
-      (symbol s.SEMICOLON) (omega arith) (omega arith)
-      (λ others alike short m size end xs h.
+  list_declared : Holds 16 16 (λ tokens. SpellsList tokens (spells tokens)) SpellsDecl tokens from (from + 1)
+  list_declared =
+      closes_with (λ tokens. SpellsList tokens (spells tokens)) SpellsDecl (list_is_local spells contained) tokens from
+      (from + 1) (omega arith) (symbol s.SEMICOLON) (omega arith)
+      (λ others stop near within alike short m size end xs h.
       let all = list_after spells contained others (from + 1) xs m h in
-      let small : length xs < 2 ^ 63 = omega (arith, all) in
+      let small : length xs < 2 ^ 63 = omega (arith, all, few, within, short, size) in
       let at = placed_within others from (omega (arith, size, all)) in (
         make xs small at.0,
-        made others from m at.0 xs small at.1 (local.what tokens others stop alike from (omega arith) ∙ stands) h
-            (ap (option_map (λ token. token.what)) end),
-      )) (list_is_local spells contained) r
+        made others from m at.0 xs small at.1
+            (local.what tokens others stop alike from (omega (arith, near)) ∙ stands) h end,
+      ))
 
 abbrev pub declared_list : List Token → Spelling (List Declared)
 declared_list tokens = SpellsList tokens (SpellsDeclared tokens)
 
+pub declared_list_is_local : IsLocal declared_list
+declared_list_is_local = list_is_local SpellsDeclared declared_is_contained
+
 abbrev pub spec_list : List Token → Spelling (List Spec)
 spec_list tokens = SpellsList tokens (SpellsSpec tokens)
 
+pub spec_list_is_local : IsLocal spec_list
+spec_list_is_local = list_is_local SpellsSpec spec_is_contained
+
 module _ (tokens : List Token) (from : ℕ) (few : length tokens < 2 ^ 55) where
-  pub declare_reaches : HasWord tokens from w.DCL → (stop : ℕ) → from + 1 ≤ stop → stop ≤ length tokens →
-      Reaches declared_list tokens (from + 1) stop → Reaches SpellsDecl tokens from stop
-  declare_reaches =
+  pub declare_holds : HasWord tokens from w.DCL → Holds 16 16 declared_list SpellsDecl tokens from (from + 1)
+  declare_holds =
       list_declared SpellsDeclared declared_is_contained w.DCL (λ xs small at. decl.Declare (parts_of xs small) at)
       (λ others from m at xs small here word h last. (m, here, word, h, last, refl)) tokens from few
 
-  pub specify_reaches : HasWord tokens from w.SPC → (stop : ℕ) → from + 1 ≤ stop → stop ≤ length tokens →
-      Reaches spec_list tokens (from + 1) stop → Reaches SpellsDecl tokens from stop
-  specify_reaches =
+  pub specify_holds : HasWord tokens from w.SPC → Holds 16 16 spec_list SpellsDecl tokens from (from + 1)
+  specify_holds =
       list_declared SpellsSpec spec_is_contained w.SPC (λ xs small at. decl.Specify (parts_of xs small) at)
       (λ others from m at xs small here word h last. (m, here, word, h, last, refl)) tokens from few

@@ -1,9 +1,7 @@
 -- Devices that go on as far as a stop.
 use Rattle.std.proofs.Common.{◌≡◌, ℕ, ◌+◌, ◌<◌, ◌≤◌, List, [], ◌∷◌, length, inr, refl}
 use Rattle.std.proofs.Common.{subst, ap, ◌∙◌, arith}
-use Rattle.std.specs.Option.{option_map}
 use Rattle.pearl_tree.specs.declared.name.Name.{Name}
-use Rattle.pearl_tree.specs.declared.name.Number.{Number}
 use Rattle.pearl_tree.specs.declared.declaration.DeviceWord.{DeviceWord}
 use Rattle.pearl_tree.specs.declared.declaration.DeviceWord.TheVariants as device
 use Rattle.pearl_tree.specs.declared.token.Token.{Token}
@@ -14,8 +12,9 @@ use Rattle.pearl_tree.specs.declared.symbol.TheConstants as s
 use Rattle.pearl_parse_expr.specs.Least.{AlikeBefore, Reaches}
 use Rattle.pearl_parse_expr.proofs.Ids.{x_name, x_token, letter_lawful}
 use Rattle.pearl_parse_expr.proofs.Local as local
-use Rattle.pearl_parse_expr.proofs.Reaching.{Lawful, begun, completed, reached, reaches_closed, one_lawful, none_lawful}
+use Rattle.pearl_parse_expr.proofs.Reaching.{Lawful, begun, completed, one_lawful, none_lawful}
 use Rattle.pearl_parse_expr.proofs.Reaching.{what_stands, place_stands}
+use Rattle.pearl_parse_decl.proofs.Behind.{Holds, closes_with}
 use Rattle.pearl_parse_decl.proofs.Leaves.{symbol, one, one_number, bracketed_number_is_local}
 
 x_is_lawful : IsLawfulWhat x_token.what
@@ -106,33 +105,24 @@ module _ (tokens : List Token) (from : ℕ) (name : Name) (named : IsName tokens
           omega arith,
         ))
 
-    pub device_reaches : (stop : ℕ) (part : DeviceWord) → IsDeviceWord tokens (from + 2) part →
-        from + 2 < stop → Reaches SpellsBracketedNumber tokens (from + 3) stop →
-        Reaches SpellsDevice tokens from stop
-    device_reaches stop part is near r =
-        reaches_closed SpellsBracketedNumber SpellsDevice tokens from (from + 3) stop (symbol s.SEMICOLON) (omega arith)
-        (omega arith)
-        (λ others alike short m size end x h.
-        let read = local.name tokens others stop alike from name (omega arith) named in
+    pub device_holds : (part : DeviceWord) → IsDeviceWord tokens (from + 2) part →
+        Holds 16 16 SpellsBracketedNumber SpellsDevice tokens from (from + 3)
+    device_holds part is =
+        closes_with SpellsBracketedNumber SpellsDevice bracketed_number_is_local tokens from (from + 3) (omega arith)
+        (symbol s.SEMICOLON) (omega arith)
+        (λ others stop near within alike short m size end x h.
+        let read = local.name tokens others stop alike from name (omega (arith, near)) named in
         let last : from + 6 ≡ m = omega (arith, h.3) in (
           record { name = name; word = part; number = x; place = name.place },
           (
             read.1,
             read,
-            local.what tokens others stop alike (from + 1) (omega arith) ∙ colon,
-            device_word_local tokens others stop alike (from + 2) part near is,
+            local.what tokens others stop alike (from + 1) (omega (arith, near)) ∙ colon,
+            device_word_local tokens others stop alike (from + 2) part (omega (arith, near)) is,
             h.0,
             subst (λ k. IsNumber others k x) (omega arith) h.1,
             subst (λ k. HasSymbol others k s.RIGHT_ROUND) (omega arith) h.2,
-            ap (what_at others) last ∙ ap (option_map (λ token. token.what)) end,
+            ap (what_at others) last ∙ end,
             omega (arith, h.3),
           ),
-        )) bracketed_number_is_local r
-
-    pub device_open : (part : DeviceWord) (number : Number) → IsDeviceWord tokens (from + 2) part →
-        SpellsBracketedNumber tokens (from + 3) number (from + 3 + 3) → from + 6 ≤ length tokens →
-        Reaches SpellsDevice tokens from (from + 6)
-    device_open part number is h within =
-        device_reaches (from + 6) part is (omega arith)
-        (reached SpellsBracketedNumber tokens bracketed_number_is_local (from + 3) number (from + 6)
-        (subst (λ k. SpellsBracketedNumber tokens (from + 3) number k) (omega arith) h) (omega arith) within)
+        ))

@@ -1,8 +1,7 @@
 -- Names, numbers, bounds, basic types, constants and items of formats that go on as far as a stop.
-use Rattle.std.proofs.Common.{◌≡◌, ℕ, ◌+◌, ◌<◌, ◌≤◌, ◌^◌, ◌⊎◌, inl, inr, true, false}
-use Rattle.std.proofs.Common.{List, [], ◌∷◌, length, Option, Some, None, Ok, refl, sym, subst, ap, ◌∙◌}
+use Rattle.std.proofs.Common.{◌≡◌, ℕ, ◌+◌, ◌<◌, ◌≤◌, ◌^◌, ◌⊎◌, inl, inr, max, Bool, true, false}
+use Rattle.std.proofs.Common.{List, [], ◌∷◌, length, Option, Some, None, Result, Ok, Err, refl, sym, subst, ap, ◌∙◌}
 use Rattle.std.proofs.Common.{arith}
-use Rattle.std.specs.Option.{option_map}
 use Rattle.pearl_tree.specs.declared.name.Number.{Number}
 use Rattle.pearl_tree.specs.declared.literal.Sign.{Sign}
 use Rattle.pearl_tree.specs.declared.typing.Int.{Int}
@@ -18,10 +17,9 @@ use Rattle.pearl_tree.specs.declared.declaration.Prio.{Prio}
 use Rattle.pearl_tree.specs.declared.tree.Decl.{Decl}
 use Rattle.pearl_tree.specs.declared.tree.Decl.TheVariants as decl
 use Rattle.pearl_tree.specs.declared.tree.TaskHead.TheVariants.{PrioFirst, MainFirst}
-use Rattle.pearl_tree.specs.declared.token.What.{What}
 use Rattle.pearl_tree.specs.declared.token.What.TheVariants as what
 use Rattle.pearl_tree.specs.declared.token.Token.{Token}
-use Rattle.pearl_tree.specs.Standing.{what_at, IsNumber, HasWord, HasId, HasSymbol, SpellsName, SpellsNumber}
+use Rattle.pearl_tree.specs.Standing.{Spelling, what_at, IsNumber, HasWord, HasId, HasSymbol, SpellsName, SpellsNumber}
 use Rattle.pearl_tree.specs.Standing.{SpellsMaybe, SpellsFlag, SpellsBracketedNumber}
 use Rattle.pearl_tree.specs.Expressions.{SpellsSign, SpellsLiteral, SpellsConst, SpellsOwnRef}
 use Rattle.pearl_tree.specs.Types.{SpellsInt, SpellsUpper, SpellsBound, SpellsBasic, sort_word}
@@ -35,23 +33,24 @@ use Rattle.pearl_tree.specs.Stops.{BeginAlike}
 use Rattle.pearl_tree.specs.declared.limit.TheConstants as limit
 use Rattle.pearl_tree.specs.declared.format.Fmt.{Fmt}
 use Rattle.pearl_tree.specs.declared.tree.TaskHead.{TaskHead}
-use Rattle.pearl_parse_expr.specs.declared.reading.Halt.TheVariants.{Refused}
+use Rattle.pearl_parse_expr.specs.declared.reading.Halt.{Halt}
 use Rattle.pearl_parse_expr.specs.declared.reading.Reading.{Reading}
-use Rattle.pearl_parse_expr.specs.Stops.{IsLongest, IsHalted, EndsEarly, SpellsNamed, is_name, is_word}
-use Rattle.pearl_parse_expr.specs.Least.{Reaches}
+use Rattle.pearl_parse_expr.specs.Stops.{IsLongest, EndsEarly, SpellsNamed, is_name, is_word}
+use Rattle.pearl_parse_expr.specs.Least.{Reaches, GoesTo}
 use Rattle.pearl_parse_expr.specs.Reads.{ReadsOnly}
-use Rattle.pearl_parse_decl.specs.Readings.{extends_head}
+use Rattle.pearl_parse_decl.specs.Readings.{IsOptional, ReadsMaybePart, extends_head}
 use Rattle.pearl_parse_expr.proofs.Primaries.{clash}
-use Rattle.pearl_parse_expr.proofs.Parts.{or_second}
+use Rattle.pearl_parse_expr.proofs.Parts.{shorter, or_first}
 use Rattle.pearl_parse_expr.proofs.Joining.{named, selectors_after}
-use Rattle.pearl_parse_decl.proofs.Behind.{ends_as}
+use Rattle.pearl_parse_decl.proofs.Behind.{Holds, closes_with, ends_as, ends_with, last, maybe_reads, no_flag}
 use Rattle.pearl_parse_expr.proofs.Ids.{x_name, x_token, x_lawful, letter_token, letter_lawful}
 use Rattle.pearl_parse_expr.proofs.Local as local
-use Rattle.pearl_parse_expr.proofs.Reaching.{IsLocal, Lawful, begun, completed, goes_as, reached, reaches_as}
-use Rattle.pearl_parse_expr.proofs.Reaching.{reaches_closed, one_lawful, none_lawful, placed_within, token_of}
+use Rattle.pearl_parse_expr.proofs.Reaching.{IsLocal, Lawful, begun, completed, goes_as, goes_max, reach_of, reaches_as}
+use Rattle.pearl_parse_expr.proofs.Reaching.{one_lawful, none_lawful, placed_within, token_of}
 use Rattle.pearl_parse_expr.proofs.Reaching.{what_stands, place_stands}
 use Rattle.pearl_parse_decl.proofs.LocalLists.{local_of, maybe_keeps, bracketed_number_keeps}
-use Rattle.pearl_parse_decl.proofs.LocalDeclarations.{sign_keeps, int_keeps, basic_keeps}
+use Rattle.pearl_parse_decl.proofs.LocalDeclarations.{sign_keeps, int_keeps, basic_keeps, prio_keeps}
+use Rattle.pearl_parse_expr.proofs.Readings.{unread}
 
 -- ---- tokens that stand where some are missing
 
@@ -174,19 +173,18 @@ int_signed tokens from minus within =
     ))
 
 module _ (tokens : List Token) (from : ℕ) (colon : HasSymbol tokens from s.COLON) where
-  pub upper_reaches : (stop : ℕ) → from + 1 ≤ stop → stop ≤ length tokens →
+  upper_reaches : (stop : ℕ) → from + 1 ≤ stop → stop ≤ length tokens →
       Reaches SpellsInt tokens (from + 1) stop → Reaches SpellsUpper tokens from stop
   upper_reaches stop near within r =
       reaches_as SpellsInt SpellsUpper tokens from (from + 1) stop (omega arith)
       (λ others alike long short x h. (x, (local.what tokens others stop alike from (omega arith) ∙ colon, h))) r
 
-  pub upper_halted : (stop : ℕ) → IsHalted SpellsInt tokens (from + 1) (Refused stop) →
-      IsHalted SpellsUpper tokens from (Refused stop)
-  upper_halted stop none = (λ others agree x to h. none.0 others agree x to h.1, omega (arith, none.1), none.2)
-
-  pub upper_read : (int : Reading Int) → ReadsOnly 16 SpellsInt tokens (from + 1) (Ok int) →
-      ReadsOnly 16 SpellsUpper tokens from (Ok int)
-  upper_read int read = record {
+  pub upper_reads : (read : Result (Reading Int) Halt) → ReadsOnly 16 SpellsInt tokens (from + 1) read →
+      ReadsOnly 16 SpellsUpper tokens from read
+  upper_reads (Err halt) none =
+      unread SpellsInt SpellsUpper tokens from (from + 1) halt (omega arith)
+      (λ others stop near agree x to h. (x, to, h.1)) upper_reaches none.refused none.least
+  upper_reads (Ok int) read = record {
     spells = (colon, read.spells);
     only = λ others agree x to h. read.only others agree x to h.1;
     ahead = (omega (arith, read.ahead), read.ahead.1, read.ahead.2);
@@ -196,12 +194,11 @@ module _ (tokens : List Token) (from : ℕ) (colon : HasSymbol tokens from s.COL
   }
 
 -- a bound whose first number goes on
-pub bound_begins : (tokens : List Token) (from stop : ℕ) → Reaches SpellsInt tokens from stop →
-    Reaches SpellsBound tokens from stop
-bound_begins tokens from stop r =
-    reaches_as SpellsInt SpellsBound tokens from from stop (omega arith)
-    (λ others alike long short x h.
-    (record { first = x; second = None; place = x.place }, (length others, h.1, h, refl))) r
+pub bound_holds : (tokens : List Token) (from : ℕ) → Holds 16 16 SpellsInt SpellsBound tokens from from
+bound_holds tokens from =
+    ends_with SpellsInt SpellsBound tokens from from (omega arith)
+    (λ others stop near long alike x h.
+    (record { first = x; second = None; place = x.place }, (length others, h.1, h, refl)))
 
 pub bound_reaches : (tokens : List Token) (from m stop : ℕ) (first : Int) → SpellsInt tokens from first m →
     from ≤ m → m ≤ stop →
@@ -225,16 +222,13 @@ basic_begins tokens from within =
       refl,
     ))
 
-pub sized_reaches : (tokens : List Token) (from stop : ℕ) (sort : Sort) → HasWord tokens from (sort_word sort) →
-    from < stop →
-    Reaches (λ tokens. SpellsMaybe (SpellsBracketedNumber tokens)) tokens (from + 1) stop →
-    Reaches SpellsBasic tokens from stop
-sized_reaches tokens from stop sort stands near r =
-    reaches_as (λ tokens. SpellsMaybe (SpellsBracketedNumber tokens)) SpellsBasic tokens from (from + 1) stop
-    (omega arith)
-    (λ others alike long short x h.
-    let at = placed_within others from (omega arith) in
-    (basic.Sized sort x at.0, (at.1, local.what tokens others stop alike from near ∙ stands, h))) r
+pub sized_holds : (tokens : List Token) (from : ℕ) (sort : Sort) → HasWord tokens from (sort_word sort) →
+    Holds 16 16 (λ tokens. SpellsMaybe (SpellsBracketedNumber tokens)) SpellsBasic tokens from (from + 1)
+sized_holds tokens from sort stands =
+    ends_with (λ tokens. SpellsMaybe (SpellsBracketedNumber tokens)) SpellsBasic tokens from (from + 1) (omega arith)
+    (λ others stop near long alike x h.
+    let at = placed_within others from (omega (arith, near, long)) in
+    (basic.Sized sort x at.0, (at.1, local.what tokens others stop alike from (omega (arith, near)) ∙ stands, h)))
 
 pub bracketed_number_is_local : IsLocal SpellsBracketedNumber
 bracketed_number_is_local = local_of 3 SpellsBracketedNumber bracketed_number_keeps
@@ -253,13 +247,13 @@ class_begins tokens from within =
       refl,
     ))
 
-pub class_reaches : (tokens : List Token) (from stop : ℕ) → HasWord tokens from w.BASIC → from < stop →
-    Reaches SpellsBasic tokens (from + 1) stop → Reaches SpellsClass tokens from stop
-class_reaches tokens from stop stands near r =
-    reaches_as SpellsBasic SpellsClass tokens from (from + 1) stop (omega arith)
-    (λ others alike long short x h.
-    let at = placed_within others from (omega arith) in
-    (class.Basic x at.0, (at.1, local.what tokens others stop alike from near ∙ stands, h))) r
+pub class_holds : (tokens : List Token) (from : ℕ) → HasWord tokens from w.BASIC →
+    Holds 16 16 SpellsBasic SpellsClass tokens from (from + 1)
+class_holds tokens from stands =
+    ends_with SpellsBasic SpellsClass tokens from (from + 1) (omega arith)
+    (λ others stop near long alike x h.
+    let at = placed_within others from (omega (arith, near, long)) in
+    (class.Basic x at.0, (at.1, local.what tokens others stop alike from (omega (arith, near)) ∙ stands, h)))
 
 -- ---- constants
 
@@ -294,24 +288,22 @@ fmt_begins tokens from within =
       refl,
     ))
 
-module _ (tokens : List Token) (from stop : ℕ) (near : from < stop) where
-  pub free_reaches : (code : FreeCode) → HasId tokens from (free_text code) →
-      Reaches (λ tokens. SpellsMaybe (SpellsBracketedNumber tokens)) tokens (from + 1) stop →
-      Reaches SpellsFmt tokens from stop
-  free_reaches code stands r =
-      reaches_as (λ tokens. SpellsMaybe (SpellsBracketedNumber tokens)) SpellsFmt tokens from (from + 1) stop
-      (omega arith)
-      (λ others alike long short x h.
-      let at = placed_within others from (omega arith) in
-      (Free code x at.0, (at.1, local.what tokens others stop alike from near ∙ stands, h))) r
+module _ (tokens : List Token) (from : ℕ) where
+  pub free_holds : (code : FreeCode) → HasId tokens from (free_text code) →
+      Holds 16 16 (λ tokens. SpellsMaybe (SpellsBracketedNumber tokens)) SpellsFmt tokens from (from + 1)
+  free_holds code stands =
+      ends_with (λ tokens. SpellsMaybe (SpellsBracketedNumber tokens)) SpellsFmt tokens from (from + 1) (omega arith)
+      (λ others stop near long alike x h.
+      let at = placed_within others from (omega (arith, near, long)) in
+      (Free code x at.0, (at.1, local.what tokens others stop alike from (omega (arith, near)) ∙ stands, h)))
 
-  pub wide_reaches : (code : WideCode) → HasId tokens from (wide_text code) →
-      Reaches SpellsBracketedNumber tokens (from + 1) stop → Reaches SpellsFmt tokens from stop
-  wide_reaches code stands r =
-      reaches_as SpellsBracketedNumber SpellsFmt tokens from (from + 1) stop (omega arith)
-      (λ others alike long short x h.
-      let at = placed_within others from (omega arith) in
-      (Wide code x at.0, (at.1, local.what tokens others stop alike from near ∙ stands, h))) r
+  pub wide_holds : (code : WideCode) → HasId tokens from (wide_text code) →
+      Holds 16 16 SpellsBracketedNumber SpellsFmt tokens from (from + 1)
+  wide_holds code stands =
+      ends_with SpellsBracketedNumber SpellsFmt tokens from (from + 1) (omega arith)
+      (λ others stop near long alike x h.
+      let at = placed_within others from (omega (arith, near, long)) in
+      (Wide code x at.0, (at.1, local.what tokens others stop alike from (omega (arith, near)) ∙ stands, h)))
 
 -- ---- heads
 
@@ -345,37 +337,22 @@ prio_open tokens from stands within =
       omega arith,
     ))
 
-pub head_reaches : (tokens : List Token) (from stop : ℕ) → Reaches SpellsPrio tokens from stop →
-    Reaches SpellsTaskHead tokens from stop
-head_reaches tokens from stop r =
-    reaches_as SpellsPrio SpellsTaskHead tokens from from stop (omega arith)
-    (λ others alike long short x h. (PrioFirst (Some x) false, (length others, h, refl))) r
-
-pub main_reaches : (tokens : List Token) (from stop : ℕ) → HasWord tokens from w.MAIN → from < stop →
-    Reaches SpellsPrio tokens (from + 1) stop → Reaches SpellsTaskHead tokens from stop
-main_reaches tokens from stop stands near r =
-    reaches_as SpellsPrio SpellsTaskHead tokens from (from + 1) stop (omega arith)
-    (λ others alike long short x h. (MainFirst x, (local.what tokens others stop alike from near ∙ stands, h))) r
-
-pub returns_reach : (tokens : List Token) (from : ℕ) → HasWord tokens from w.RETURNS →
-    HasSymbol tokens (from + 1) s.LEFT_ROUND →
-    (stop : ℕ) → from + 2 ≤ stop → stop ≤ length tokens → Reaches SpellsBasic tokens (from + 2) stop →
-    Reaches SpellsReturns tokens from stop
-returns_reach tokens from stands bracket stop near within r =
-    reaches_closed SpellsBasic SpellsReturns tokens from (from + 2) stop (symbol s.RIGHT_ROUND) (omega arith)
+pub returns_hold : (tokens : List Token) (from : ℕ) → HasWord tokens from w.RETURNS →
+    HasSymbol tokens (from + 1) s.LEFT_ROUND → Holds 16 16 SpellsBasic SpellsReturns tokens from (from + 2)
+returns_hold tokens from stands bracket =
+    closes_with SpellsBasic SpellsReturns basic_is_local tokens from (from + 2) (omega arith) (symbol s.RIGHT_ROUND)
     (omega arith)
-    (λ others alike short m size end x h. (
+    (λ others stop near within alike short m size end x h. (
       x,
       (
         m,
-        local.what tokens others stop alike from (omega arith) ∙ stands,
-        local.what tokens others stop alike (from + 1) (omega arith) ∙ bracket,
+        local.what tokens others stop alike from (omega (arith, near)) ∙ stands,
+        local.what tokens others stop alike (from + 1) (omega (arith, near)) ∙ bracket,
         h,
-        ap (option_map (λ token. token.what)) end,
+        end,
         refl,
       ),
     ))
-    basic_is_local r
 
 abbrev clock : List Token
 clock = word w.CLOCK ∷ symbol s.RIGHT_ROUND ∷ []
@@ -463,35 +440,26 @@ module _ (tokens : List Token) (from : ℕ) (stands : HasWord tokens from w.LENG
       ))
 
   -- a number in brackets that goes on
-  pub length_reaches : (stop : ℕ) (sort : Sort) → HasWord tokens (from + 1) (sort_word sort) → from + 1 < stop →
-      Reaches SpellsBracketedNumber tokens (from + 2) stop →
-      Reaches SpellsDecl tokens from stop
-  length_reaches stop sort is near r =
-      reaches_closed SpellsBracketedNumber SpellsDecl tokens from (from + 2) stop (symbol s.SEMICOLON) (omega arith)
-      (omega arith)
-      (λ others alike short m size end x h.
+  pub length_holds : (sort : Sort) → HasWord tokens (from + 1) (sort_word sort) →
+      Holds 16 16 SpellsBracketedNumber SpellsDecl tokens from (from + 2)
+  length_holds sort is =
+      closes_with SpellsBracketedNumber SpellsDecl bracketed_number_is_local tokens from (from + 2) (omega arith)
+      (symbol s.SEMICOLON) (omega arith)
+      (λ others stop near within alike short m size end x h.
       let at = placed_within others from (omega (arith, size, h.3)) in
       let last : from + 5 ≡ m = omega (arith, h.3) in (
         decl.Length sort x at.0,
         (
           at.1,
-          local.what tokens others stop alike from (omega arith) ∙ stands,
-          local.what tokens others stop alike (from + 1) near ∙ is,
+          local.what tokens others stop alike from (omega (arith, near)) ∙ stands,
+          local.what tokens others stop alike (from + 1) (omega (arith, near)) ∙ is,
           h.0,
           subst (λ k. IsNumber others k x) (omega arith) h.1,
           subst (λ k. HasSymbol others k s.RIGHT_ROUND) (omega arith) h.2,
-          ap (what_at others) last ∙ ap (option_map (λ token. token.what)) end,
+          ap (what_at others) last ∙ end,
           omega (arith, h.3),
         ),
-      )) bracketed_number_is_local r
-
-  pub length_open : (sort : Sort) (number : Number) → HasWord tokens (from + 1) (sort_word sort) →
-      SpellsBracketedNumber tokens (from + 2) number (from + 2 + 3) → from + 5 ≤ length tokens →
-      Reaches SpellsDecl tokens from (from + 5)
-  length_open sort number is h within =
-      length_reaches (from + 5) sort is (omega arith)
-      (reached SpellsBracketedNumber tokens bracketed_number_is_local (from + 2) number (from + 5)
-      (subst (λ k. SpellsBracketedNumber tokens (from + 2) number k) (omega arith) h) (omega arith) within)
+      ))
 
 -- ---- what stands there is known by its first token
 
@@ -533,36 +501,124 @@ pub only_wide : (tokens : List Token) (from : ℕ) →
 only_wide tokens from none (Free code width place) to h = absurd (none code h.1)
 only_wide tokens from none (Wide code width place) to h = (width, h.2)
 
--- a priority, and behind it MAIN or not
-pub head_longest : (tokens : List Token) (from end stop : ℕ) (prio : Prio) →
-    SpellsPrio tokens from prio (from + 2) → from + 2 ≤ end → end ≤ stop →
-    IsLongest (λ tokens. SpellsFlag tokens w.MAIN) (is_word w.MAIN) tokens (from + 2) end stop →
-    IsLongest SpellsTaskHead extends_head tokens from end stop
-head_longest tokens from end stop prio spelled far near longest = λ others agree x to h. by others agree x to h
-  where
-    more : (token : Option What) → is_word w.MAIN token ≡ true → extends_head token ≡ true
-    more token h = or_second (is_word w.PRIO token) (is_word w.MAIN token) h
+-- ---- a priority that may be missing
 
-    stands : (others : List Token) → BeginAlike tokens others stop → HasWord others from w.PRIO
-    stands others agree = sym (agree from (omega arith)) ∙ spelled.1
+abbrev pub maybe_prio : List Token → Spelling (Option Prio)
+maybe_prio tokens = SpellsMaybe (SpellsPrio tokens)
 
-    by : (others : List Token) → BeginAlike tokens others stop → (x : TaskHead) (to : ℕ) →
-        SpellsTaskHead others from x to → (to ≡ end) ⊎ EndsEarly extends_head others end to
-    by others agree (PrioFirst None false) to h =
-        let same : to ≡ from = omega (arith, h.1, h.2) in
-        inr (
-          omega arith,
-          subst (λ k. extends_head (what_at others k) ≡ true) (sym same) (ap extends_head (stands others agree)),
-        )
-    by others agree (PrioFirst None true) to h =
-        let main = subst (λ k. HasWord others k w.MAIN) h.1 h.2.0 in
-        absurd (clash _ (ap (is_word w.MAIN) main) (ap (is_word w.MAIN) (stands others agree)))
-    by others agree (PrioFirst (Some part) main) to h =
-        let same : h.0 ≡ from + 2 = omega (arith, h.1.3) in
-        ends_as (is_word w.MAIN) extends_head others end to more
-        (longest others agree main to (subst (λ k. SpellsFlag others w.MAIN k main to) same h.2))
-    by others agree (MainFirst part) to h =
-        absurd (clash _ (ap (is_word w.MAIN) h.0) (ap (is_word w.MAIN) (stands others agree)))
+maybe_prio_is_local : IsLocal maybe_prio
+maybe_prio_is_local = local_of 0 maybe_prio
+    (λ tokens others k alike. maybe_keeps tokens others k alike 2 SpellsPrio (prio_keeps tokens others k alike))
+
+module _ (tokens : List Token) (from : ℕ) where
+  abbrev pub PrioRead : Reading (Option Prio) → Type 0
+  PrioRead prio = ReadsMaybePart 16 maybe_prio (is_word w.PRIO) tokens from (Ok prio)
+
+  pub prio_reads : (read : Result (Reading Prio) Halt) (maybe : Reading (Option Prio)) → IsOptional from read maybe →
+      ReadsOnly 16 SpellsPrio tokens from read → PrioRead maybe
+  prio_reads = maybe_reads SpellsPrio (is_word w.PRIO) tokens from (λ x to h. ap (is_word w.PRIO) h.1)
+
+-- behind MAIN
+module _ (tokens : List Token) (from : ℕ) (main : HasWord tokens from w.MAIN) (prio : Reading (Option Prio))
+    (read : PrioRead tokens (from + 1) prio) where
+  main_longest : IsLongest SpellsTaskHead extends_head tokens from prio.end prio.stop
+  main_longest = λ others agree x to h. by others agree x to h
+    where
+      stands : (others : List Token) → BeginAlike tokens others prio.stop → HasWord others from w.MAIN
+      stands others agree = sym (agree from (omega (arith, read.bounds))) ∙ main
+
+      as_head : (others : List Token) (to : ℕ) → (to ≡ prio.end) ⊎ EndsEarly (is_word w.PRIO) others prio.end to →
+          (to ≡ prio.end) ⊎ EndsEarly extends_head others prio.end to
+      as_head others to = ends_as (is_word w.PRIO) extends_head others prio.end to
+          (λ token h. or_first (is_word w.PRIO token) (is_word w.MAIN token) h)
+
+      by : (others : List Token) → BeginAlike tokens others prio.stop → (x : TaskHead) (to : ℕ) →
+          SpellsTaskHead others from x to → (to ≡ prio.end) ⊎ EndsEarly extends_head others prio.end to
+      by others agree (PrioFirst None false) to h =
+          let same : to ≡ from = omega (arith, h.1, h.2) in
+          inr (
+            omega (arith, same, read.bounds),
+            subst (λ k. extends_head (what_at others k) ≡ true) (sym same) (ap extends_head (stands others agree)),
+          )
+      by others agree (PrioFirst None true) to h =
+          let next : to ≡ from + 1 = omega (arith, h.1, h.2.1) in
+          as_head others to (read.longest others agree None to next)
+      by others agree (PrioFirst (Some part) main) to h =
+          absurd (clash _ (ap (is_word w.PRIO) h.1.1) (ap (is_word w.PRIO) (stands others agree)))
+      by others agree (MainFirst part) to h = as_head others to (read.longest others agree (Some part) to h.1)
+
+  main_goes : GoesTo SpellsTaskHead tokens from prio.end prio.stop
+  main_goes =
+      goes_as maybe_prio SpellsTaskHead tokens from (from + 1) prio.end prio.stop
+      (reaches_as maybe_prio SpellsTaskHead tokens from (from + 1) prio.stop (omega arith)
+      (λ others alike long short x h. made others (local.what tokens others prio.stop alike from
+      (omega (arith, read.bounds)) ∙ main) x h)) read.least
+    where
+      made : (others : List Token) → HasWord others from w.MAIN → (x : Option Prio) →
+          maybe_prio others (from + 1) x (length others) →
+          (head : TaskHead) × SpellsTaskHead others from head (length others)
+      made others stands None h = (PrioFirst None true, (from, refl, (stands, h)))
+      made others stands (Some x) h = (MainFirst x, (stands, h))
+
+  pub main_reads : (head : TaskHead) → SpellsTaskHead tokens from head prio.end →
+      ReadsMaybePart 16 SpellsTaskHead extends_head tokens from
+      (Ok (record { part = head; end = prio.end; stop = prio.stop }))
+  main_reads head spells = record {
+    spells = spells;
+    longest = main_longest;
+    bounds = (
+      omega (arith, read.bounds),
+      omega (arith, read.bounds),
+      omega (arith, read.bounds),
+      omega (arith, read.bounds),
+    );
+    refused = tt;
+    least = main_goes;
+  }
+
+-- before MAIN, which may be missing
+module _ (tokens : List Token) (from : ℕ) (none : is_word w.MAIN (what_at tokens from) ≡ false)
+    (prio : Reading (Option Prio)) (read : PrioRead tokens from prio) (main : Reading Bool)
+    (flag : ReadsMaybePart 16 (λ tokens. SpellsFlag tokens w.MAIN) (is_word w.MAIN) tokens prio.end (Ok main))
+    (stop : ℕ) (is : stop ≡ max main.stop prio.stop) where
+  head_longest : IsLongest SpellsTaskHead extends_head tokens from main.end stop
+  head_longest = λ others agree x to h. by others agree x to h
+    where
+      by : (others : List Token) → BeginAlike tokens others stop → (x : TaskHead) (to : ℕ) →
+          SpellsTaskHead others from x to → (to ≡ main.end) ⊎ EndsEarly extends_head others main.end to
+      by others agree (PrioFirst part stands) to h =
+          last (is_word w.PRIO) (is_word w.MAIN) others h.0 prio.end main.end to (omega (arith, flag.bounds))
+          (no_flag (is_word w.PRIO) w.MAIN refl others h.0 stands to h.2)
+          (read.longest others (shorter tokens others prio.stop stop (omega (arith, is)) agree) part h.0 h.1)
+          (λ here. flag.longest others (shorter tokens others main.stop stop (omega (arith, is)) agree) stands to
+          (subst (λ k. SpellsFlag others w.MAIN k stands to) here h.2))
+      by others agree (MainFirst part) to h =
+          absurd (clash _ (ap (is_word w.MAIN) h.0)
+          (ap (is_word w.MAIN) (sym (agree from (omega (arith, is, read.bounds)))) ∙ none))
+
+  head_goes : main.stop ≡ main.end → GoesTo SpellsTaskHead tokens from main.end stop
+  head_goes once =
+      goes_max SpellsTaskHead tokens from prio.stop main.end stop (omega (arith, is, once))
+      (reaches_as maybe_prio SpellsTaskHead tokens from from prio.stop (omega arith)
+      (λ others alike long short x h. (PrioFirst x false, (length others, h, refl)))
+      (reach_of maybe_prio tokens maybe_prio_is_local from prio.part prio.end prio.stop read.spells
+      (omega (arith, read.bounds)) (omega (arith, read.bounds)) read.least))
+
+  pub head_reads : main.stop ≡ main.end →
+      ReadsMaybePart 16 SpellsTaskHead extends_head tokens from
+      (Ok (record { part = PrioFirst prio.part main.part; end = main.end; stop = stop }))
+  head_reads once = record {
+    spells = (prio.end, read.spells, flag.spells);
+    longest = head_longest;
+    bounds = (
+      omega (arith, read.bounds, flag.bounds),
+      omega (arith, flag.bounds, is),
+      omega (arith, read.bounds, is),
+      omega (arith, read.bounds, flag.bounds, is),
+    );
+    refused = tt;
+    least = head_goes once;
+  }
 
 -- ---- references of statements
 

@@ -1,17 +1,16 @@
--- Lists with commas: what other tokens can spell that begin as these do, read up to some part.
+-- Lists in brackets, and behind a word: what other tokens can spell that begin as these do.
 use Rattle.std.proofs.Common.{◌≡◌, ℕ, ◌+◌, ◌<◌, ◌≤◌, Bool, true, false, List, [], ◌∷◌}
 use Rattle.std.proofs.Common.{Option, Some, ◌⊎◌, inl, inr, refl, sym, ap, subst, ◌∙◌, arith}
 use Rattle.pearl_tree.specs.declared.token.What.{What}
 use Rattle.pearl_tree.specs.declared.token.What.TheVariants as what
 use Rattle.pearl_tree.specs.declared.token.Token.{Token}
-use Rattle.pearl_tree.specs.Standing.{Spelling, what_at, HasSymbol, SpellsMore, SpellsList, SpellsBracketed}
+use Rattle.pearl_tree.specs.Standing.{Spelling, what_at, HasSymbol, SpellsList, SpellsBracketed}
 use Rattle.pearl_tree.specs.Standing.{SpellsMaybeBracketed, SpellsMaybeHeaded}
 use Rattle.pearl_tree.specs.declared.symbol.TheConstants as s
-use Rattle.pearl_tree.specs.Stops.{BeginAlike}
-use Rattle.pearl_parse_expr.specs.Stops.{IsLongest, Stuck, IsOnly, EndsEarly, is_symbol, is_word}
-use Rattle.pearl_parse_decl.specs.Readings.{by_bracket, by_comma}
+use Rattle.pearl_parse_expr.specs.Stops.{IsLongest, Stuck, IsOnly, EndsEarly, is_symbol, is_word, by_comma}
+use Rattle.pearl_parse_decl.specs.Readings.{by_bracket}
 use Rattle.pearl_parse_expr.proofs.Primaries.{clash}
-use Rattle.pearl_parse_expr.proofs.Parts.{shorter, or_first, or_second}
+use Rattle.pearl_parse_expr.proofs.Parts.{shorter}
 
 -- where no token goes on with the part, it ends where it was read to
 pub settled : (extends : Option What → Bool) (others : List Token) (end m : ℕ) →
@@ -19,98 +18,7 @@ pub settled : (extends : Option What → Bool) (others : List Token) (end m : �
 settled extends others end m (inl same) never = same
 settled extends others end m (inr early) never = absurd (clash _ early.1 never)
 
-pub first_of : {X : Type 0} (tokens : List Token) (spells : Spelling X) (from : ℕ) (xs : List X) (to : ℕ) →
-    SpellsList tokens spells from xs to →
-    (x : X) × (m : ℕ) × spells from x m
-first_of tokens spells from [] to h = absurd h
-first_of tokens spells from (x ∷ xs) to h = (x, h.0, h.1)
-
 module _ {X : Type 0} (spells : List Token → Spelling X) (extends : Option What → Bool) where
-  -- a list from `from` ends early, or goes through `end`
-  abbrev pub ListGoes : List Token → ℕ → ℕ → ℕ → Type 0
-  ListGoes tokens from end stop =
-      (others : List Token) → BeginAlike tokens others stop → (xs : List X) (to : ℕ) →
-      SpellsList others (spells others) from xs to →
-      EndsEarly (by_comma extends) others end to ⊎ ((ys : List X) × SpellsMore others (spells others) end ys to)
-
-  module _ (no_comma : extends (Some (what.Symbol s.COMMA)) ≡ false) where
-    -- behind one more part
-    after_part : (others : List Token) (end m to : ℕ) (ys : List X) → SpellsMore others (spells others) m ys to →
-        (m ≡ end) ⊎ EndsEarly extends others end m →
-        EndsEarly (by_comma extends) others end to ⊎ ((ys : List X) × SpellsMore others (spells others) end ys to)
-    after_part others end m to ys h (inl same) =
-        inr (ys, subst (λ k. SpellsMore others (spells others) k ys to) same h)
-    after_part others end m to [] h (inr early) =
-        inl (
-          omega (arith, h, early.0),
-          subst (λ k. by_comma extends (what_at others k) ≡ true) (sym h)
-              (or_first (extends (what_at others m)) (is_symbol s.COMMA (what_at others m)) early.1),
-        )
-    after_part others end m to (y ∷ ys) h (inr early) = absurd (clash _ early.1 (ap extends h.1 ∙ no_comma))
-
-    begins : (others : List Token) (from end : ℕ) →
-        ((x : X) (to : ℕ) → spells others from x to → (to ≡ end) ⊎ EndsEarly extends others end to) →
-        (xs : List X) (to : ℕ) → SpellsList others (spells others) from xs to →
-        EndsEarly (by_comma extends) others end to ⊎ ((ys : List X) × SpellsMore others (spells others) end ys to)
-    begins others from end longest [] to h = absurd h
-    begins others from end longest (x ∷ xs) to h = after_part others end h.0 to xs h.2 (longest x h.0 h.1)
-
-    pub list_begins : (tokens : List Token) (from end stop : ℕ) → IsLongest spells extends tokens from end stop →
-        ListGoes tokens from end stop
-    list_begins tokens from end stop longest = λ others agree xs to h. begins others from end
-        (λ x to h. longest others agree x to h) xs to h
-
-    step : (others : List Token) (end next to : ℕ) → end < next → HasSymbol others end s.COMMA →
-        ((x : X) (to : ℕ) → spells others (end + 1) x to → (to ≡ next) ⊎ EndsEarly extends others next to) →
-        EndsEarly (by_comma extends) others end to ⊎ ((ys : List X) ×
-        SpellsMore others (spells others) end ys to) →
-        EndsEarly (by_comma extends) others next to ⊎ ((ys : List X) × SpellsMore others (spells others) next ys to)
-    step others end next to ahead comma longest (inl early) = inl (omega (arith, early.0), early.1)
-    step others end next to ahead comma longest (inr ([], h)) =
-        inl (
-          omega (arith, h),
-          subst (λ k. by_comma extends (what_at others k) ≡ true) (sym h)
-              (or_second (extends (what_at others end)) (is_symbol s.COMMA (what_at others end))
-              (ap (is_symbol s.COMMA) comma)),
-        )
-    step others end next to ahead comma longest (inr (y ∷ ys, h)) =
-        after_part others next h.0 to ys h.3 (longest y h.0 h.2)
-
-    pub list_next : (tokens : List Token) (from end stop next last new : ℕ) → ListGoes tokens from end stop →
-        end ≤ stop → end < next →
-        stop ≤ new → last ≤ new → HasSymbol tokens end s.COMMA →
-        IsLongest spells extends tokens (end + 1) next last → ListGoes tokens from next new
-    list_next tokens from end stop next last new go near ahead below reach comma longest = λ others agree xs to h.
-        step others end next to ahead (sym (agree end (omega arith)) ∙ comma)
-        (λ x to h. longest others (shorter tokens others last new reach agree) x to h)
-        (go others (shorter tokens others stop new below agree) xs to h)
-
-  ends : (others : List Token) (end to : ℕ) →
-      (HasSymbol others end s.COMMA → (x : X) (to : ℕ) → spells others (end + 1) x to → ⊥) →
-      EndsEarly (by_comma extends) others end to ⊎ ((ys : List X) × SpellsMore others (spells others) end ys to) →
-      (to ≡ end) ⊎ EndsEarly (by_comma extends) others end to
-  ends others end to stuck (inl early) = inr early
-  ends others end to stuck (inr ([], h)) = inl h
-  ends others end to stuck (inr (y ∷ ys, h)) = absurd (stuck h.1 y h.0 h.2)
-
-  pub list_ends : (tokens : List Token) (from end stop : ℕ) → ListGoes tokens from end stop → end ≤ stop →
-      is_symbol s.COMMA (what_at tokens end) ≡ false →
-      IsLongest (λ tokens. SpellsList tokens (spells tokens)) (by_comma extends) tokens from end stop
-  list_ends tokens from end stop go near no_comma = λ others agree xs to h.
-      ends others end to
-      (λ comma x to h. clash _ (ap (is_symbol s.COMMA) comma)
-      (ap (is_symbol s.COMMA) (sym (agree end near)) ∙ no_comma))
-      (go others agree xs to h)
-
-  pub list_is_stuck : (tokens : List Token) (from end stop last new : ℕ) → ListGoes tokens from end stop →
-      stop ≤ new → last ≤ new →
-      Stuck spells tokens (end + 1) last →
-      IsLongest (λ tokens. SpellsList tokens (spells tokens)) (by_comma extends) tokens from end new
-  list_is_stuck tokens from end stop last new go below reach stuck = λ others agree xs to h.
-      ends others end to
-      (λ comma x to h. stuck others (shorter tokens others last new reach agree) x to h)
-      (go others (shorter tokens others stop new below agree) xs to h)
-
   -- the bracket that closes a list stands at one place
   module _ (no_bracket : extends (Some (what.Symbol s.RIGHT_ROUND)) ≡ false) where
     closes : (others : List Token) (from end : ℕ) →

@@ -22,8 +22,8 @@ use Rattle.pearl_tree.proofs.TypeLists.{spells_struct}
 use Rattle.pearl_parse_expr.specs.Least.{ReachesIn, Reaches, GoesTo}
 use Rattle.pearl_parse_expr.proofs.Ids.{x_name, x_token, x_lawful}
 use Rattle.pearl_parse_expr.proofs.Local as local
-use Rattle.pearl_parse_expr.proofs.Reaching.{IsLocal, Lawful, begun, completed, reach_of, reaches_max, reaches_as}
-use Rattle.pearl_parse_expr.proofs.Reaching.{reaches_as_in, reaches_closed, reaches_closed_in, one_lawful, none_lawful}
+use Rattle.pearl_parse_expr.proofs.Reaching.{IsLocal, Lawful, begun, completed, goes, reaches_max}
+use Rattle.pearl_parse_expr.proofs.Reaching.{reaches_as_in, reaches_closed_in, one_lawful, none_lawful}
 use Rattle.pearl_parse_expr.proofs.Reaching.{placed, placed_within, what_stands, place_stands}
 use Rattle.pearl_parse_expr.proofs.Trees.{parts_of}
 use Rattle.pearl_parse_expr.specs.declared.reading.Halt.{Halt}
@@ -33,7 +33,8 @@ use Rattle.pearl_parse_expr.specs.Stops.{IsLongest}
 use Rattle.pearl_parse_expr.proofs.Parts.{shorter}
 use Rattle.pearl_tree.specs.Stops.{BeginAlike}
 use Rattle.pearl_parse_decl.specs.Readings.{IsSelfContained, ReadsMaybePart, by_bracket, behind}
-use Rattle.pearl_parse_decl.proofs.Behind.{halts_max, joined, read_behind}
+use Rattle.pearl_parse_decl.proofs.Behind.{Holds, closes_with, ends_with, longest_is_read, maybe_is_read}
+use Rattle.pearl_parse_decl.proofs.Behind.{only_is_read, unclosed, unread_behind}
 use Rattle.pearl_parse_decl.proofs.Types.{field_typing}
 use Rattle.pearl_parse_decl.proofs.Leaves.{word, symbol}
 use Rattle.pearl_parse_decl.proofs.ListReach.{list_is_local, list_after}
@@ -79,18 +80,6 @@ NamesRead tokens from names = ReadsOnly 9 SpellsNames tokens from (Ok names)
 abbrev pub BoundsRead : List Token → ℕ → Reading (Parts Bound) → Type 0
 BoundsRead tokens from bounds = ReadsMaybePart 9 SpellsBounds by_bracket tokens from (Ok bounds)
 
-pub names_read : (tokens : List Token) (from : ℕ) (names : Reading Names) → NamesRead tokens from names →
-    ReachesIn 9 SpellsNames tokens from names.stop
-names_read tokens from names read =
-    reach_of SpellsNames tokens names_are_local from names.part names.end names.stop read.spells
-    (omega (arith, read.ahead)) (omega (arith, read.ahead)) read.least
-
-pub bounds_read : (tokens : List Token) (from : ℕ) (bounds : Reading (Parts Bound)) →
-    BoundsRead tokens from bounds → ReachesIn 9 SpellsBounds tokens from bounds.stop
-bounds_read tokens from bounds read =
-    reach_of SpellsBounds tokens bounds_are_local from bounds.part bounds.end bounds.stop read.spells
-    (omega (arith, read.bounds)) (omega (arith, read.bounds)) read.least
-
 -- this token stands there
 abbrev pub Stands : List Token → ℕ → Token → Type 0
 Stands others k t = (what_at others k ≡ Some t.what) × (place_at others k ≡ Some t.place)
@@ -99,37 +88,38 @@ stands : (others : List Token) (k : ℕ) (t : Token) → slice_get others k ≡ 
 stands others k t here = (ap (option_map (λ token. token.what)) here, ap (option_map (λ token. token.place)) here)
 
 -- names, and a token that completes the whole behind them
-pub names_then : {Y : Type 0} (whole : List Token → Spelling Y) (tokens : List Token) (from stop : ℕ)
-    (t : Token) → IsLawfulWhat t.what →
-    ((others : List Token) (names : Names) (m at : ℕ) → IsAt others from at → SpellsNames others from names m →
-    Stands others m t → (y : Y) × whole others from y (m + 1)) →
-    ReachesIn 9 SpellsNames tokens from stop → Reaches whole tokens from stop
-names_then whole tokens from stop t known makes r =
-    reaches_closed_in SpellsNames whole tokens from from 9 16 stop t (omega arith) known
-    (λ others alike short m size end x h.
-    let at = placed_within others from (omega (arith, size, after_of 1 SpellsNames names_keep others from x m h)) in
-    makes others x m at.0 at.1 h (stands others m t end))
-    names_are_local r
+pub names_then : {Y : Type 0} (whole : List Token → Spelling Y) (tokens : List Token) (from : ℕ) (t : Token) →
+    IsLawfulWhat t.what → ((others : List Token) (names : Names) (m at : ℕ) → IsAt others from at →
+    SpellsNames others from names m → Stands others m t → (y : Y) × whole others from y (m + 1)) →
+    Holds 9 16 SpellsNames whole tokens from from
+names_then whole tokens from t known makes = record {
+  carries = λ stop near within r.
+      reaches_closed_in SpellsNames whole tokens from from 9 16 stop t (omega arith) known
+      (λ others alike short m size end x h.
+      let at = placed_within others from (omega (arith, size, after_of 1 SpellsNames names_keep others from x m h)) in
+      makes others x m at.0 at.1 h (stands others m t end))
+      names_are_local r;
+}
 
 module _ (tokens : List Token) (from : ℕ) (names : Names) (a : ℕ) (named : SpellsNames tokens from names a) where
   pub names_ahead : from + 1 ≤ a
   names_ahead = after_of 1 SpellsNames names_keep tokens from names a named
 
   -- the same, behind bounds
-  pub bounds_then : {Y : Type 0} (whole : List Token → Spelling Y) (stop : ℕ) (t : Token) →
-      IsLawfulWhat t.what → a ≤ stop →
+  pub bounds_then : {Y : Type 0} (whole : List Token → Spelling Y) (t : Token) → IsLawfulWhat t.what →
       ((others : List Token) (bounds : Parts Bound) (b at : ℕ) → IsAt others from at →
       SpellsNames others from names a → SpellsBounds others a bounds b → Stands others b t →
-      (y : Y) × whole others from y (b + 1)) →
-      ReachesIn 9 SpellsBounds tokens a stop → Reaches whole tokens from stop
-  bounds_then whole stop t known near makes r =
-      reaches_closed_in SpellsBounds whole tokens from a 9 16 stop t (omega (arith, names_ahead)) known
-      (λ others alike short m size end x h.
-      let at = placed_within others from
-      (omega (arith, size, names_ahead, after_of 0 SpellsBounds bounds_keep others a x m h)) in
-      makes others x m at.0 at.1 (names_are_local tokens others stop alike from names a named near) h
-      (stands others m t end))
-      bounds_are_local r
+      (y : Y) × whole others from y (b + 1)) → Holds 9 16 SpellsBounds whole tokens from a
+  bounds_then whole t known makes = record {
+    carries = λ stop near within r.
+        reaches_closed_in SpellsBounds whole tokens from a 9 16 stop t (omega (arith, names_ahead)) known
+        (λ others alike short m size end x h.
+        let at = placed_within others from
+        (omega (arith, size, names_ahead, after_of 0 SpellsBounds bounds_keep others a x m h)) in
+        makes others x m at.0 at.1 (names_are_local tokens others stop alike from names a named near) h
+        (stands others m t end))
+        bounds_are_local r;
+  }
 
 -- ---- fields
 
@@ -144,46 +134,44 @@ pub field_is_contained : (depth : ℕ) → IsSelfContained (λ tokens. SpellsFie
 field_is_contained depth = contained_of 2 (λ tokens. SpellsField tokens depth) (omega arith)
     (λ tokens others k alike. field_keeps tokens others k alike depth)
 
-pub field_names : (tokens : List Token) (depth from stop : ℕ) → ReachesIn 9 SpellsNames tokens from stop →
-    Reaches (λ tokens. SpellsField tokens depth) tokens from stop
-field_names tokens depth from stop r =
-    names_then (λ tokens. SpellsField tokens depth) tokens from stop clock (omega arith)
+pub field_names : (tokens : List Token) (depth from : ℕ) →
+    Holds 9 16 SpellsNames (λ tokens. SpellsField tokens depth) tokens from from
+field_names tokens depth from =
+    names_then (λ tokens. SpellsField tokens depth) tokens from clock (omega arith)
     (λ others names m at here h last. (
       record { names = names; bounds = parts_of [] (omega arith); typing = typing.Basic (basic.Clock 0); place = at },
       (m, m, here, h, refl, clock_stands others m last),
-    )) r
+    ))
 
 module _ (tokens : List Token) (depth from : ℕ) (names : Names) (a : ℕ)
     (named : SpellsNames tokens from names a) where
-  pub field_bounds : (stop : ℕ) → a ≤ stop → ReachesIn 9 SpellsBounds tokens a stop →
-      Reaches (λ tokens. SpellsField tokens depth) tokens from stop
-  field_bounds stop near r =
-      bounds_then tokens from names a named (λ tokens. SpellsField tokens depth) stop clock (omega arith) near
+  pub field_bounds : Holds 9 16 SpellsBounds (λ tokens. SpellsField tokens depth) tokens from a
+  field_bounds =
+      bounds_then tokens from names a named (λ tokens. SpellsField tokens depth) clock (omega arith)
       (λ others bounds b at here h g last. (
         record { names = names; bounds = bounds; typing = typing.Basic (basic.Clock 0); place = at },
         (a, b, here, h, g, clock_stands others b last),
-      )) r
+      ))
 
-  pub field_reaches : (bounds : Parts Bound) (b stop : ℕ) → SpellsBounds tokens a bounds b → b ≤ stop →
-      Reaches (λ tokens. SpellsTyping tokens depth) tokens b stop →
-      Reaches (λ tokens. SpellsField tokens depth) tokens from stop
-  field_reaches bounds b stop bounded near r =
+  pub field_type : (bounds : Parts Bound) (b : ℕ) → SpellsBounds tokens a bounds b →
+      Holds 16 16 (λ tokens. SpellsTyping tokens depth) (λ tokens. SpellsField tokens depth) tokens from b
+  field_type bounds b bounded =
       let ahead = names_ahead tokens from names a named in
       let behind : a ≤ b = omega (arith, after_of 0 SpellsBounds bounds_keep tokens a bounds b bounded) in
-      reaches_as (λ tokens. SpellsTyping tokens depth) (λ tokens. SpellsField tokens depth) tokens from b stop
-      (omega arith)
-      (λ others alike long short x h.
-      let at = placed_within others from (omega arith) in (
+      ends_with (λ tokens. SpellsTyping tokens depth) (λ tokens. SpellsField tokens depth) tokens from b
+      (omega (arith, ahead, behind))
+      (λ others stop near long alike x h.
+      let at = placed_within others from (omega (arith, ahead, behind, near, long)) in (
         record { names = names; bounds = bounds; typing = x; place = at.0 },
         (
           a,
           b,
           at.1,
-          names_are_local tokens others stop alike from names a named (omega arith),
+          names_are_local tokens others stop alike from names a named (omega (arith, behind, near)),
           bounds_are_local tokens others stop alike a bounds b bounded near,
           h,
         ),
-      )) r
+      ))
 
 pub typing_is_local : (depth : ℕ) → IsLocal (λ tokens. SpellsTyping tokens depth)
 typing_is_local depth tokens others k alike from x to h near =
@@ -203,14 +191,13 @@ module _ (tokens : List Token) (depth from : ℕ) (names : Reading Names) (named
   before_type : Reaches TheField tokens from stop
   before_type =
       reaches_max TheField tokens from names.stop bounds.stop stop is
-      (field_names tokens depth from names.stop (names_read tokens from names named))
-      (field_bounds tokens depth from names.part names.end named.spells bounds.stop (omega (arith, bounded.bounds))
-      (bounds_read tokens names.end bounds bounded))
+      (unclosed (field_names tokens depth from) (only_is_read named) names_are_local)
+      (unclosed (field_bounds tokens depth from names.part names.end named.spells) (maybe_is_read bounded)
+      bounds_are_local)
 
-  with_type : (k : ℕ) → bounds.end ≤ k → k ≤ length tokens → Reaches TheType tokens bounds.end k →
-      Reaches TheField tokens from k
-  with_type k near within r = field_reaches tokens depth from names.part names.end named.spells bounds.part bounds.end k
-      bounded.spells near r
+  with_type : Holds 16 16 TheType TheField tokens from bounds.end
+  with_type = field_type tokens depth from names.part names.end named.spells bounds.part bounds.end
+      bounded.spells
 
   type_of : (others : List Token) (k : ℕ) → stop ≤ k → BeginAlike tokens others k →
       (x : Field) (to : ℕ) → TheField others from x to → TheType others bounds.end x.typing to
@@ -221,10 +208,9 @@ module _ (tokens : List Token) (depth from : ℕ) (names : Reading Names) (named
   pub field_unread : (halt result : Halt) → result ≡ behind halt stop →
       Reads 16 TheType by_bracket tokens bounds.end (Err halt) → Reads 16 TheField by_bracket tokens from (Err result)
   field_unread halt result same none =
-      read_behind TheType TheField tokens from bounds.end stop halt result same
-      (omega (arith, named.ahead, bounded.bounds)) (omega (arith, is, named.ahead, bounded.bounds))
-      (λ others agree x to h. (x.typing, to, type_of others stop (omega arith) agree x to h)) none.refused
-      (halts_max TheType TheField tokens from bounds.end stop halt before_type with_type none.refused none.least)
+      unread_behind with_type stop before_type halt same (omega (arith, named.ahead, bounded.bounds))
+      (omega (arith, is, named.ahead, bounded.bounds))
+      (λ others agree x to h. (x.typing, to, type_of others stop (omega arith) agree x to h)) none.refused none.least
 
   module _ (part : Reading Typing) (read : Reads 16 TheType by_bracket tokens bounds.end (Ok part)) (last : ℕ)
       (later : last ≡ max part.stop stop) where
@@ -235,16 +221,23 @@ module _ (tokens : List Token) (depth from : ℕ) (names : Reading Names) (named
 
     pub field_goes : GoesTo TheField tokens from part.end last
     field_goes =
-        joined TheType TheField (typing_is_local depth) tokens from bounds.end with_type part.part part.end part.stop
-        read.spells read.ahead read.least part.end stop last later before_type
+        goes TheField tokens from part.end last
+        (reaches_max TheField tokens from part.stop stop last later
+        (unclosed with_type (longest_is_read read) (typing_is_local depth)) before_type)
 
 -- ---- types
 
-pub typing_basic : (tokens : List Token) (depth from stop : ℕ) → Reaches SpellsBasic tokens from stop →
-    Reaches (λ tokens. SpellsTyping tokens depth) tokens from stop
-typing_basic tokens depth from stop r =
-    reaches_as SpellsBasic (λ tokens. SpellsTyping tokens depth) tokens from from stop (omega arith)
-    (λ others alike long short x h. (typing.Basic x, h)) r
+pub typing_holds : (tokens : List Token) (depth from : ℕ) →
+    Holds 16 16 SpellsBasic (λ tokens. SpellsTyping tokens depth) tokens from from
+typing_holds tokens depth from =
+    ends_with SpellsBasic (λ tokens. SpellsTyping tokens depth) tokens from from (omega arith)
+    (λ others stop near long alike x h. (typing.Basic x, h))
+
+abbrev pub fields_at : ℕ → List Token → Spelling (List Field)
+fields_at depth tokens = SpellsList tokens (SpellsField tokens depth)
+
+pub fields_are_local : (depth : ℕ) → IsLocal (fields_at depth)
+fields_are_local depth = list_is_local (λ tokens. SpellsField tokens depth) (field_is_contained depth)
 
 module _ (tokens : List Token) (depth from : ℕ) (struct : HasWord tokens from w.STRUCT) (deep : 0 < depth) where
   abbrev one_field : List Token
@@ -305,28 +298,25 @@ module _ (tokens : List Token) (depth from : ℕ) (struct : HasWord tokens from 
       ))
 
   -- fields behind the bracket
-  pub struct_reaches : length tokens < 2 ^ 55 → HasSymbol tokens (from + 1) s.LEFT_SQUARE →
-      (stop : ℕ) → from + 2 ≤ stop → stop ≤ length tokens →
-      Reaches (λ tokens. SpellsList tokens (SpellsField tokens (depth - 1))) tokens (from + 2) stop →
-      Reaches (λ tokens. SpellsTyping tokens depth) tokens from stop
-  struct_reaches few bracket stop near within r =
-      reaches_closed (λ tokens. SpellsList tokens (SpellsField tokens (depth - 1)))
-      (λ tokens. SpellsTyping tokens depth) tokens from (from + 2) stop (symbol s.RIGHT_SQUARE) (omega arith)
-      (omega arith)
-      (λ others alike short m size end xs h.
+  pub struct_holds : length tokens < 2 ^ 55 → HasSymbol tokens (from + 1) s.LEFT_SQUARE →
+      Holds 16 16 (fields_at (depth - 1)) (λ tokens. SpellsTyping tokens depth) tokens from (from + 2)
+  struct_holds few bracket =
+      closes_with (fields_at (depth - 1)) (λ tokens. SpellsTyping tokens depth)
+      (fields_are_local (depth - 1)) tokens from (from + 2) (omega arith) (symbol s.RIGHT_SQUARE) (omega arith)
+      (λ others stop near within alike short m size end xs h.
       let all = list_after (λ tokens. SpellsField tokens (depth - 1)) (field_is_contained (depth - 1)) others
       (from + 2) xs m h in
-      let small : length xs < 2 ^ 63 = omega (arith, all) in
+      let small : length xs < 2 ^ 63 = omega (arith, all, few, within, short, size) in
       let at = placed_within others from (omega (arith, size, all)) in (
         typing.Struct (parts_of xs small) at.0,
         subst (λ X. X) (sym (spells_struct others depth from (parts_of xs small) at.0 (m + 1))) (
           m,
           at.1,
-          local.what tokens others stop alike from (omega arith) ∙ struct,
+          local.what tokens others stop alike from (omega (arith, near)) ∙ struct,
           deep,
-          local.what tokens others stop alike (from + 1) (omega arith) ∙ bracket,
+          local.what tokens others stop alike (from + 1) (omega (arith, near)) ∙ bracket,
           h,
-          ap (option_map (λ token. token.what)) end,
+          end,
           refl,
         ),
-      )) (list_is_local (λ tokens. SpellsField tokens (depth - 1)) (field_is_contained (depth - 1))) r
+      ))

@@ -1,5 +1,5 @@
 -- What other tokens can spell at names and types, by the first token.
-use Rattle.std.proofs.Common.{◌≡◌, ℕ, ◌+◌, ◌-◌, ◌<◌, ◌≤◌, true, false, List, Some, inl, refl}
+use Rattle.std.proofs.Common.{◌≡◌, ℕ, ◌+◌, ◌-◌, ◌<◌, ◌≤◌, true, false, List, Some, refl}
 use Rattle.std.proofs.Common.{sym, ap, subst, ◌∙◌, arith}
 use mathlib.Core.Former.{Count}
 use Rattle.pearl_tree.specs.declared.name.Name.{Name}
@@ -21,8 +21,8 @@ use Rattle.pearl_tree.specs.Types.{SpellsMoreFields, SpellsField}
 use Rattle.pearl_tree.specs.declared.symbol.TheConstants as s
 use Rattle.pearl_tree.specs.declared.word_code.TheConstants as w
 use Rattle.pearl_tree.specs.Stops.{BeginAlike}
-use Rattle.pearl_parse_expr.specs.Stops.{IsLongest, Stuck, IsOnly, is_symbol, is_word, is_name}
-use Rattle.pearl_parse_decl.specs.Readings.{by_bracket, by_comma}
+use Rattle.pearl_parse_expr.specs.Stops.{IsLongest, Stuck, IsOnly, is_symbol, is_word, is_name, by_comma}
+use Rattle.pearl_parse_decl.specs.Readings.{by_bracket}
 use Rattle.pearl_parse_expr.proofs.Primaries.{clash}
 use Rattle.pearl_parse_expr.proofs.Parts.{shorter}
 use Rattle.pearl_parse_decl.proofs.Lists.{settled}
@@ -47,7 +47,7 @@ module _ (tokens : List Token) where
   typing_head depth from (typing.Struct' _ fields place) to h = ap by_bracket h.2
   typing_head depth from (typing.Named name) to h = ap by_bracket h.0.0
 
-  pub only_basic : (depth from : ℕ) → is_name (what_at tokens from) ≡ false →
+  only_basic : (depth from : ℕ) → is_name (what_at tokens from) ≡ false →
       is_word w.STRUCT (what_at tokens from) ≡ false →
       (x : Typing) (to : ℕ) → SpellsTyping tokens depth from x to →
       (part : Basic) × SpellsBasic tokens from part to
@@ -143,6 +143,14 @@ module _ (tokens : List Token) where
       )
   only_struct depth from word (typing.Named name) to h = absurd (clash _ (ap is_name h.0.0) (ap is_name word))
 
+-- a type that tokens spell which begin alike, with neither a name nor STRUCT
+pub basic_of : (tokens others : List Token) (depth from stop : ℕ) → is_name (what_at tokens from) ≡ false →
+    is_word w.STRUCT (what_at tokens from) ≡ false → from ≤ stop → BeginAlike tokens others stop →
+    (x : Typing) (to : ℕ) → SpellsTyping others depth from x to → (part : Basic) × SpellsBasic others from part to
+basic_of tokens others depth from stop no_name no_struct near agree =
+    let here = sym (agree from near) in
+    only_basic others depth from (ap is_name here ∙ no_name) (ap (is_word w.STRUCT) here ∙ no_struct)
+
 -- a STRUCT that tokens spell which begin alike
 pub struct_of : (tokens others : List Token) (depth from stop : ℕ) → HasWord tokens from w.STRUCT →
     from ≤ stop → BeginAlike tokens others stop → (x : Typing) (to : ℕ) →
@@ -166,10 +174,9 @@ module _ (tokens : List Token) (depth from end stop : ℕ) (word : HasWord token
       let same = settled (by_comma by_bracket) others end read.1 (longest others agree read.0 read.1 read.2) none in
       (subst (λ k. HasSymbol others k s.RIGHT_SQUARE) same read.3, omega (arith, same, read.4))
 
-  pub struct_is_longest : (new : ℕ) → stop ≤ new →
-      IsLongest (λ tokens. SpellsTyping tokens depth) by_bracket tokens from (end + 1) new
-  struct_is_longest new below = λ others agree x to h.
-      inl (closes others (shorter tokens others stop new below agree) x to h).1
+  pub struct_is_only : (new : ℕ) → stop ≤ new → IsOnly (λ tokens. SpellsTyping tokens depth) tokens from (end + 1) new
+  struct_is_only new below = λ others agree x to h.
+      (closes others (shorter tokens others stop new below agree) x to h).1
 
   pub struct_is_open : end ≤ stop → is_symbol s.RIGHT_SQUARE (what_at tokens end) ≡ false →
       Stuck (λ tokens. SpellsTyping tokens depth) tokens from stop

@@ -1,6 +1,6 @@
 -- With which tokens a part goes on that could end before them, and what is told of a part that is not read.
-use Rattle.std.specs.Prelude.{ℕ, ◌+◌, ◌≤◌, ◌||◌, max, Bool, false, List, length}
-use Rattle.std.specs.Prelude.{Option, Result, Ok, Err}
+use Rattle.std.specs.Prelude.{◌≡◌, ℕ, ◌+◌, ◌≤◌, ◌||◌, max, Bool, false, List, length}
+use Rattle.std.specs.Prelude.{Option, Some, None, Result, Ok, Err}
 use Rattle.pearl_tree.specs.declared.token.What.{What}
 use Rattle.pearl_tree.specs.declared.token.Token.{Token}
 use Rattle.pearl_tree.specs.Standing.{Spelling}
@@ -12,6 +12,7 @@ use Rattle.pearl_parse_expr.specs.Stops.{is_name, is_symbol, is_word}
 use Rattle.pearl_parse_expr.specs.declared.reading.Reading.{Reading}
 use Rattle.pearl_parse_expr.specs.Least.{AlikeBefore, ReachesIn}
 use Rattle.pearl_parse_expr.specs.Reads.{ReadsMaybe}
+pub use Rattle.pearl_parse_expr.specs.Stops.{by_comma}
 
 -- a part that has one end
 abbrev pub never : Option What → Bool
@@ -27,10 +28,6 @@ by_colon = is_symbol s.COLON
 -- `+` or `-`
 abbrev pub is_sign : Option What → Bool
 is_sign token = is_symbol s.PLUS token || is_symbol s.MINUS token
-
--- part { "," part }
-abbrev pub by_comma : (Option What → Bool) → Option What → Bool
-by_comma extends token = extends token || is_symbol s.COMMA token
 
 abbrev pub extends_item : Option What → Bool
 extends_item token = by_bracket token || is_word w.INIT token
@@ -61,15 +58,12 @@ abbrev pub ReadsMaybePart : {X : Type 0} → ℕ → (List Token → Spelling X)
     Result (Reading X) Halt → Type 0
 ReadsMaybePart room part extends tokens from result = ReadsMaybe room part part part extends tokens from result
 
--- what is read, or the number of the token with which nothing is, as any reader tells it
-abbrev pub or_refused : {X : Type 0} → Result (Reading X) ℕ → Result (Reading X) Halt
-or_refused (Ok reading) = Ok reading
-or_refused (Err stop) = Err (Refused stop)
-
--- the same of a part that ends at `end` wherever it is read, and is stopped there
-abbrev pub read_to : {X : Type 0} → ℕ → Result X ℕ → Result (Reading X) Halt
-read_to end (Ok part) = Ok (record { part = part; end = end; stop = end })
-read_to end (Err stop) = Err (Refused stop)
+-- what is told of a part that may be missing, as one is told that may not: where this is refused, nothing is read
+abbrev pub IsOptional : {X : Type 0} → ℕ → Result (Reading X) Halt → Reading (Option X) → Type 0
+IsOptional from (Ok reading) maybe =
+    maybe ≡ record { part = Some reading.part; end = reading.end; stop = reading.stop }
+IsOptional from (Err (Refused stop)) maybe = maybe ≡ record { part = None; end = from; stop = stop }
+IsOptional from (Err NoMemory) maybe = ⊥
 
 -- a part is refused where another one before it was stopped
 abbrev pub behind : Halt → ℕ → Halt

@@ -33,7 +33,7 @@ pub fn length_of(tokens: &[Token], from: usize) -> Result<Reading<Decl>, Halt>
     };
     let number = match bracketed_number(tokens, from + 2) {
         Ok(number) => number,
-        Err(stop) => return Err(Halt::Refused(stop)),
+        Err(halt) => return Err(halt),
     };
     if !is_symbol(tokens, from + 5, SEMICOLON) {
         return Err(Halt::Refused(from + 5));
@@ -41,7 +41,7 @@ pub fn length_of(tokens: &[Token], from: usize) -> Result<Reading<Decl>, Halt>
     Ok(Reading {
         part: Decl::Length {
             sort,
-            number,
+            number: number.part,
             place: place_at(tokens, from),
         },
         end: from + 6,
@@ -66,14 +66,15 @@ pub fn type_of(alloc: Global, tokens: &[Token], from: usize) -> Result<Reading<D
     if !is_symbol(tokens, typing.end, SEMICOLON) {
         return Err(Halt::Refused(typing.stop));
     }
+    let closed = typing.past(1);
     Ok(Reading {
         part: Decl::Type {
             name,
-            typing: typing.part,
+            typing: closed.part,
             place: place_at(tokens, from),
         },
-        end: typing.end + 1,
-        stop: typing.stop.max(typing.end + 1),
+        end: closed.end,
+        stop: closed.stop,
     })
 }
 
@@ -90,13 +91,14 @@ pub fn declare(alloc: Global, tokens: &[Token], from: usize) -> Result<Reading<D
     if !is_symbol(tokens, parts.end, SEMICOLON) {
         return Err(Halt::Refused(parts.stop));
     }
+    let closed = parts.past(1);
     Ok(Reading {
         part: Decl::Declare {
-            declared: Parts::new(parts.part),
+            declared: Parts::new(closed.part),
             place: place_at(tokens, from),
         },
-        end: parts.end + 1,
-        stop: parts.stop.max(parts.end + 1),
+        end: closed.end,
+        stop: closed.stop,
     })
 }
 
@@ -113,12 +115,13 @@ pub fn specify(alloc: Global, tokens: &[Token], from: usize) -> Result<Reading<D
     if !is_symbol(tokens, parts.end, SEMICOLON) {
         return Err(Halt::Refused(parts.stop));
     }
+    let closed = parts.past(1);
     Ok(Reading {
         part: Decl::Specify {
-            specs: Parts::new(parts.part),
+            specs: Parts::new(closed.part),
             place: place_at(tokens, from),
         },
-        end: parts.end + 1,
-        stop: parts.stop.max(parts.end + 1),
+        end: closed.end,
+        stop: closed.stop,
     })
 }

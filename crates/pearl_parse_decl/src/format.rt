@@ -98,13 +98,13 @@ pub fn fmt(tokens: &[Token], from: usize) -> Result<Reading<Fmt>, Halt>
             Ok(width) => Ok(Reading {
                 part: Fmt::Wide {
                     code,
-                    width,
+                    width: width.part,
                     place: place_at(tokens, from),
                 },
-                end: from + 4,
-                stop: from + 4,
+                end: width.end,
+                stop: width.stop,
             }),
-            Err(stop) => Err(Halt::Refused(stop)),
+            Err(halt) => Err(halt),
         },
         None => Err(Halt::Refused(from)),
     }

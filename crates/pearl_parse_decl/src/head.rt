@@ -1,16 +1,17 @@
 // Heads of tasks and procedures.
 
-ghost use Rattle.std.specs.Prelude.{◌+◌, ◌≤◌, None, length, refl};
+ghost use Rattle.std.specs.Prelude.{◌≡◌, ◌≢◌, ◌+◌, ◌≤◌, Ok, length, IfOk, IfErr, refl};
 ghost use Rattle.pearl_tree.specs.Standing.{SpellsMaybe};
 ghost use Rattle.pearl_tree.specs.Declarations as grammar;
 ghost use Rattle.pearl_tree.specs.Modules as modules;
 ghost use Rattle.pearl_tree.specs.declared.word_code.TheConstants as w;
+ghost use Rattle.pearl_parse_expr.specs.declared.reading.Halt.{Halt};
 ghost use Rattle.pearl_parse_expr.specs.Stops as stops;
 ghost use Rattle.pearl_parse_expr.specs.Reads.{Reads, ReadsOnly};
 ghost use Rattle.pearl_parse_expr.proofs.PartsBegin as parts;
 ghost use Rattle.pearl_parse_decl.specs.Readings as spec;
 
-use crate::flag::flag;
+use crate::flag::{flag, optional};
 use crate::list::{Readable, behind};
 use crate::name::names;
 use crate::typing::basic;
@@ -66,20 +67,26 @@ impl Readable for Param {
     ghost stops_at_bracket = { refl };
 }
 
-// `PRIO number`, or the number of a token with which none begins.
-fn prio(tokens: &[Token], from: usize) -> Result<Prio, usize>
+// `PRIO number`
+fn prio(tokens: &[Token], from: usize) -> Result<Reading<Prio>, Halt>
     requires { from ≤ length tokens.now }
-    ensures { ReadsOnly 16 grammar.SpellsPrio tokens.now from (spec.read_to (from + 2) result) }
+    ensures reads { ReadsOnly 16 grammar.SpellsPrio tokens.now from result }
+    ensures once { IfOk result (λ reading. reading.stop ≡ reading.end) }
+    ensures memory { IfErr result (λ halt. halt ≢ Halt.NoMemory) }
 {
     if !is_word(tokens, from, PRIO) {
-        return Err(from);
+        return Err(Halt::Refused(from));
     }
     match number_at(tokens, from + 1) {
-        Some(number) => Ok(Prio {
-            number,
-            place: place_at(tokens, from),
+        Some(number) => Ok(Reading {
+            part: Prio {
+                number,
+                place: place_at(tokens, from),
+            },
+            end: from + 2,
+            stop: from + 2,
         }),
-        None => Err(from + 1),
+        None => Err(Halt::Refused(from + 1)),
     }
 }
 
@@ -89,68 +96,55 @@ pub fn task_head(tokens: &[Token], from: usize) -> Reading<TaskHead>
     ensures { spec.ReadsMaybePart 16 modules.SpellsTaskHead spec.extends_head tokens.now from (Ok result) }
 {
     if is_word(tokens, from, MAIN) {
-        return match prio(tokens, from + 1) {
-            Ok(prio) => Reading {
+        let behind = optional(prio(tokens, from + 1), from + 1);
+        return match behind.part {
+            Some(prio) => Reading {
                 part: TaskHead::MainFirst { prio },
-                end: from + 3,
-                stop: from + 3,
+                end: behind.end,
+                stop: behind.stop,
             },
-            Err(stop) => Reading {
+            None => Reading {
                 part: TaskHead::PrioFirst {
                     prio: None,
                     main: true,
                 },
-                end: from + 1,
-                stop,
+                end: behind.end,
+                stop: behind.stop,
             },
         };
     }
-    match prio(tokens, from) {
-        Ok(prio) => {
-            let main = flag(tokens, from + 2, MAIN);
-            Reading {
-                part: TaskHead::PrioFirst {
-                    prio: Some(prio),
-                    main: main.part,
-                },
-                end: main.end,
-                stop: main.stop,
-            }
-        }
-        Err(stop) => Reading {
-            part: TaskHead::PrioFirst {
-                prio: None,
-                main: false,
-            },
-            end: from,
-            stop,
+    let prio = optional(prio(tokens, from), from);
+    let main = flag(tokens, prio.end, MAIN);
+    Reading {
+        part: TaskHead::PrioFirst {
+            prio: prio.part,
+            main: main.part,
         },
+        end: main.end,
+        stop: main.stop.max(prio.stop),
     }
 }
 
-// `RETURNS "(" basic ")"`, or the number of a token with which none begins.
-fn returned(tokens: &[Token], from: usize) -> Result<Reading<Basic>, usize>
+// `RETURNS "(" basic ")"`
+fn returned(tokens: &[Token], from: usize) -> Result<Reading<Basic>, Halt>
     requires { from ≤ length tokens.now }
-    ensures { ReadsOnly 16 modules.SpellsReturns tokens.now from (spec.or_refused result) }
+    ensures reads { ReadsOnly 16 modules.SpellsReturns tokens.now from result }
+    ensures memory { IfErr result (λ halt. halt ≢ Halt.NoMemory) }
 {
     if !is_word(tokens, from, RETURNS) {
-        return Err(from);
+        return Err(Halt::Refused(from));
     }
     if !is_symbol(tokens, from + 1, LEFT_ROUND) {
-        return Err(from + 1);
+        return Err(Halt::Refused(from + 1));
     }
     let basic = match basic(tokens, from + 2) {
         Ok(basic) => basic,
-        Err(_) => return Err(from + 2),
+        Err(halt) => return Err(halt),
     };
     if !is_symbol(tokens, basic.end, RIGHT_ROUND) {
-        return Err(basic.stop);
+        return Err(Halt::Refused(basic.stop));
     }
-    Ok(Reading {
-        part: basic.part,
-        end: basic.end + 1,
-        stop: basic.stop.max(basic.end + 1),
-    })
+    Ok(basic.past(1))
 }
 
 /// `[ RETURNS "(" basic ")" ]`
@@ -158,16 +152,5 @@ pub fn returns(tokens: &[Token], from: usize) -> Reading<Option<Basic>>
     requires { from ≤ length tokens.now }
     ensures { spec.ReadsMaybePart 16 (λ tokens. SpellsMaybe (modules.SpellsReturns tokens)) (stops.is_word w.RETURNS) tokens.now from (Ok result) }
 {
-    match returned(tokens, from) {
-        Ok(basic) => Reading {
-            part: Some(basic.part),
-            end: basic.end,
-            stop: basic.stop,
-        },
-        Err(stop) => Reading {
-            part: None,
-            end: from,
-            stop,
-        },
-    }
+    optional(returned(tokens, from), from)
 }

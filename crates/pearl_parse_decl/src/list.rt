@@ -11,7 +11,7 @@ ghost use Rattle.pearl_parse_expr.specs.Stops as stops;
 ghost use Rattle.pearl_parse_expr.specs.Reads.{Reads, ReadsList, ReadsOnlyList, ReadsMaybeList};
 ghost use Rattle.pearl_parse_decl.specs.Readings as spec;
 
-use pearl_parse_expr::reading::{Halt, Reading, append};
+use pearl_parse_expr::reading::{Halt, Reading};
 use pearl_parse_expr::standing::{is_symbol, is_word};
 use pearl_tree::symbol::{COMMA, LEFT_ROUND, RIGHT_ROUND};
 use pearl_tree::token::Token;
@@ -65,34 +65,14 @@ pub fn list<P: Readable>(
         Ok(first) => first,
         Err(halt) => return Err(halt),
     };
-    let mut list = Vec::new(alloc);
-    append(&mut list, first.part)?;
-    let mut end = first.end;
-    let mut stop = first.stop;
-    'each: while is_symbol(tokens, end, COMMA) {
-        match P::read(alloc, tokens, end + 1) {
-            Ok(next) => {
-                append(&mut list, next.part)?;
-                end = next.end;
-                stop = stop.max(next.stop);
-            }
-            Err(halt) => match halt {
-                Halt::Refused(at) => {
-                    return Ok(Reading {
-                        part: list,
-                        end,
-                        stop: stop.max(at),
-                    });
-                }
-                Halt::NoMemory => return Err(Halt::NoMemory),
-            },
+    let mut list = Reading::one(alloc, first)?;
+    'each: while is_symbol(tokens, list.end, COMMA) {
+        match P::read(alloc, tokens, list.end + 1) {
+            Ok(next) => list.add(next)?,
+            Err(halt) => return list.ended(halt),
         }
     }
-    Ok(Reading {
-        part: list,
-        end,
-        stop,
-    })
+    Ok(list)
 }
 
 // A list in brackets has room 9 in place of 16: the opening bracket pays for eight tokens, and one more closes the list.
@@ -116,11 +96,7 @@ pub fn bracketed<P: Readable>(
     if !is_symbol(tokens, inner.end, RIGHT_ROUND) {
         return Err(Halt::Refused(inner.stop));
     }
-    Ok(Reading {
-        part: inner.part,
-        end: inner.end + 1,
-        stop: inner.stop.max(inner.end + 1),
-    })
+    Ok(inner.past(1))
 }
 
 /// `[ "(" part { "," part } ")" ]`: without brackets, or where no list in brackets begins, nothing is read.
@@ -136,11 +112,7 @@ pub fn maybe_bracketed<P: Readable>(
     match bracketed(alloc, tokens, from) {
         Ok(list) => Ok(list),
         Err(halt) => match halt {
-            Halt::Refused(stop) => Ok(Reading {
-                part: Vec::new(alloc),
-                end: from,
-                stop,
-            }),
+            Halt::Refused(stop) => Ok(Reading::none(alloc, from, stop)),
             Halt::NoMemory => Err(Halt::NoMemory),
         },
     }
@@ -158,20 +130,12 @@ pub fn maybe_headed<P: Readable>(
     ensures memory { IfErr result (λ halt. halt ≡ Halt.NoMemory) }
 {
     if !is_word(tokens, from, word) {
-        return Ok(Reading {
-            part: Vec::new(alloc),
-            end: from,
-            stop: from,
-        });
+        return Ok(Reading::none(alloc, from, from));
     }
     match bracketed(alloc, tokens, from + 1) {
         Ok(list) => Ok(list),
         Err(halt) => match halt {
-            Halt::Refused(stop) => Ok(Reading {
-                part: Vec::new(alloc),
-                end: from,
-                stop,
-            }),
+            Halt::Refused(stop) => Ok(Reading::none(alloc, from, stop)),
             Halt::NoMemory => Err(Halt::NoMemory),
         },
     }

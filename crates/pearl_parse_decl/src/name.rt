@@ -1,6 +1,6 @@
 // Names, and numbers in brackets.
 
-ghost use Rattle.std.specs.Prelude.{◌≢◌, ◌+◌, ◌≤◌, Some, None, length, IfErr, refl};
+ghost use Rattle.std.specs.Prelude.{◌≡◌, ◌≢◌, ◌+◌, ◌≤◌, Some, None, Ok, length, IfOk, IfErr, refl};
 ghost use Rattle.pearl_tree.specs.Standing.{SpellsName, SpellsNumber, SpellsMaybe, SpellsBracketedNumber};
 ghost use Rattle.pearl_tree.specs.Types as grammar;
 ghost use Rattle.pearl_parse_expr.specs.declared.reading.Halt.{Halt};
@@ -8,6 +8,7 @@ ghost use Rattle.pearl_parse_expr.specs.Reads.{ReadsOnly};
 ghost use Rattle.pearl_parse_expr.proofs.PartsBegin as parts;
 ghost use Rattle.pearl_parse_decl.specs.Readings as spec;
 
+use crate::flag::optional;
 use crate::list::{Readable, bracketed};
 use pearl_parse_expr::reading::{Halt, Reading};
 use pearl_parse_expr::standing::{is_symbol, name_at, number_at, place_at};
@@ -81,24 +82,28 @@ impl Readable for Number {
     ghost stops_at_bracket = { refl };
 }
 
-/// The number that stands here in brackets, or the number of a token with which none does.
-pub fn bracketed_number(tokens: &[Token], from: usize) -> Result<Number, usize>
+/// The number that stands here in brackets.
+pub fn bracketed_number(tokens: &[Token], from: usize) -> Result<Reading<Number>, Halt>
     requires { from ≤ length tokens.now }
-    ensures { ReadsOnly 16 SpellsBracketedNumber tokens.now from (spec.read_to (from + 3) result) }
+    ensures reads { ReadsOnly 16 SpellsBracketedNumber tokens.now from result }
+    ensures once { IfOk result (λ reading. reading.stop ≡ reading.end) }
+    ensures memory { IfErr result (λ halt. halt ≢ Halt.NoMemory) }
 {
     if !is_symbol(tokens, from, LEFT_ROUND) {
-        return Err(from);
+        return Err(Halt::Refused(from));
     }
-    match number_at(tokens, from + 1) {
-        Some(number) => {
-            if is_symbol(tokens, from + 2, RIGHT_ROUND) {
-                Ok(number)
-            } else {
-                Err(from + 2)
-            }
-        }
-        None => Err(from + 1),
+    let part = match number_at(tokens, from + 1) {
+        Some(number) => number,
+        None => return Err(Halt::Refused(from + 1)),
+    };
+    if !is_symbol(tokens, from + 2, RIGHT_ROUND) {
+        return Err(Halt::Refused(from + 2));
     }
+    Ok(Reading {
+        part,
+        end: from + 3,
+        stop: from + 3,
+    })
 }
 
 /// The number that stands here in brackets, if one does.
@@ -106,18 +111,7 @@ pub fn maybe_number(tokens: &[Token], from: usize) -> Reading<Option<Number>>
     requires { from ≤ length tokens.now }
     ensures { spec.ReadsMaybePart 16 (λ tokens. SpellsMaybe (SpellsBracketedNumber tokens)) spec.by_bracket tokens.now from (Ok result) }
 {
-    match bracketed_number(tokens, from) {
-        Ok(number) => Reading {
-            part: Some(number),
-            end: from + 3,
-            stop: from + 3,
-        },
-        Err(stop) => Reading {
-            part: None,
-            end: from,
-            stop,
-        },
-    }
+    optional(bracketed_number(tokens, from), from)
 }
 
 /// `id | "(" id { "," id } ")"`

@@ -181,13 +181,14 @@ pub fn specified(alloc: Global, tokens: &[Token], from: usize) -> Result<Reading
         Err(halt) => return Err(halt),
     };
     if is_word(tokens, names.end, INTERRUPT) {
+        let names = names.past(1);
         return Ok(Reading {
             part: Spec::Interrupt {
                 names: names.part,
                 place: place_at(tokens, from),
             },
-            end: names.end + 1,
-            stop: names.stop.max(names.end + 1),
+            end: names.end,
+            stop: names.stop,
         });
     }
     if is_word(tokens, names.end, DATION) {
@@ -247,7 +248,7 @@ pub fn device(tokens: &[Token], from: usize) -> Result<Reading<Device>, Halt>
     };
     let number = match bracketed_number(tokens, from + 3) {
         Ok(number) => number,
-        Err(stop) => return Err(Halt::Refused(stop)),
+        Err(halt) => return Err(halt),
     };
     if !is_symbol(tokens, from + 6, SEMICOLON) {
         return Err(Halt::Refused(from + 6));
@@ -256,7 +257,7 @@ pub fn device(tokens: &[Token], from: usize) -> Result<Reading<Device>, Halt>
         part: Device {
             name,
             word,
-            number,
+            number: number.part,
             place: place_at(tokens, from),
         },
         end: from + 7,

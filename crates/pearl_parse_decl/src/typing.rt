@@ -11,9 +11,10 @@ ghost use Rattle.pearl_parse_expr.specs.Reads.{Reads, ReadsOnly, ReadsList};
 ghost use Rattle.pearl_parse_expr.proofs.PartsBegin as parts;
 ghost use Rattle.pearl_parse_decl.specs.Readings as spec;
 
+use crate::flag::optional;
 use crate::list::{Readable, behind, maybe_bracketed};
 use crate::name::{maybe_number, names};
-use pearl_parse_expr::reading::{Halt, Reading, append};
+use pearl_parse_expr::reading::{Halt, Reading};
 use pearl_parse_expr::standing::{is_symbol, is_word, name_at, number_at, place_at};
 use pearl_tree::name::Name;
 use pearl_tree::parts::Parts;
@@ -23,11 +24,12 @@ use pearl_tree::typing::{Basic, Bound, Field, Int, Sort, Typing};
 use pearl_tree::word_code::{BIT, CHAR, CLOCK, DURATION, FIXED, STRUCT};
 use std::alloc::Global;
 
-/// `[ "-" ] number`, or the number of a token with which none begins.
-pub fn int(tokens: &[Token], from: usize) -> Result<Reading<Int>, usize>
+/// `[ "-" ] number`
+pub fn int(tokens: &[Token], from: usize) -> Result<Reading<Int>, Halt>
     requires { from ≤ length tokens.now }
-    ensures reads { ReadsOnly 16 grammar.SpellsInt tokens.now from (spec.or_refused result) }
+    ensures reads { ReadsOnly 16 grammar.SpellsInt tokens.now from result }
     ensures once { IfOk result (λ reading. reading.stop ≡ reading.end) }
+    ensures memory { IfErr result (λ halt. halt ≢ Halt.NoMemory) }
 {
     if let Some(number) = number_at(tokens, from) {
         return Ok(Reading {
@@ -41,7 +43,7 @@ pub fn int(tokens: &[Token], from: usize) -> Result<Reading<Int>, usize>
         });
     }
     if !is_symbol(tokens, from, MINUS) {
-        return Err(from);
+        return Err(Halt::Refused(from));
     }
     match number_at(tokens, from + 1) {
         Some(number) => Ok(Reading {
@@ -53,7 +55,7 @@ pub fn int(tokens: &[Token], from: usize) -> Result<Reading<Int>, usize>
             end: from + 2,
             stop: from + 2,
         }),
-        None => Err(from + 1),
+        None => Err(Halt::Refused(from + 1)),
     }
 }
 
@@ -69,18 +71,7 @@ fn upper(tokens: &[Token], from: usize) -> Reading<Option<Int>>
             stop: from,
         };
     }
-    match int(tokens, from + 1) {
-        Ok(int) => Reading {
-            part: Some(int.part),
-            end: int.end,
-            stop: int.stop,
-        },
-        Err(stop) => Reading {
-            part: None,
-            end: from,
-            stop,
-        },
-    }
+    optional(int(tokens, from + 1), from)
 }
 
 /// `int [ ":" int ]`
@@ -91,7 +82,7 @@ pub fn bound(tokens: &[Token], from: usize) -> Result<Reading<Bound>, Halt>
 {
     let first = match int(tokens, from) {
         Ok(first) => first,
-        Err(stop) => return Err(Halt::Refused(stop)),
+        Err(halt) => return Err(halt),
     };
     let second = upper(tokens, first.end);
     Ok(Reading {
@@ -249,13 +240,14 @@ fn structure(
     if !is_symbol(tokens, inner.end, RIGHT_SQUARE) {
         return Err(Halt::Refused(inner.stop));
     }
+    let closed = inner.past(1);
     Ok(Reading {
         part: Typing::Struct {
-            fields: Parts::new(inner.part),
+            fields: Parts::new(closed.part),
             place: place_at(tokens, from),
         },
-        end: inner.end + 1,
-        stop: inner.stop.max(inner.end + 1),
+        end: closed.end,
+        stop: closed.stop,
     })
 }
 
@@ -273,34 +265,14 @@ fn fields(
         Ok(first) => first,
         Err(halt) => return Err(halt),
     };
-    let mut list = Vec::new(alloc);
-    append(&mut list, first.part)?;
-    let mut end = first.end;
-    let mut stop = first.stop;
-    'each: while is_symbol(tokens, end, COMMA) {
-        match field(alloc, tokens, end + 1, depth) {
-            Ok(next) => {
-                append(&mut list, next.part)?;
-                end = next.end;
-                stop = stop.max(next.stop);
-            }
-            Err(halt) => match halt {
-                Halt::Refused(at) => {
-                    return Ok(Reading {
-                        part: list,
-                        end,
-                        stop: stop.max(at),
-                    });
-                }
-                Halt::NoMemory => return Err(Halt::NoMemory),
-            },
+    let mut list = Reading::one(alloc, first)?;
+    'each: while is_symbol(tokens, list.end, COMMA) {
+        match field(alloc, tokens, list.end + 1, depth) {
+            Ok(next) => list.add(next)?,
+            Err(halt) => return list.ended(halt),
         }
     }
-    Ok(Reading {
-        part: list,
-        end,
-        stop,
-    })
+    Ok(list)
 }
 
 #[cycle(typing)]

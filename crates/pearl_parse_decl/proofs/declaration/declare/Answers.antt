@@ -1,41 +1,22 @@
 -- What `declare` answers: the list behind DCL isn't read, no semicolon closes it, or it is read.
-use Rattle.std.proofs.Common.{rules, ◌+◌}
-use Rattle.pearl_tree.specs.Declarations.{SpellsDeclared}
-use Rattle.pearl_tree.specs.Modules.{SpellsDecl}
-use Rattle.pearl_parse_expr.proofs.Reaching.{halts_as}
-use Rattle.pearl_parse_decl.proofs.Behind.{none_only, unclosed, closed}
-use Rattle.pearl_parse_decl.proofs.DeclReach.{declared_is_contained, declared_list, declare_reaches}
-use Rattle.pearl_parse_decl.proofs.ListReach.{list_is_local}
+use Rattle.std.proofs.Common.{rules, ◌≡◌, ap, refl}
+use Rattle.pearl_parse_decl.proofs.Behind.{list_is_read, part_closed, part_unclosed, part_unread}
+use Rattle.pearl_parse_decl.proofs.DeclReach.{declare_holds, declared_list, declared_list_is_local}
 use Rattle.pearl_parse_decl.proofs.declaration.declare.Goals as goal
 
 pub returns-in-Err : goal.returns-in-Err
 returns-in-Err c =
-    none_only (search rules)
-    (halts_as declared_list SpellsDecl c.args.tokens.now c.args.from (c.args.from + 1) c.in-Err.halt
-    (declare_reaches c.args.tokens.now c.args.from (search rules) c.requires.word)
-    c.in-Err.ensures.reads.refused c.in-Err.ensures.reads.least)
+    part_unread (declare_holds c.args.tokens.now c.args.from (search rules) c.requires.word) (search rules)
+    c.in-Err.ensures.reads.refused c.in-Err.ensures.reads.least
 
 pub returns-then-not-is_symbol : goal.returns-then-not-is_symbol
 returns-then-not-is_symbol c =
-    let parts = c.in-Ok.parts in
-    let read = c.in-Ok.ensures.reads in
-    none_only (search rules)
-    (unclosed declared_list SpellsDecl (list_is_local SpellsDeclared declared_is_contained) c.args.tokens.now
-    c.args.from (c.args.from + 1)
-    (declare_reaches c.args.tokens.now c.args.from (search rules) c.requires.word) parts.part.items parts.end parts.stop
-    read.spells read.ahead read.least)
+    part_unclosed (declare_holds c.args.tokens.now c.args.from (search rules) c.requires.word)
+    (list_is_read declared_list c.in-Ok.ensures.reads) declared_list_is_local (search rules)
 
 pub returns : goal.returns
 returns c =
-    record {
-      spells = search rules;
-      only = search rules;
-      ahead = search rules;
-      refused = tt;
-      least = let parts = c.in-Ok.parts in
-          let read = c.in-Ok.ensures.reads in
-          closed declared_list SpellsDecl (list_is_local SpellsDeclared declared_is_contained) c.args.tokens.now
-          c.args.from (c.args.from + 1)
-          (declare_reaches c.args.tokens.now c.args.from (search rules) c.requires.word) parts.part.items parts.end
-          parts.stop read.spells read.ahead read.least c.max.result c.max.ensures;
-    }
+    let same : c.past-closed.result.part ≡ c.in-Ok.parts.part = ap (λ reading. reading.part) c.past-closed.ensures in
+    rw c.past-closed.ensures (part_closed (declare_holds c.args.tokens.now c.args.from (search rules) c.requires.word)
+    (list_is_read declared_list c.in-Ok.ensures.reads) declared_list_is_local refl (search rules)
+    (search rules) (search rules))

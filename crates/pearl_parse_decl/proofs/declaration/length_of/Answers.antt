@@ -1,9 +1,13 @@
 -- What `length_of` answers: no sort stands behind LENGTH, no number in brackets behind it, no semicolon, or all do.
-use Rattle.std.proofs.Common.{rules, ◌+◌, refl, sym, ◌∙◌, arith}
+use Rattle.std.proofs.Common.{rules, ◌≡◌, ◌+◌, refl, sym, subst, ◌∙◌, arith}
 use Rattle.pearl_tree.specs.declared.word_code.TheConstants as w
+use Rattle.pearl_tree.specs.Standing.{SpellsBracketedNumber}
+use Rattle.pearl_tree.specs.Modules.{SpellsDecl}
+use Rattle.pearl_parse_expr.specs.Least.{Reaches}
+use Rattle.pearl_parse_expr.proofs.Halts.{halted}
 use Rattle.pearl_parse_expr.proofs.Primaries.{word_within}
-use Rattle.pearl_parse_decl.proofs.Behind.{none_only}
-use Rattle.pearl_parse_decl.proofs.Leaves.{length_begins, length_reaches, length_open, only_length}
+use Rattle.pearl_parse_decl.proofs.Behind.{none_only, only_is_read, part_unread, unclosed}
+use Rattle.pearl_parse_decl.proofs.Leaves.{bracketed_number_is_local, length_begins, length_holds, only_length}
 use Rattle.pearl_parse_decl.proofs.declaration.length_of.Goals as goal
 
 pub returns-in-None-clause-reads : goal.returns-in-None-clause-reads
@@ -22,20 +26,20 @@ returns-in-None-clause-reads c =
 
 pub returns-in-Err-clause-reads : goal.returns-in-Err-clause-reads
 returns-in-Err-clause-reads c =
-    let none = c.in-Err.ensures.refused in
-    none_only (
-      λ others agree x to h.
-          let found = only_length others c.args.from
-          (sym (agree c.args.from (omega (arith, none.1))) ∙ c.requires.word) x to h in
-          none.0 others agree found.1 (c.args.from + 2 + 3) found.3,
-      omega (arith, none.1),
-      none.2,
-    )
-    (length_reaches c.args.tokens.now c.args.from c.requires.word c.in-Err.stop c.in-Some.sort c.in-Some.ensures.some
-    (omega (arith, none.1)) c.in-Err.ensures.least)
+    let tokens = c.args.tokens.now in
+    let from = c.args.from in
+    part_unread (length_holds tokens from c.requires.word c.in-Some.sort c.in-Some.ensures.some)
+    (halted SpellsBracketedNumber SpellsDecl tokens from (from + 2) c.in-Err.halt (omega arith)
+    (λ others stop near agree x to h.
+    let found = only_length others from (sym (agree from (omega (arith, near))) ∙ c.requires.word) x to h in
+    (found.1, from + 2 + 3, found.3)) c.in-Err.ensures.reads.refused) c.in-Err.ensures.reads.refused
+    c.in-Err.ensures.reads.least
 
 pub returns-then-not-is_symbol-clause-reads : goal.returns-then-not-is_symbol-clause-reads
 returns-then-not-is_symbol-clause-reads c =
+    let read = c.in-Ok.ensures in
+    let same : c.in-Ok.number.stop ≡ c.args.from + 5 = omega (arith, read.once, read.reads.spells.3) in
     none_only (search rules)
-    (length_open c.args.tokens.now c.args.from c.requires.word c.in-Some.sort c.in-Ok.number c.in-Some.ensures.some
-    c.in-Ok.ensures.spells (omega (arith, c.in-Ok.ensures.ahead)))
+    (subst (λ k. Reaches SpellsDecl c.args.tokens.now c.args.from k) same
+    (unclosed (length_holds c.args.tokens.now c.args.from c.requires.word c.in-Some.sort c.in-Some.ensures.some)
+    (only_is_read read.reads) bracketed_number_is_local))

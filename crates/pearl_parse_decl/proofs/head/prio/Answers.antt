@@ -4,11 +4,12 @@ use Rattle.pearl_parse_decl.proofs.Behind.{none_only}
 use Rattle.pearl_parse_decl.proofs.Leaves.{prio_begins, prio_open}
 use Rattle.pearl_parse_decl.proofs.head.prio.Goals as goal
 
-pub returns-then-not-is_word : goal.returns-then-not-is_word
-returns-then-not-is_word c = none_only (search rules) (prio_begins c.args.tokens.now c.args.from c.requires)
+pub returns-then-not-is_word-clause-reads : goal.returns-then-not-is_word-clause-reads
+returns-then-not-is_word-clause-reads c = none_only (search rules)
+    (prio_begins c.args.tokens.now c.args.from c.requires)
 
-pub returns-in-None : goal.returns-in-None
-returns-in-None c =
+pub returns-in-None-clause-reads : goal.returns-in-None-clause-reads
+returns-in-None-clause-reads c =
     none_only (search rules)
     (prio_open c.args.tokens.now c.args.from (c.if-not-is_word.ensures.stands refl)
     (omega (arith, c.if-not-is_word.ensures.within refl)))

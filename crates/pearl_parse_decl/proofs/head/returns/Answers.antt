@@ -3,14 +3,10 @@ use Rattle.std.proofs.Common.{ap}
 use Rattle.pearl_tree.specs.Modules.{SpellsReturns}
 use Rattle.pearl_tree.specs.declared.word_code.TheConstants as w
 use Rattle.pearl_parse_expr.specs.Stops.{is_word}
-use Rattle.pearl_parse_decl.proofs.Behind.{maybe_missing, maybe_stands}
+use Rattle.pearl_parse_decl.proofs.Behind.{maybe_reads}
 use Rattle.pearl_parse_decl.proofs.head.returns.Goals as goal
 
-pub returns-in-Err : goal.returns-in-Err
-returns-in-Err c = maybe_missing SpellsReturns (is_word w.RETURNS) c.args.tokens.now c.args.from c.in-Err.stop
-    c.in-Err.ensures.refused c.in-Err.ensures.least
-
-pub returns-in-Ok : goal.returns-in-Ok
-returns-in-Ok c =
-    maybe_stands SpellsReturns (is_word w.RETURNS) c.args.tokens.now c.args.from c.in-Ok.basic
-    (ap (is_word w.RETURNS) c.in-Ok.ensures.spells.1) c.in-Ok.ensures
+pub returns : goal.returns
+returns c =
+    maybe_reads SpellsReturns (is_word w.RETURNS) c.args.tokens.now c.args.from (λ x to h. ap (is_word w.RETURNS) h.1)
+    c.returned.result c.optional.result c.optional.ensures c.returned.ensures.reads

@@ -1,44 +1,34 @@
--- What `task_head` answers: MAIN and a priority in either order, one of both alone, or neither.
-use Rattle.std.proofs.Common.{rules, inl, inr, refl, arith}
-use Rattle.pearl_parse_decl.proofs.Leaves.{head_reaches, main_reaches, head_longest}
+-- What `task_head` answers: MAIN and behind it a priority or none, or a priority or none and behind it MAIN or not.
+use Rattle.std.proofs.Common.{◌+◌, refl, sym, subst}
+use Rattle.pearl_parse_decl.proofs.Leaves.{head_reads, main_reads, maybe_prio, prio_reads}
 use Rattle.pearl_parse_decl.proofs.head.task_head.Goals as goal
 
-pub returns-in-Err : goal.returns-in-Err
-returns-in-Err c =
-    record {
-      spells = search rules;
-      longest = search rules;
-      bounds = search rules;
-      refused = tt;
-      least = record {
-        goes = inr (main_reaches c.args.tokens.now c.args.from c.in-Err.stop (c.if-is_word.ensures.stands refl)
-            (omega (arith, c.in-Err.ensures.refused.1)) c.in-Err.ensures.least);
-      };
-    }
+pub returns-in-Some : goal.returns-in-Some
+returns-in-Some c =
+    let tokens = c.args.tokens.now in
+    let main = c.if-is_word.ensures.stands refl in
+    let behind = c.optional-behind in
+    let read = prio_reads tokens (c.args.from + 1) c.prio.result behind.result behind.ensures c.prio.ensures.reads in
+    main_reads tokens c.args.from main behind.result read _
+    (main, subst (λ x. maybe_prio tokens (c.args.from + 1) x behind.result.end) c.in-Some.is read.spells)
 
-pub returns-in-Ok-prio : goal.returns-in-Ok-prio
-returns-in-Ok-prio c =
+pub returns-in-None : goal.returns-in-None
+returns-in-None c =
+    let tokens = c.args.tokens.now in
+    let main = c.if-is_word.ensures.stands refl in
+    let behind = c.optional-behind in
+    let read = prio_reads tokens (c.args.from + 1) c.prio.result behind.result behind.ensures c.prio.ensures.reads in
+    main_reads tokens c.args.from main behind.result read _ (
+      c.args.from,
+      refl,
+      (main, subst (λ x. maybe_prio tokens (c.args.from + 1) x behind.result.end) c.in-None.is read.spells),
+    )
+
+pub returns : goal.returns
+returns c =
+    let tokens = c.args.tokens.now in
+    let prio = c.optional-prio in
     let main = c.flag-main in
-    let flag = main.ensures.reads in
-    record {
-      spells = search rules;
-      longest = head_longest c.args.tokens.now c.args.from main.result.end main.result.stop c.in-Ok-prio.prio
-          c.in-Ok-prio.ensures.spells (omega (arith, flag.bounds)) (omega (arith, flag.bounds)) flag.longest;
-      bounds = search rules;
-      refused = tt;
-      least = record { goes = inl main.ensures.once };
-    }
-
-pub returns-in-Err-prio : goal.returns-in-Err-prio
-returns-in-Err-prio c =
-    record {
-      spells = search rules;
-      longest = search rules;
-      bounds = search rules;
-      refused = tt;
-      least =
-          record {
-            goes = inr (head_reaches c.args.tokens.now c.args.from c.in-Err-prio.stop
-                c.in-Err-prio.ensures.least);
-          };
-    }
+    head_reads tokens c.args.from (sym c.if-is_word.ensures.value) prio.result
+    (prio_reads tokens c.args.from c.prio-2.result prio.result prio.ensures c.prio-2.ensures.reads) main.result
+    main.ensures.reads c.max.result c.max.ensures main.ensures.once

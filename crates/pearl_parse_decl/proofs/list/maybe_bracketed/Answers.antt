@@ -1,9 +1,10 @@
 -- What `maybe_bracketed` answers: a list in brackets stands there, or doesn't.
-use Rattle.std.proofs.Common.{rules, arith}
+use Rattle.std.proofs.Common.{rules, refl, arith}
 use Rattle.pearl_tree.specs.Standing.{SpellsBracketed, SpellsMaybeBracketed}
+use Rattle.pearl_parse_decl.specs.Readings.{by_bracket}
 use Rattle.pearl_parse_expr.proofs.Halts.{stuck_of}
 use Rattle.pearl_parse_expr.proofs.Reaching.{goes, goes_as, reached_halt}
-use Rattle.pearl_parse_decl.proofs.ListReach.{maybe_bracketed_reaches}
+use Rattle.pearl_parse_decl.proofs.ListReach.{maybe_bracketed_reaches, maybe_list_none}
 use Rattle.pearl_parse_decl.proofs.Lists.{maybe_is_longest, maybe_is_none}
 use Rattle.pearl_parse_decl.proofs.list.maybe_bracketed.Goals as goal
 
@@ -29,14 +30,12 @@ returns-in-Refused-clause-reads g c =
     let stop = c.in-Refused.stop in
     let none = stuck_of (λ tokens. SpellsBracketed tokens (g.P.Readable.spelling tokens)) c.args.tokens.now c.args.from
     stop c.in-Err.halt c.in-Refused.is c.in-Err.ensures.refused in
-    record {
-      spells = search rules;
-      longest = maybe_is_none g.P.Readable.spelling g.P.Readable.extends c.args.tokens.now c.args.from stop none.0;
-      bounds = (omega arith, none.1, none.1, none.2);
-      refused = tt;
-      least = goes (λ tokens. SpellsMaybeBracketed tokens (g.P.Readable.spelling tokens)) c.args.tokens.now c.args.from
-          c.args.from stop
-          (maybe_bracketed_reaches g.P.Readable.spelling c.args.tokens.now c.args.from stop
-          (reached_halt (λ tokens. SpellsBracketed tokens (g.P.Readable.spelling tokens)) c.args.tokens.now c.args.from
-          stop c.in-Err.halt c.in-Refused.is c.in-Err.ensures.least));
-    }
+    maybe_list_none (λ tokens. SpellsMaybeBracketed tokens (g.P.Readable.spelling tokens)) by_bracket c.args.tokens.now
+    c.args.from stop c.none.ensures refl
+    (maybe_is_none g.P.Readable.spelling g.P.Readable.extends c.args.tokens.now c.args.from stop none.0)
+    (omega arith, none.1, none.1, none.2)
+    (goes (λ tokens. SpellsMaybeBracketed tokens (g.P.Readable.spelling tokens)) c.args.tokens.now c.args.from
+    c.args.from stop
+    (maybe_bracketed_reaches g.P.Readable.spelling c.args.tokens.now c.args.from stop
+    (reached_halt (λ tokens. SpellsBracketed tokens (g.P.Readable.spelling tokens)) c.args.tokens.now c.args.from stop
+    c.in-Err.halt c.in-Refused.is c.in-Err.ensures.least)))

@@ -1,10 +1,14 @@
 -- What `device` answers: what is missing of a name, a colon, a word, a number in brackets and a semicolon.
-use Rattle.std.proofs.Common.{rules, ◌+◌, refl, sym, ap, ◌∙◌, arith}
+use Rattle.std.proofs.Common.{rules, ◌≡◌, ◌+◌, refl, sym, ap, subst, ◌∙◌, arith}
+use Rattle.pearl_tree.specs.Standing.{SpellsBracketedNumber}
+use Rattle.pearl_tree.specs.Declarations.{SpellsDevice}
+use Rattle.pearl_parse_expr.specs.Least.{Reaches}
+use Rattle.pearl_parse_expr.proofs.Halts.{halted}
 use Rattle.pearl_parse_expr.proofs.Primaries.{clash}
 use Rattle.pearl_parse_decl.specs.Readings.{is_device_word}
-use Rattle.pearl_parse_decl.proofs.Behind.{none_only}
-use Rattle.pearl_parse_decl.proofs.Devices.{device_begins, device_named, device_opened, device_reaches, device_open}
-use Rattle.pearl_parse_decl.proofs.Leaves.{bracketed_number_is}
+use Rattle.pearl_parse_decl.proofs.Behind.{none_only, only_is_read, part_unread, unclosed}
+use Rattle.pearl_parse_decl.proofs.Devices.{device_begins, device_holds, device_named, device_opened}
+use Rattle.pearl_parse_decl.proofs.Leaves.{bracketed_number_is, bracketed_number_is_local}
 use Rattle.pearl_parse_decl.proofs.Specifications.{device_head}
 use Rattle.pearl_parse_decl.proofs.specification.device.Goals as goal
 
@@ -29,21 +33,22 @@ returns-in-None-device_word-clause-reads c =
 
 pub returns-in-Err-clause-reads : goal.returns-in-Err-clause-reads
 returns-in-Err-clause-reads c =
-    let none = c.in-Err.ensures.refused in
-    none_only (
-      λ others agree x to h. none.0 others agree x.number (c.args.from + 3 + 3)
-          (bracketed_number_is others (c.args.from + 3) (c.args.from + 4) (c.args.from + 5) x.number (omega arith)
-          (omega arith) h.4 h.5 h.6),
-      omega (arith, none.1),
-      none.2,
-    )
-    (device_reaches c.args.tokens.now c.args.from c.in-Some.name c.in-Some.ensures.some
-    (c.if-not-is_symbol.ensures.stands refl) c.in-Err.stop c.in-Some-device_word.word
-    c.in-Some-device_word.ensures.some (omega (arith, none.1)) c.in-Err.ensures.least)
+    let from = c.args.from in
+    part_unread (device_holds c.args.tokens.now from c.in-Some.name c.in-Some.ensures.some
+    (c.if-not-is_symbol.ensures.stands refl) c.in-Some-device_word.word c.in-Some-device_word.ensures.some)
+    (halted SpellsBracketedNumber SpellsDevice c.args.tokens.now from (from + 3) c.in-Err.halt (omega arith)
+    (λ others stop near agree x to h. (
+      x.number,
+      from + 3 + 3,
+      bracketed_number_is others (from + 3) (from + 4) (from + 5) x.number (omega arith) (omega arith) h.4 h.5 h.6,
+    )) c.in-Err.ensures.reads.refused) c.in-Err.ensures.reads.refused c.in-Err.ensures.reads.least
 
 pub returns-then-not-is_symbol-2-clause-reads : goal.returns-then-not-is_symbol-2-clause-reads
 returns-then-not-is_symbol-2-clause-reads c =
+    let read = c.in-Ok.ensures in
+    let same : c.in-Ok.number.stop ≡ c.args.from + 6 = omega (arith, read.once, read.reads.spells.3) in
     none_only (search rules)
-    (device_open c.args.tokens.now c.args.from c.in-Some.name c.in-Some.ensures.some
-    (c.if-not-is_symbol.ensures.stands refl) c.in-Some-device_word.word c.in-Ok.number
-    c.in-Some-device_word.ensures.some c.in-Ok.ensures.spells (omega (arith, c.in-Ok.ensures.ahead)))
+    (subst (λ k. Reaches SpellsDevice c.args.tokens.now c.args.from k) same
+    (unclosed (device_holds c.args.tokens.now c.args.from c.in-Some.name c.in-Some.ensures.some
+    (c.if-not-is_symbol.ensures.stands refl) c.in-Some-device_word.word c.in-Some-device_word.ensures.some)
+    (only_is_read read.reads) bracketed_number_is_local))

@@ -1,22 +1,24 @@
 -- What the readers of types answer, field by field, in the order of the code.
-use Rattle.std.proofs.Common.{rules, ◌+◌, ◌-◌, ◌<◌, ◌≤◌, [], ◌∷◌, ◌++◌, inl, refl, sym, ap}
-use Rattle.std.proofs.Common.{subst, ◌∙◌, arith}
-use Rattle.pearl_tree.specs.Standing.{SpellsList}
+use Rattle.std.proofs.Common.{rules, ◌+◌, ◌-◌, ◌<◌, ◌≤◌, inl, refl, sym, ap}
+use Rattle.std.proofs.Common.{max, subst, ◌∙◌, arith}
 use Rattle.pearl_tree.specs.Types as grammar
 use Rattle.pearl_tree.specs.declared.word_code.TheConstants as w
 use Rattle.pearl_tree.specs.declared.symbol.TheConstants as s
 use Rattle.pearl_tree.proofs.TypeLists.{spells_struct}
 use Rattle.pearl_parse_expr.specs.Stops as stops
+use Rattle.pearl_parse_expr.proofs.CommaLists.{ListRead, list_first, list_more, list_done, list_ended}
+use Rattle.pearl_parse_expr.proofs.CommaLists.{list_none}
 use Rattle.pearl_parse_expr.proofs.Halts.{halted}
-use Rattle.pearl_parse_expr.proofs.Reaching.{goes_as, halts_as}
+use Rattle.pearl_parse_expr.proofs.Lists.{listed}
+use Rattle.pearl_parse_expr.proofs.Readings.{longest_read}
 use Rattle.pearl_parse_expr.proofs.Primaries.{clash, word_within}
 use Rattle.pearl_parse_decl.specs.Readings.{by_bracket}
-use Rattle.pearl_parse_decl.proofs.Behind.{none_read, no_memory_read, unclosed, closed}
+use Rattle.pearl_parse_decl.proofs.Behind.{list_is_read, longest_is_read, none_read, no_memory_read}
+use Rattle.pearl_parse_decl.proofs.Behind.{part_closed, part_ends, part_unclosed, part_unread}
 use Rattle.pearl_parse_decl.proofs.Leaves.{basic_begins}
-use Rattle.pearl_parse_decl.proofs.ListReach.{list_is_local, list_first, list_more, list_done, list_stuck, list_none}
 use Rattle.pearl_parse_decl.proofs.TypeReach.{field_is_contained, field_names, field_unread, field_ends, field_goes}
-use Rattle.pearl_parse_decl.proofs.TypeReach.{typing_basic, struct_begins, struct_reaches}
-use Rattle.pearl_parse_decl.proofs.Types.{only_basic, only_name, struct_is_longest, struct_is_open, struct_of}
+use Rattle.pearl_parse_decl.proofs.TypeReach.{fields_are_local, fields_at, struct_begins, struct_holds, typing_holds}
+use Rattle.pearl_parse_decl.proofs.Types.{basic_of, only_name, struct_is_only, struct_is_open, struct_of}
 use Rattle.pearl_parse_decl.proofs.typing.+typing.Goals as goal
 
 pub typing-returns-in-Some : goal.typing-returns-in-Some
@@ -33,37 +35,24 @@ typing-returns-in-Some t c =
 
 pub typing-returns-in-Ok : goal.typing-returns-in-Ok
 typing-returns-in-Ok t c =
-    record {
-      spells = search rules;
-      longest = λ others agree x to h.
-          let near : c.args.from ≤ c.in-Ok.basic.stop = omega (arith, c.in-Ok.ensures.reads.ahead) in
-          let here = sym (agree c.args.from near) in
-          let read = only_basic others c.args.depth c.args.from (ap stops.is_name here ∙ c.in-None.ensures.none refl)
-          (ap (stops.is_word w.STRUCT) here ∙ sym c.if-is_word.ensures.value) x to h in
-          c.in-Ok.ensures.reads.longest others agree read.0 to read.1;
-      ahead = search rules;
-      refused = tt;
-      least = goes_as grammar.SpellsBasic (λ tokens. grammar.SpellsTyping tokens c.args.depth) c.args.tokens.now
-          c.args.from c.args.from c.in-Ok.basic.end c.in-Ok.basic.stop
-          (λ r. typing_basic c.args.tokens.now c.args.depth c.args.from c.in-Ok.basic.stop r)
-          c.in-Ok.ensures.reads.least;
-    }
+    let read = c.in-Ok.ensures.reads in
+    part_ends (typing_holds c.args.tokens.now c.args.depth c.args.from) (longest_is_read read) (search rules)
+    (λ others agree x to h.
+    let part = basic_of c.args.tokens.now others c.args.depth c.args.from c.in-Ok.basic.stop
+    (c.in-None.ensures.none refl) (sym c.if-is_word.ensures.value) (omega (arith, read.ahead)) agree x to h in
+    read.longest others agree part.0 to part.1) (search rules)
 
 pub typing-returns-in-Err : goal.typing-returns-in-Err
 typing-returns-in-Err t c =
-    none_read
+    let none = c.in-Err.ensures.reads in
+    longest_read _
+    (part_unread (typing_holds c.args.tokens.now c.args.depth c.args.from)
     (halted grammar.SpellsBasic (λ tokens. grammar.SpellsTyping tokens c.args.depth) c.args.tokens.now c.args.from
     c.args.from c.in-Err.halt (omega arith)
     (λ others stop near agree x to h.
-    let here = sym (agree c.args.from near) in
-    let read = only_basic others c.args.depth c.args.from (ap stops.is_name here ∙ c.in-None.ensures.none refl)
-    (ap (stops.is_word w.STRUCT) here ∙ sym c.if-is_word.ensures.value) x to h in
-    (read.0, to, read.1))
-    c.in-Err.ensures.reads.refused)
-    (halts_as grammar.SpellsBasic (λ tokens. grammar.SpellsTyping tokens c.args.depth) c.args.tokens.now c.args.from
-    c.args.from c.in-Err.halt
-    (λ stop near within r. typing_basic c.args.tokens.now c.args.depth c.args.from stop r)
-    c.in-Err.ensures.reads.refused c.in-Err.ensures.reads.least)
+    let part = basic_of c.args.tokens.now others c.args.depth c.args.from stop (c.in-None.ensures.none refl)
+    (sym c.if-is_word.ensures.value) near agree x to h in
+    (part.0, to, part.1)) none.refused) none.refused none.least)
 
 pub structure-returns-then-depth-eq0 : goal.structure-returns-then-depth-eq0
 structure-returns-then-depth-eq0 t c =
@@ -76,7 +65,7 @@ structure-returns-then-depth-eq0 t c =
       omega arith,
       c.requires.within,
     )
-    (typing_basic c.args.tokens.now c.args.depth c.args.from c.args.from
+    ((typing_holds c.args.tokens.now c.args.depth c.args.from).carries c.args.from (omega arith) c.requires.within
     (basic_begins c.args.tokens.now c.args.from c.requires.within))
 
 pub structure-returns-then-not-is_symbol : goal.structure-returns-then-not-is_symbol
@@ -97,43 +86,30 @@ structure-returns-then-not-is_symbol t c =
 
 pub structure-returns-in-Err : goal.structure-returns-in-Err
 structure-returns-in-Err t c =
-    let deep : 0 < c.args.depth = omega (arith, c.if-depth-eq0.false) in
-    none_read
-    (halted (λ tokens. SpellsList tokens (grammar.SpellsField tokens (c.args.depth - 1)))
-    (λ tokens. grammar.SpellsTyping tokens c.args.depth) c.args.tokens.now c.args.from
-    (c.args.from + 2) c.in-Err.halt
-    (omega arith)
+    longest_read _
+    (part_unread (struct_holds c.args.tokens.now c.args.depth c.args.from c.requires.word
+    (omega (arith, c.if-depth-eq0.false)) (search rules) (c.if-not-is_symbol.ensures.stands refl))
+    (halted (fields_at (c.args.depth - 1)) (λ tokens. grammar.SpellsTyping tokens c.args.depth) c.args.tokens.now
+    c.args.from (c.args.from + 2) c.in-Err.halt (omega arith)
     (λ others stop near agree x to h.
-    let read = (struct_of c.args.tokens.now others c.args.depth c.args.from stop c.requires.word (omega arith) agree
-    x to h).2 in
-    (read.0, read.1, read.2))
-    c.in-Err.ensures.refused)
-    (halts_as (λ tokens. SpellsList tokens (grammar.SpellsField tokens (c.args.depth - 1)))
-    (λ tokens. grammar.SpellsTyping tokens c.args.depth) c.args.tokens.now c.args.from
-    (c.args.from + 2) c.in-Err.halt
-    (struct_reaches c.args.tokens.now c.args.depth c.args.from c.requires.word deep (search rules)
-    (c.if-not-is_symbol.ensures.stands refl)) c.in-Err.ensures.refused c.in-Err.ensures.least)
+    let read = (struct_of c.args.tokens.now others c.args.depth c.args.from stop c.requires.word
+    (omega (arith, near)) agree x to h).2 in
+    (read.0, read.1, read.2)) c.in-Err.ensures.refused) c.in-Err.ensures.refused c.in-Err.ensures.least)
 
 pub structure-returns-then-not-is_symbol-2 : goal.structure-returns-then-not-is_symbol-2
 structure-returns-then-not-is_symbol-2 t c =
-    let tokens = c.args.tokens.now in
-    let depth = c.args.depth in
     let inner = c.in-Ok.inner in
     let read = c.in-Ok.ensures in
     let near : c.args.from ≤ inner.stop = omega (arith, read.ahead) in
-    let deep : 0 < depth = omega (arith, c.if-depth-eq0.false) in
-    none_read (
-      struct_is_open tokens depth c.args.from inner.end inner.stop c.requires.word near read.longest
+    longest_read _
+    (part_unclosed (struct_holds c.args.tokens.now c.args.depth c.args.from c.requires.word
+    (omega (arith, c.if-depth-eq0.false)) (search rules) (c.if-not-is_symbol.ensures.stands refl))
+    (list_is_read (fields_at (c.args.depth - 1)) read) (fields_are_local (c.args.depth - 1)) (
+      struct_is_open c.args.tokens.now c.args.depth c.args.from inner.end inner.stop c.requires.word near read.longest
           (omega (arith, read.ahead)) (sym c.if-not-is_symbol-2.ensures.value),
       near,
       omega (arith, read.ahead),
-    )
-    (unclosed (λ tokens. SpellsList tokens (grammar.SpellsField tokens (depth - 1)))
-    (λ tokens. grammar.SpellsTyping tokens depth)
-    (list_is_local (λ tokens. grammar.SpellsField tokens (depth - 1)) (field_is_contained (depth - 1))) tokens
-    c.args.from (c.args.from + 2)
-    (struct_reaches tokens depth c.args.from c.requires.word deep (search rules)
-    (c.if-not-is_symbol.ensures.stands refl)) inner.part.items inner.end inner.stop read.spells read.ahead read.least)
+    ))
 
 pub structure-returns : goal.structure-returns
 structure-returns t c =
@@ -143,31 +119,23 @@ structure-returns t c =
     let inner = c.in-Ok.inner in
     let read = c.in-Ok.ensures in
     let deep : 0 < depth = omega (arith, c.if-depth-eq0.false) in
-    record {
-      spells = subst (λ X. X) (sym (spells_struct tokens depth from c.new.result c.place_at.result (inner.end + 1))) (
-        inner.end,
-        c.place_at.ensures,
-        c.requires.word,
-        deep,
-        c.if-not-is_symbol.ensures.stands refl,
-        subst (λ xs. SpellsList tokens (grammar.SpellsField tokens (depth - 1)) (from + 2) xs inner.end)
-            (sym c.new.ensures) read.spells,
-        c.if-not-is_symbol-2.ensures.stands refl,
-        refl,
-      );
-      longest = struct_is_longest tokens depth from inner.end inner.stop c.requires.word
-          (omega (arith, read.ahead)) read.longest c.max.result (omega (arith, c.max.ensures));
-      ahead = search rules;
-      refused = tt;
-      least = closed (λ tokens. SpellsList tokens (grammar.SpellsField tokens (depth - 1)))
-          (λ tokens. grammar.SpellsTyping tokens depth)
-          (list_is_local (λ tokens. grammar.SpellsField tokens (depth - 1)) (field_is_contained (depth - 1))) tokens
-          from (from + 2)
-          (struct_reaches tokens depth from c.requires.word deep (search rules)
-          (c.if-not-is_symbol.ensures.stands refl)) inner.part.items inner.end inner.stop read.spells read.ahead
-          read.least
-          c.max.result c.max.ensures;
-    }
+    let same = c.new.ensures ∙ ap (λ reading. reading.part.items) c.past-closed.ensures in
+    rw c.past-closed.ensures (longest_read _
+    (part_closed (struct_holds tokens depth from c.requires.word deep (search rules)
+    (c.if-not-is_symbol.ensures.stands refl)) (list_is_read (fields_at (depth - 1)) read) (fields_are_local (depth - 1))
+    refl
+    (subst (λ X. X) (sym (spells_struct tokens depth from c.new.result c.place_at.result (inner.end + 1))) (
+      inner.end,
+      c.place_at.ensures,
+      c.requires.word,
+      deep,
+      c.if-not-is_symbol.ensures.stands refl,
+      subst (λ xs. fields_at (depth - 1) tokens (from + 2) xs inner.end) (sym same) read.spells,
+      c.if-not-is_symbol-2.ensures.stands refl,
+      refl,
+    ))
+    (struct_is_only tokens depth from inner.end inner.stop c.requires.word (omega (arith, read.ahead)) read.longest
+    (max inner.stop (inner.end + 1)) (omega arith)) (search rules)))
 
 pub fields-returns-in-Err : goal.fields-returns-in-Err
 fields-returns-in-Err t c =
@@ -176,37 +144,35 @@ fields-returns-in-Err t c =
 
 pub fields-each-init : goal.fields-each-init
 fields-each-init t c =
-    list_first (λ tokens. grammar.SpellsField tokens c.args.depth) by_bracket
-    (field_is_contained c.args.depth) refl c.args.tokens.now c.args.from _ c.in-Ok.first
-    (c.in_ok-append.ensures.appended ∙ ap (λ xs. xs ++ c.in-Ok.first.part ∷ []) c.new-list.ensures.items)
-    c.in-Ok.ensures
+    listed (ListRead (λ tokens. grammar.SpellsField tokens c.args.depth) by_bracket c.args.tokens.now c.args.from)
+    c.in_ok-list.ensures.list
+    (list_first (λ tokens. grammar.SpellsField tokens c.args.depth) by_bracket (field_is_contained c.args.depth) refl
+    c.args.tokens.now c.args.from c.in-Ok.first c.in-Ok.ensures)
 
 pub fields-each-preserved : goal.fields-each-preserved
 fields-each-preserved t c =
-    list_more (λ tokens. grammar.SpellsField tokens c.args.depth) by_bracket
-    (field_is_contained c.args.depth) refl c.args.tokens.now c.args.from c.each.list.items _ c.each.end c.each.stop
-    c.max-stop.result
-    c.in-Ok-field.next c.each.invariant (c.each-test.ensures.stands refl) c.in_ok-append-in-Ok-field.ensures.appended
-    c.max-stop.ensures c.in-Ok-field.ensures
+    let list = c.each.list in
+    listed (ListRead (λ tokens. grammar.SpellsField tokens c.args.depth) by_bracket c.args.tokens.now c.args.from)
+    c.in_ok-add-in-Ok-field.ensures.added
+    (list_more (λ tokens. grammar.SpellsField tokens c.args.depth) by_bracket (field_is_contained c.args.depth) refl
+    c.args.tokens.now c.args.from list.part.items list.end list.stop c.in-Ok-field.next c.each.invariant
+    (c.each-test.ensures.stands refl) c.in-Ok-field.ensures)
 
-pub fields-returns-in-Refused : goal.fields-returns-in-Refused
-fields-returns-in-Refused t c =
-    list_stuck (λ tokens. grammar.SpellsField tokens c.args.depth) by_bracket
-    (field_is_contained c.args.depth) c.args.tokens.now c.args.from _ c.each.stop c.in-Refused.at
-    c.in-Err-field.halt c.in-Refused.is
-    c.each.invariant (c.each-test.ensures.stands refl) c.max.ensures c.in-Err-field.ensures
+pub fields-returns-in-Err-field : goal.fields-returns-in-Err-field
+fields-returns-in-Err-field t c =
+    rw c.ended.ensures.value (list_ended (λ tokens. grammar.SpellsField tokens c.args.depth) by_bracket
+    (field_is_contained c.args.depth) c.args.tokens.now c.args.from c.each.list c.in-Err-field.halt c.each.invariant
+    (c.each-test.ensures.stands refl) c.in-Err-field.ensures)
 
 pub fields-returns : goal.fields-returns
 fields-returns t c =
-    list_done (λ tokens. grammar.SpellsField tokens c.args.depth) by_bracket c.args.tokens.now c.args.from _
+    list_done (λ tokens. grammar.SpellsField tokens c.args.depth) by_bracket c.args.tokens.now c.args.from c.each.list
     c.each.invariant (sym c.each-test.ensures.value)
 
 pub field-returns-in-Err : goal.field-returns-in-Err
 field-returns-in-Err t c =
-    none_read (search rules)
-    (halts_as grammar.SpellsNames (λ tokens. grammar.SpellsField tokens c.args.depth) c.args.tokens.now c.args.from
-    c.args.from c.in-Err.halt
-    (λ stop near within r. field_names c.args.tokens.now c.args.depth c.args.from stop r) c.in-Err.ensures.refused
+    longest_read _
+    (part_unread (field_names c.args.tokens.now c.args.depth c.args.from) (search rules) c.in-Err.ensures.refused
     c.in-Err.ensures.least)
 
 pub field-returns-in-Err-bounds : goal.field-returns-in-Err-bounds

@@ -2,7 +2,7 @@
 use Rattle.std.proofs.Common.{◌+◌, ◌-◌, ◌*◌, length}
 use Rattle.pearl_tree.specs.Types.{SpellsField}
 use Rattle.pearl_parse_decl.specs.Readings.{by_bracket}
-use Rattle.pearl_parse_decl.proofs.ListReach.{ListRead}
+use Rattle.pearl_parse_expr.proofs.CommaLists.{ListRead}
 use Rattle.pearl_parse_decl.proofs.typing.+typing.Given as goal
 
 abbrev pub decreases-fields : goal.decreases-fields
@@ -18,8 +18,8 @@ abbrev pub decreases-structure : goal.decreases-structure
 decreases-structure l = 4 * l.depth
 
 abbrev pub invariant-fields-each : goal.invariant-fields-each
-invariant-fields-each l = ListRead (λ tokens. SpellsField tokens l.depth) by_bracket l.tokens l.from l.list.items l.end
-    l.stop
+invariant-fields-each l = ListRead (λ tokens. SpellsField tokens l.depth) by_bracket l.tokens l.from l.list.part.items
+    l.list.end l.list.stop
 
 abbrev pub decreases-fields-each : goal.decreases-fields-each
-decreases-fields-each l = length l.tokens - l.end
+decreases-fields-each l = length l.tokens - l.list.end

@@ -1,19 +1,23 @@
 -- What `bound` answers: no first number, or a bound with a second one or without it.
 use Rattle.std.proofs.Common.{rules, ◌≡◌, ◌≤◌, subst, arith}
 use Rattle.pearl_tree.specs.Standing.{SpellsMaybe}
-use Rattle.pearl_tree.specs.Types.{SpellsUpper, SpellsBound}
+use Rattle.pearl_tree.specs.Types.{SpellsInt, SpellsUpper, SpellsBound}
 use Rattle.pearl_parse_expr.specs.Least.{GoesTo}
+use Rattle.pearl_parse_expr.proofs.Halts.{halted}
 use Rattle.pearl_parse_expr.proofs.Parts.{shorter}
 use Rattle.pearl_parse_expr.proofs.Reaching.{goes_as}
-use Rattle.pearl_parse_decl.proofs.Behind.{none_read}
-use Rattle.pearl_parse_decl.proofs.Leaves.{bound_begins, bound_reaches}
+use Rattle.pearl_parse_expr.proofs.Readings.{longest_read}
+use Rattle.pearl_parse_decl.proofs.Behind.{part_unread}
+use Rattle.pearl_parse_decl.proofs.Leaves.{bound_holds, bound_reaches}
 use Rattle.pearl_parse_decl.proofs.typing.bound.Goals as goal
 
 pub returns-in-Err-clause-reads : goal.returns-in-Err-clause-reads
 returns-in-Err-clause-reads c =
     let none = c.in-Err.ensures.reads in
-    none_read (λ others agree x to h. none.refused.0 others agree x.first h.0 h.2, none.refused.1, none.refused.2)
-    (bound_begins c.args.tokens.now c.args.from c.in-Err.stop none.least)
+    longest_read _
+    (part_unread (bound_holds c.args.tokens.now c.args.from)
+    (halted SpellsInt SpellsBound c.args.tokens.now c.args.from c.args.from c.in-Err.halt (omega arith)
+    (λ others stop near agree x to h. (x.first, h.0, h.2)) none.refused) none.refused none.least)
 
 pub returns-clause-reads : goal.returns-clause-reads
 returns-clause-reads c =
