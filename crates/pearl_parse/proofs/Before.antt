@@ -5,6 +5,7 @@ use Rattle.pearl_tree.specs.declared.token.What.{What}
 use Rattle.pearl_tree.specs.declared.token.What.TheVariants as what
 use Rattle.pearl_tree.specs.declared.token.Token.{Token}
 use Rattle.pearl_tree.specs.Standing.{Spelling, what_at, HasWord, SpellsList}
+use Rattle.pearl_tree.specs.Statements.{SpellsMaybeList}
 use Rattle.pearl_tree.specs.Stops.{BeginAlike}
 use Rattle.pearl_parse_expr.specs.declared.reading.Halt.{Halt}
 use Rattle.pearl_parse_expr.specs.declared.reading.Halt.TheVariants.{Refused, NoMemory}
@@ -15,19 +16,15 @@ use Rattle.pearl_parse_decl.specs.Readings.{by_comma}
 use Rattle.pearl_parse_decl.proofs.Lists.{settled}
 use Rattle.pearl_parse.specs.Stops.{SpellsBefore}
 
+-- a list that isn't missing
+pub maybe_list : {X : Type 0} (spells : Spelling X) (others : List Token) (from : ℕ) (xs : List X) (to : ℕ) →
+    SpellsList others spells from xs to → SpellsMaybeList others spells from xs to
+maybe_list spells others from [] to h = absurd h
+maybe_list spells others from (x ∷ xs) to h = h
+
 module _ {X : Type 0} (spells : List Token → Spelling X) (extends : Option What → Bool) (word : ℕ)
     (apart : (others : List Token) (at : ℕ) (x : X) (to : ℕ) → HasWord others at word → spells others at x to → ⊥)
     (stops : extends (Some (what.Word word)) ≡ false) where
-  -- where the word stands, the list is empty
-  pub at_once : (tokens : List Token) (from new : ℕ) → HasWord tokens from word → from ≤ new →
-      IsOnly (SpellsBefore word spells) tokens from (from + 1) new
-  at_once tokens from new here near = λ others agree xs to h. by others (sym (agree from near) ∙ here) xs to h
-    where
-      by : (others : List Token) → HasWord others from word → (xs : List X) (to : ℕ) →
-          SpellsBefore word spells others from xs to → to ≡ from + 1
-      by others here [] to h = omega (arith, h.1, h.3)
-      by others here (x ∷ xs) to h = absurd (apart others from x h.1.0 here h.1.1)
-
   -- elsewhere it ends before the word
   as_list : (others : List Token) (from end : ℕ) → is_word word (what_at others from) ≡ false →
       ((xs : List X) (to : ℕ) → SpellsList others (spells others) from xs to → (to ≡ end) ⊎

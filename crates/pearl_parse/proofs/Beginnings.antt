@@ -1,22 +1,19 @@
--- Where no first token of a statement, of a declaration or of a module stands, some begin all the same: the shortest
--- ones.
+-- Where no first token of a declaration stands, one begins all the same: the shortest one.
 use Rattle.std.proofs.Common.{ℕ, ◌+◌, ◌<◌, ◌≤◌, ◌^◌, List, [], ◌∷◌, length, refl, arith}
 use Rattle.pearl_tree.specs.declared.name.Names.TheVariants.{One}
 use Rattle.pearl_tree.specs.declared.declaration.Spec.TheVariants as spec
 use Rattle.pearl_tree.specs.declared.token.Token.{Token}
 use Rattle.pearl_tree.specs.Standing.{SpellsName, SpellsList}
 use Rattle.pearl_tree.specs.Declarations.{SpellsSpec}
-use Rattle.pearl_tree.specs.Modules.{SpellsModuleName, SpellsSystem, SpellsDecl, SpellsTree}
-use Rattle.pearl_tree.specs.declared.symbol.TheConstants as s
+use Rattle.pearl_tree.specs.Modules.{SpellsDecl}
 use Rattle.pearl_tree.specs.declared.word_code.TheConstants as w
 use Rattle.pearl_parse_expr.specs.Least.{ReachesIn}
 use Rattle.pearl_parse.proofs.Steps.{Rest, Then}
-use Rattle.pearl_parse.proofs.StatementRests.{Spelled}
-use Rattle.pearl_parse.proofs.Comes.{Fills, BehindWord, BehindSymbol, Maybe, fills_as, fills_word, fills_name}
+use Rattle.pearl_parse.proofs.Comes.{Fills, BehindWord, fills_as, fills_word, fills_name}
 use Rattle.pearl_parse.proofs.Comes.{come_made, state_reaches}
-use Rattle.pearl_parse.proofs.Made.{semicolon, empty_made}
-use Rattle.pearl_parse.proofs.ModulesMade.{specify_made, module_made}
-use Rattle.pearl_parse.proofs.Tails.{semicolon_fills, problem, tree_fills}
+use Rattle.pearl_parse.proofs.Made.{semicolon}
+use Rattle.pearl_parse.proofs.ModulesMade.{specify_made}
+use Rattle.pearl_parse.proofs.Tails.{semicolon_fills}
 
 -- id INTERRUPT ";"
 specification_fills : Fills 3 (Then (λ tokens. SpellsList tokens (SpellsSpec tokens)) semicolon)
@@ -32,13 +29,6 @@ specification_fills =
     ))
 
 module _ (tokens : List Token) (from : ℕ) (within : from ≤ length tokens) (few : length tokens < 2 ^ 55) where
-  -- ";"
-  pub statement_begins : (depth : ℕ) → ReachesIn 16 (Spelled depth) tokens from from
-  statement_begins depth =
-      state_reaches (Spelled depth) tokens from 16 1 semicolon from semicolon_fills (omega arith) (omega arith)
-      (omega arith) within few
-      (come_made (Spelled depth) tokens from semicolon (empty_made depth))
-
   -- SPC id INTERRUPT ";"
   pub declaration_begins : ReachesIn 16 SpellsDecl tokens from from
   declaration_begins =
@@ -47,12 +37,3 @@ module _ (tokens : List Token) (from : ℕ) (within : from ≤ length tokens) (f
       (fills_word 3 (Then (λ tokens. SpellsList tokens (SpellsSpec tokens)) semicolon) specification_fills w.SPC
       (omega arith)) (omega arith) (omega arith) (omega arith) within few
       (come_made SpellsDecl tokens from rest specify_made)
-
-  -- MODULE ";" PROBLEM ";" MODEND
-  pub module_begins : ReachesIn 16 SpellsTree tokens from from
-  module_begins =
-      let rest : Rest = BehindWord w.MODULE (Then (Maybe SpellsModuleName)
-      (BehindSymbol s.SEMICOLON (Then (Maybe SpellsSystem) problem))) in
-      state_reaches SpellsTree tokens from 16 5 rest from tree_fills (omega arith) (omega arith) (omega arith) within
-      few
-      (come_made SpellsTree tokens from rest module_made)

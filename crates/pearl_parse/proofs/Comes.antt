@@ -194,11 +194,6 @@ module _ {X : Type 0} (whole : List Token → Spelling X) (tokens : List Token) 
       comes others (λ j below. alike j (omega arith)) to small
       (name, at + 1, (local.name tokens others (at + 1) alike at name (omega arith) here, refl), h)
 
-  -- without a part that may be missing
-  pub come_without : {Y : Type 0} (spells : List Token → Spelling Y) (rest : Rest) (at : ℕ) →
-      Comes (Then (Maybe spells) rest) at → Comes rest at
-  come_without spells rest at comes others alike to small h = comes others alike to small (None, at, refl, h)
-
   -- behind a part that was read
   pub come_past : {Y : Type 0} (spells : List Token → Spelling Y) (rest : Rest) (at end : ℕ) (y : Y) → IsLocal spells →
       at ≤ end →

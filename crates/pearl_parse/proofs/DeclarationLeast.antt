@@ -34,7 +34,7 @@ use Rattle.pearl_parse.specs.Reached.{GoesBehind, HaltsBehind}
 use Rattle.pearl_parse.proofs.Steps.{Rest, Ends, Then}
 use Rattle.pearl_parse.proofs.LocalModules.{block_keeps}
 use Rattle.pearl_parse.proofs.LocalRests.{inner_keeps}
-use Rattle.pearl_parse.proofs.Comes.{Fills, BehindWord, BehindSymbol, Maybe, Makes, ends_fill, fills_as, fills_word}
+use Rattle.pearl_parse.proofs.Comes.{Fills, BehindWord, BehindSymbol, Maybe, Makes, fills_as, fills_word}
 use Rattle.pearl_parse.proofs.Comes.{fills_symbol, fills_name, fills_maybe}
 use Rattle.pearl_parse.proofs.Made.{semicolon, body_declaration_made}
 use Rattle.pearl_parse.proofs.ModulesMade.{block_made, task_made, procedure_made}
@@ -260,7 +260,7 @@ proc_rest = BehindWord w.PROC (Then Params returns_rest)
 abbrev pub task_rest : Rest
 task_rest = BehindWord w.TASK (Then SpellsTaskHead block_rest)
 
-block_is_local : IsLocal SpellsBlock
+pub block_is_local : IsLocal SpellsBlock
 block_is_local = local_of 3 SpellsBlock block_keeps
 
 head_is_local : IsLocal SpellsTaskHead
@@ -343,18 +343,3 @@ module _ (tokens : List Token) (from : ℕ) (few : length tokens < 2 ^ 55) where
   past_returns at stop behind a x end own new h ahead near reach g is =
       past_part 24 SpellsDecl tokens from 0 3 16 (Maybe SpellsReturns) block_rest returns_are_local block_fills
       (omega arith) at stop (omega arith) a x end new h ahead reach (own, near, g, omega (arith, is))
-
-  module _ (at stop : ℕ) (behind : from < at) (a : Unit_ block_rest at stop) where
-    pub unit_halts : (halt : Halt) → HaltsBehind 24 SpellsBlock tokens at stop halt →
-        HaltsBehind 24 SpellsDecl tokens from 0 halt
-    unit_halts = halt_part 24 SpellsDecl tokens from 0 0 24 SpellsBlock Ends block_is_local ends_fill (omega arith) at
-        stop (omega arith) a
-
-    pub unit_goes : (body : Body) (end new : ℕ) → SpellsBlock tokens at body end → at ≤ end → end ≤ new →
-        new ≤ length tokens → GoesBehind 24 SpellsBlock tokens at stop end new →
-        GoesIn 24 SpellsDecl tokens from end new
-    unit_goes body end new h ahead near reach t =
-        goes_in_told 24 SpellsDecl tokens from 0 (omega arith) end new (omega arith)
-        (done 24 SpellsDecl tokens from 0 end new new
-        (past_part 24 SpellsDecl tokens from 0 0 24 SpellsBlock Ends block_is_local ends_fill (omega arith) at stop
-        (omega arith) a body end new h ahead reach t) (omega arith))

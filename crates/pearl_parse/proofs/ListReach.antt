@@ -1,11 +1,9 @@
 -- Lists that go on as far as a stop: the parts that were read, and one that goes on so far.
-use Rattle.std.proofs.Common.{ℕ, ◌+◌, ◌*◌, ◌<◌, ◌≤◌, List, [], ◌∷◌, ◌++◌, length, refl, ◌∙◌, arith}
+use Rattle.std.proofs.Common.{ℕ, ◌+◌, ◌*◌, ◌≤◌, List, [], ◌∷◌, ◌++◌, length, refl, arith}
 use Rattle.pearl_tree.specs.declared.token.Token.{Token}
-use Rattle.pearl_tree.specs.Standing.{Spelling, HasSymbol, SpellsEach, SpellsSome, SpellsList}
-use Rattle.pearl_tree.specs.declared.symbol.TheConstants as s
+use Rattle.pearl_tree.specs.Standing.{Spelling, SpellsEach}
 use Rattle.pearl_parse_expr.specs.Least.{AlikeBefore, ReachesIn}
-use Rattle.pearl_parse_expr.proofs.Local as local
-use Rattle.pearl_parse_expr.proofs.Lists.{each_one_more, list_one_more}
+use Rattle.pearl_parse_expr.proofs.Lists.{each_one_more}
 use Rattle.pearl_parse_decl.proofs.LocalLists.{Kept}
 use Rattle.pearl_parse_decl.proofs.LocalLists as lists
 
@@ -42,35 +40,4 @@ module _ {X : Type 0} (n room : ℕ) (spells : List Token → Spelling X) (kept 
         xs ++ x ∷ [],
         each_one_more (spells others) xs from end (length others) x
             (lists.each_keeps tokens others stop alike n spells (kept tokens others stop alike) from xs end h near).1 g,
-      )) r
-
-  -- the first part of a list
-  pub list_goes : ReachesIn room spells tokens from stop →
-      ReachesIn room (λ tokens. SpellsList tokens (spells tokens)) tokens from stop
-  list_goes r =
-      ends_as room room spells (λ tokens. SpellsList tokens (spells tokens)) tokens from from stop (omega arith)
-      (λ others alike x g. (x ∷ [], (length others, g, refl))) r
-
-  pub some_goes : ReachesIn room spells tokens from stop →
-      ReachesIn room (λ tokens. SpellsSome (spells tokens)) tokens from stop
-  some_goes r =
-      ends_as room room spells (λ tokens. SpellsSome (spells tokens)) tokens from from stop (omega arith)
-      (λ others alike x g. (x ∷ [], (length others, g, refl))) r
-
-  -- a part behind a comma
-  pub list_goes_on : (xs : List X) (end : ℕ) → SpellsList tokens (spells tokens) from xs end →
-      HasSymbol tokens end s.COMMA → end < stop →
-      ReachesIn room spells tokens (end + 1) stop →
-      ReachesIn room (λ tokens. SpellsList tokens (spells tokens)) tokens from stop
-  list_goes_on xs end h comma near r =
-      let before = lists.list_keeps tokens tokens end (λ j below. refl) n spells
-      (kept tokens tokens end (λ j below. refl)) from xs end h (omega arith) in
-      let ahead : from ≤ end = omega (arith, before.0) in
-      ends_as room room spells (λ tokens. SpellsList tokens (spells tokens)) tokens from (end + 1) stop (omega arith)
-      (λ others alike x g. (
-        xs ++ x ∷ [],
-        list_one_more others (spells others) xs from end (length others) x
-            (lists.list_keeps tokens others stop alike n spells (kept tokens others stop alike) from xs end h
-            (omega arith)).1
-            (local.what tokens others stop alike end near ∙ comma) g,
       )) r

@@ -7,12 +7,10 @@ use Rattle.pearl_tree.specs.declared.tree.ModuleName.TheVariants.{Bracketed, Bar
 use Rattle.pearl_tree.specs.declared.token.Token.{Token}
 use Rattle.pearl_tree.specs.Standing.{what_at, place_at, IsName, IsNumber}
 use Rattle.pearl_tree.specs.Declarations.{SpellsDevice, SpellsDeclared, SpellsSpec, SpellsParam}
-use Rattle.pearl_tree.specs.Modules.{SpellsReturns, SpellsBlock, SpellsDecl, SpellsModuleName, SpellsSystem, SpellsTree}
-use Rattle.pearl_tree.specs.declared.symbol.TheConstants as s
+use Rattle.pearl_tree.specs.Modules.{SpellsReturns, SpellsBlock, SpellsDecl, SpellsModuleName, SpellsSystem}
 use Rattle.pearl_parse_expr.specs.Least.{AlikeBefore}
 use Rattle.pearl_parse_expr.proofs.Local as local
-use Rattle.pearl_parse_expr.proofs.Reaching.{IsLocal}
-use Rattle.pearl_parse_decl.proofs.LocalLists.{Keeps, local_of}
+use Rattle.pearl_parse_decl.proofs.LocalLists.{Keeps}
 use Rattle.pearl_parse_decl.proofs.LocalLists as lists
 use Rattle.pearl_parse_decl.proofs.LocalDeclarations as declarations
 use Rattle.pearl_parse.proofs.LocalStatements.{whole_body_keeps}
@@ -167,40 +165,3 @@ module _ (tokens others : List Token) (k : ℕ) (alike : AlikeBefore tokens othe
       (from + 2) x.items.items to h.2 near in
       let below : from + 1 < k = omega (arith, list.0) in
       (omega (arith, list.0), (what from (omega arith) ∙ h.0, what (from + 1) below ∙ h.1, list.1))
-
-  pub tree_keeps : Keeps tokens others k 5 SpellsTree
-  tree_keeps from x to h near =
-      let last = lists.symbol_flag_keeps tokens others k alike s.SEMICOLON (h.2 + 1) x.semicolon to h.13 near in
-      let list = lists.each_keeps tokens others k alike 4 SpellsDecl decl_keeps (h.1 + 2) x.declarations.items.items h.2
-      h.10 (omega (arith, last.0)) in
-      let system = lists.maybe_keeps tokens others k alike 2 SpellsSystem system_keeps (h.0 + 1) x.system h.1 h.7
-      (omega (arith, last.0, list.0)) in
-      let first = lists.maybe_keeps tokens others k alike 1 SpellsModuleName module_name_keeps (from + 1) x.name h.0 h.5
-      (omega (arith, last.0, list.0, system.0)) in
-      let order : (from < h.0) × ((h.0 < h.1) × (h.1 + 1 < h.2)) =
-      (omega (arith, first.0), (omega (arith, system.0), omega (arith, list.0))) in
-      let below : h.2 < k = omega (arith, last.0) in (
-        omega (arith, order, last.0),
-        (
-          h.0,
-          h.1,
-          h.2,
-          place from (omega (arith, order)) ∙ h.3,
-          what from (omega (arith, order)) ∙ h.4,
-          first.1,
-          what h.0 (omega (arith, order)) ∙ h.6,
-          system.1,
-          what h.1 (omega (arith, order)) ∙ h.8,
-          what (h.1 + 1) (omega (arith, order)) ∙ h.9,
-          list.1,
-          what h.2 below ∙ h.11,
-          place h.2 below ∙ h.12,
-          last.1,
-        ),
-      )
-
-pub decl_is_local : IsLocal SpellsDecl
-decl_is_local = local_of 4 SpellsDecl decl_keeps
-
-pub tree_is_local : IsLocal SpellsTree
-tree_is_local = local_of 5 SpellsTree tree_keeps

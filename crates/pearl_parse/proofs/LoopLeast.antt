@@ -2,27 +2,22 @@
 use Rattle.std.proofs.Common.{ℕ, ◌+◌, ◌<◌, ◌≤◌, ◌^◌, List, length, Option, Some, arith}
 use Rattle.pearl_tree.specs.declared.name.Name.{Name}
 use Rattle.pearl_tree.specs.declared.expression.Expr.{Expr}
-use Rattle.pearl_tree.specs.declared.token.What.TheVariants as what
 use Rattle.pearl_tree.specs.declared.token.Token.{Token}
-use Rattle.pearl_tree.specs.Tokens.{IsLawfulWhat}
 use Rattle.pearl_tree.specs.Standing.{Spelling, HasWord, SpellsName}
 use Rattle.pearl_tree.specs.Statements.{SpellsFor}
-use Rattle.pearl_tree.specs.declared.symbol.TheConstants as s
 use Rattle.pearl_tree.specs.declared.word_code.TheConstants as w
 use Rattle.pearl_parse_expr.specs.declared.reading.Halt.{Halt}
-use Rattle.pearl_parse_expr.specs.Stops.{IsHalted, is_word, is_symbol, is_name}
+use Rattle.pearl_parse_expr.specs.Stops.{IsHalted, is_name}
 use Rattle.pearl_parse_expr.specs.Least.{GoesIn, HaltsIn}
 use Rattle.pearl_parse_expr.proofs.Reaching.{IsLocal}
 use Rattle.pearl_parse_decl.proofs.LocalLists.{local_of, maybe_keeps}
 use Rattle.pearl_parse.specs.Stops.{IsMissing}
-use Rattle.pearl_parse.specs.Bodies.{SpellsCondition, SpellsClosing, SpellsHeads}
+use Rattle.pearl_parse.specs.Bodies.{SpellsCondition, SpellsHeads}
 use Rattle.pearl_parse.specs.Reached.{GoesBehind, HaltsBehind}
 use Rattle.pearl_parse.proofs.Steps.{Rest, Ends, Then}
 use Rattle.pearl_parse.proofs.LocalStatements.{for_keeps}
 use Rattle.pearl_parse.proofs.Comes.{Fills, BehindWord, Maybe, Makes, ends_fill, fills_word, fills_name, fills_maybe}
-use Rattle.pearl_parse.proofs.Made.{semicolon}
 use Rattle.pearl_parse.proofs.ScheduleMade.{After}
-use Rattle.pearl_parse.proofs.Tails.{semicolon_fills}
 use Rattle.pearl_parse.proofs.ScheduleLeast.{after_is_local, maybe_after_is_local}
 use Rattle.pearl_parse.proofs.States.{State, first, past_word, past_part, past_first, halt_token, halt_part, halt_first}
 
@@ -48,31 +43,6 @@ module _ (tokens : List Token) (from : ℕ) (inside : from ≤ length tokens) (f
   condition_past =
       past_part 16 SpellsCondition tokens from 0 1 8 (After w.IF) then_word (after_is_local w.IF) then_fills
       (omega arith) from from (omega arith) condition_first
-
--- ---- a word and a semicolon
-
-closing_made : (word : ℕ) → Makes (SpellsClosing word) (BehindWord word semicolon)
-closing_made word others from to small h = (tt, (h.0, h.1.0, omega (arith, h.1.1)))
-
-module _ (tokens : List Token) (word from low : ℕ) (inside : from ≤ length tokens) (few : length tokens < 2 ^ 55) where
-  closing_first : State 8 (SpellsClosing word) tokens from low (BehindWord word semicolon) from low
-  closing_first = first 8 (SpellsClosing word) tokens from low (BehindWord word semicolon) 0 low (closing_made word)
-      (omega arith) (omega arith) (omega arith) inside few
-
-  pub no_word : (halt : Halt) → IsLawfulWhat (what.Word word) → IsMissing tokens (is_word word) from low halt →
-      HaltsBehind 8 (SpellsClosing word) tokens from low halt
-  no_word halt known h =
-      halt_token 8 (SpellsClosing word) tokens from low 2 (BehindWord word semicolon)
-      (fills_word 1 semicolon semicolon_fills word known) (omega arith) (is_word word) from low halt closing_first h
-
-  pub no_semicolon : (halt : Halt) → HasWord tokens from word → from < length tokens →
-      IsMissing tokens (is_symbol s.SEMICOLON) (from + 1) low halt →
-      HaltsBehind 8 (SpellsClosing word) tokens from low halt
-  no_semicolon halt here within h =
-      halt_token 8 (SpellsClosing word) tokens from low 1 semicolon semicolon_fills (omega arith)
-      (is_symbol s.SEMICOLON) (from + 1) low halt
-      (past_word 8 (SpellsClosing word) tokens from low word semicolon from low (from + 1) (omega arith) closing_first
-      here within) h
 
 -- ---- the heads of a loop
 

@@ -55,7 +55,7 @@ module _ (tokens : List Token) (from : ℕ) where
       level = past_head tokens from word made fills at stop a.level x.part x.end x.stop read.spells
           (omega (arith, read.bounds)) (omega (arith, read.bounds)) read.least;
       ahead = omega (arith, a.ahead, read.bounds);
-      near = omega (arith, read.bounds);
+      near = omega (arith, a.ahead, read.bounds);
       inside = omega (arith, read.bounds);
     }
 
@@ -65,7 +65,7 @@ module _ (tokens : List Token) (from : ℕ) where
         HaltsBehind 8 (Maybe (After word)) tokens at stop halt → ReadsOnly 16 SpellsHeads tokens from result
     no_optional {Q} halt result h step refused least =
         unread 16 SpellsHeads tokens from Q halt result h step
-        (no_part SpellsHeads tokens from (Optional word) rest at stop halt a.goes (omega (arith, a.ahead, a.near))
+        (no_part SpellsHeads tokens from (Optional word) rest at stop halt a.goes a.near
         refused)
         (head_halts tokens from word made fills at stop a.level halt least)
 

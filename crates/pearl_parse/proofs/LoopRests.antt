@@ -1,6 +1,5 @@
 -- What is left of the heads of a loop.
-use Rattle.std.proofs.Common.{◌≡◌, ℕ, ◌+◌, true, false, List, [], ◌∷◌, Option, Some, None, refl, sym, ap, subst, ◌∙◌}
-use Rattle.std.proofs.Common.{arith}
+use Rattle.std.proofs.Common.{◌≡◌, ℕ, ◌+◌, true, false, List, [], ◌∷◌, Option, Some, None, refl, ap, subst, ◌∙◌}
 use Rattle.pearl_tree.specs.declared.name.Name.{Name}
 use Rattle.pearl_tree.specs.declared.expression.Expr.{Expr}
 use Rattle.pearl_tree.specs.declared.token.What.{What}
@@ -9,8 +8,7 @@ use Rattle.pearl_tree.specs.declared.token.Token.{Token}
 use Rattle.pearl_tree.specs.Standing.{Spelling, what_at, HasWord, SpellsMaybe}
 use Rattle.pearl_tree.specs.Statements.{SpellsAfter, SpellsFor}
 use Rattle.pearl_tree.specs.declared.word_code.TheConstants as w
-use Rattle.pearl_parse_expr.specs.Stops.{extends_expression, is_word, is_name}
-use Rattle.pearl_parse_expr.proofs.Primaries.{clash}
+use Rattle.pearl_parse_expr.specs.Stops.{extends_expression, is_word}
 use Rattle.pearl_parse.specs.declared.loops.Heads.{Heads}
 use Rattle.pearl_parse.specs.Stops.{SpellsOptional}
 use Rattle.pearl_parse.specs.Bodies.{is_one, SpellsOptionalFor, SpellsHeads}
@@ -148,16 +146,3 @@ module _ (others : List Token) where
 
 pub heads_goes : (tokens : List Token) (from : ℕ) → Goes SpellsHeads tokens from heads_rest from from
 heads_goes tokens from = λ others agree x to h. heads others from x to h
-
--- FOR id
-abbrev pub id_rest : Rest
-id_rest others at to = (is_name (what_at others at) ≡ true) × (to ≡ at + 1)
-
-pub for_goes : (tokens : List Token) (from : ℕ) → HasWord tokens from w.FOR →
-    Goes SpellsOptionalFor tokens from id_rest (from + 1) from
-for_goes tokens from here = λ others agree x to h. by others (sym (agree from (omega arith)) ∙ here) x to h
-  where
-    by : (others : List Token) → HasWord others from w.FOR → (x : Option Name) (to : ℕ) →
-        SpellsOptionalFor others from x to → id_rest others (from + 1) to
-    by others here None to h = absurd (clash _ (ap (is_word w.FOR) here) h.1)
-    by others here (Some x) to h = (ap is_name h.1.0, omega (arith, h.2))

@@ -72,9 +72,6 @@ maybe_list_long others spells after from (x ∷ xs) to h = list_long others spel
 pub value_made : Makes SpellsValue (BehindSymbol s.LEFT_ROUND (Then SpellsWhole (BehindSymbol s.RIGHT_ROUND Ends)))
 value_made others from to small h = (h.1.0, (h.1.1, h.0, h.1.2, h.1.3.0, h.1.3.1))
 
-pub arguments_made : Makes SpellsArguments (Then (λ tokens. SpellsMaybeBracketed tokens (SpellsWhole tokens)) semicolon)
-arguments_made others from to small h = (h.0, (h.1, h.2, h.3.0, h.3.1))
-
 -- "(" expr { "," expr } ")" ";"
 pub bracketed_arguments_made : Makes SpellsArguments
     (BehindSymbol s.LEFT_ROUND (Then (λ tokens. SpellsList tokens (SpellsWhole tokens))
@@ -85,10 +82,6 @@ bracketed_arguments_made others from to small h = (h.1.0, (h.1.1 + 1, by h.1.0 h
         SpellsMaybeBracketed others (SpellsWhole others) from xs (h.1.1 + 1)
     by [] g = absurd g
     by (x ∷ xs) g = (h.1.1, h.0, g, h.1.3.0, refl)
-
-pub before_made : {X : Type 0} (word : ℕ) (spells : List Token → Spelling X) →
-    Makes (SpellsBefore word spells) (Then (λ tokens. SpellsMaybeList tokens (spells tokens)) (BehindWord word Ends))
-before_made word spells others from to small h = (h.0, (h.1, h.2, h.3.0, h.3.1))
 
 pub formats_made : Makes SpellsFormats (Then (λ tokens. SpellsList tokens (SpellsFmt tokens)) semicolon)
 formats_made others from to small h = (h.0, (h.1, h.2, h.3.0, h.3.1))

@@ -15,12 +15,12 @@ use Rattle.pearl_tree.specs.declared.symbol.TheConstants as s
 use Rattle.pearl_tree.specs.declared.word_code.TheConstants as w
 use Rattle.pearl_parse_expr.specs.declared.reading.Halt.{Halt}
 use Rattle.pearl_parse_expr.specs.Stops.{IsHalted, is_word, is_symbol, is_name}
-use Rattle.pearl_parse_expr.specs.Least.{GoesIn, HaltsIn}
+use Rattle.pearl_parse_expr.specs.Least.{ReachesIn, GoesIn, HaltsIn}
 use Rattle.pearl_parse_expr.proofs.Local as local
 use Rattle.pearl_parse_expr.proofs.Reaching.{IsLocal}
 use Rattle.pearl_parse_decl.proofs.LocalLists.{Kept, local_of, each_keeps, maybe_keeps, symbol_flag_keeps}
 use Rattle.pearl_parse.specs.Stops.{IsMissing}
-use Rattle.pearl_parse.specs.Modules.{SpellsOptionalName, SpellsHead, SpellsOpening, SpellsClose, is_end}
+use Rattle.pearl_parse.specs.Modules.{SpellsOptionalName, SpellsHead, SpellsOpening, SpellsClose, SpellsSource, is_end}
 use Rattle.pearl_parse.specs.Modules.{begins_module_name}
 use Rattle.pearl_parse.specs.Reached.{GoesBehind, HaltsBehind}
 use Rattle.pearl_parse.proofs.Steps.{Rest, Ends, Then}
@@ -34,7 +34,7 @@ use Rattle.pearl_parse.proofs.NestedLeast.{told_from}
 use Rattle.pearl_parse.proofs.DeclarationLeast.{as_rest}
 use Rattle.pearl_parse.proofs.Optional.{maybe_of}
 use Rattle.pearl_parse.proofs.States.{State, first, past_word, past_symbol, past_name, past_part, past_first}
-use Rattle.pearl_parse.proofs.States.{halt_token, halt_part, halt_first}
+use Rattle.pearl_parse.proofs.States.{halt_token, halt_part, halt_first, halts_behind_as}
 
 -- ---- "(" id ")"
 
@@ -334,3 +334,20 @@ module _ (tokens : List Token) (few : length tokens < 2 ^ 55) where
       halt → HaltsBehind 24 SpellsTree tokens 0 0 halt
   close_halts at stop a = halt_part 24 SpellsTree tokens 0 0 0 8 SpellsClose Ends (local_of 1 SpellsClose close_kept)
       ends_fill (omega arith) at stop (omega arith) a
+
+  -- the tokens of a module are a source
+  source_reaches : (stop : ℕ) → 0 ≤ stop → ReachesIn 24 SpellsTree tokens 0 stop →
+      ReachesIn 24 SpellsSource tokens 0 stop
+  source_reaches stop near r = record {
+    others = r.others;
+    alike = r.alike;
+    long = r.long;
+    short = r.short;
+    lawful = r.lawful;
+    part = r.part;
+    spelled = (r.spelled, refl);
+  }
+
+  pub source_halts : (halt : Halt) → HaltsBehind 24 SpellsTree tokens 0 0 halt →
+      HaltsBehind 24 SpellsSource tokens 0 0 halt
+  source_halts = halts_behind_as 24 24 SpellsTree SpellsSource tokens 0 0 (omega arith) source_reaches 0

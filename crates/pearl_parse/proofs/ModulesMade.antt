@@ -4,17 +4,15 @@ use Rattle.std.proofs.Common.{Option, Some, refl, sym, ◌∙◌, ap, subst, inl
 use Rattle.std.proofs.lemmas.Option.{slice_get-get_or, slice_get_within, get_or_from_slice_get}
 use Rattle.std.specs.Option.{option_map}
 use Rattle.pearl_tree.specs.declared.typing.Basic.{Basic}
-use Rattle.pearl_tree.specs.declared.typing.Sort.{Sort}
 use Rattle.pearl_tree.specs.declared.tree.Decl.TheVariants as decl
 use Rattle.pearl_tree.specs.declared.token.What.TheVariants as what
 use Rattle.pearl_tree.specs.declared.token.Token.{Token}
 use Rattle.pearl_tree.specs.declared.limit.TheConstants as limit
-use Rattle.pearl_tree.specs.Standing.{Spelling, HasWord, HasSymbol, IsNumber, SpellsName, SpellsBracketedNumber}
+use Rattle.pearl_tree.specs.Standing.{Spelling, HasWord, HasSymbol, SpellsName}
 use Rattle.pearl_tree.specs.Standing.{SpellsList, SpellsMaybeBracketed, SpellsEach, SpellsSymbolFlag}
 use Rattle.pearl_tree.specs.Stops.{SomeBegins}
 use Rattle.pearl_tree.specs.Tokens.{AreLawful, IsLawfulWhat}
-use Rattle.pearl_tree.specs.Types.{SpellsWholeTyping, sort_word}
-use Rattle.pearl_tree.specs.Declarations.{SpellsDeclared, SpellsSpec, SpellsParam}
+use Rattle.pearl_tree.specs.Declarations.{SpellsSpec, SpellsParam}
 use Rattle.pearl_tree.specs.Modules.{SpellsTaskHead, SpellsReturns, SpellsBlock, SpellsDecl, SpellsModuleName}
 use Rattle.pearl_tree.specs.Modules.{SpellsSystem, SpellsTree}
 use Rattle.pearl_tree.specs.declared.symbol.TheConstants as s
@@ -25,8 +23,9 @@ use Rattle.pearl_parse_expr.proofs.Reaching.{order, placed, placed_within}
 use Rattle.pearl_parse_expr.proofs.Trees.{parts_of}
 use Rattle.pearl_parse_decl.proofs.LocalLists.{after_of, each_long, list_long, maybe_bracketed_long}
 use Rattle.pearl_parse_decl.proofs.LocalLists as lists
-use Rattle.pearl_parse_decl.proofs.LocalDeclarations.{declared_keeps, spec_keeps, param_keeps, returns_keep}
+use Rattle.pearl_parse_decl.proofs.LocalDeclarations.{spec_keeps, param_keeps, returns_keep}
 use Rattle.pearl_parse.specs.Bodies.{SpellsInner}
+use Rattle.pearl_parse.specs.Modules.{SpellsSource}
 use Rattle.pearl_parse.proofs.Steps.{Ends, Then}
 use Rattle.pearl_parse.proofs.Comes.{BehindWord, BehindSymbol, Maybe, Makes}
 use Rattle.pearl_parse.proofs.Made.{semicolon, word_within}
@@ -64,55 +63,6 @@ block_made others from to small h =
     let body = body_made others limit.NESTED_MAX (from + 1) a inside.0 (omega (arith, close.2.2, close.3)) inside.1
     h.1.0 h.1.2 in
     (body.0, (a, h.0, body.1, close.2.0, close.2.1, omega (arith, close.2.2, close.3)))
-
-pub length_made : (sort : Sort) → Makes SpellsDecl
-    (BehindWord w.LENGTH (BehindWord (sort_word sort) (Then SpellsBracketedNumber semicolon)))
-length_made sort others from to small h =
-    let at = placed others from (what.Word w.LENGTH) h.0 in
-    let rest = h.1.1 in
-    let number = rest.2 in
-    let two : from + 1 + 1 ≡ from + 2 = omega arith in
-    let three : from + 1 + 1 + 1 ≡ from + 3 = omega arith in
-    let four : from + 1 + 1 + 2 ≡ from + 4 = omega arith in
-    let five : rest.1 ≡ from + 5 = omega (arith, number.3) in (
-      decl.Length sort rest.0 at.0,
-      (
-        at.1,
-        h.0,
-        h.1.0,
-        subst (λ k. HasSymbol others k s.LEFT_ROUND) two number.0,
-        subst (λ k. IsNumber others k rest.0) three number.1,
-        subst (λ k. HasSymbol others k s.RIGHT_ROUND) four number.2,
-        subst (λ k. HasSymbol others k s.SEMICOLON) five rest.3.0,
-        omega (arith, five, rest.3.1),
-      ),
-    )
-
-pub type_made : Makes SpellsDecl (BehindWord w.TYPE (Then SpellsName (Then SpellsWholeTyping semicolon)))
-type_made others from to small h =
-    let at = placed others from (what.Word w.TYPE) h.0 in
-    let rest = h.1.3 in
-    let two : h.1.1 ≡ from + 2 = omega (arith, h.1.2.1) in (
-      decl.Type h.1.0 rest.0 at.0,
-      (
-        rest.1,
-        at.1,
-        h.0,
-        h.1.2.0,
-        subst (λ k. SpellsWholeTyping others k rest.0 rest.1) two rest.2,
-        rest.3.0,
-        rest.3.1,
-      ),
-    )
-
-pub declare_made : Makes SpellsDecl (BehindWord w.DCL (Then (λ tokens. SpellsList tokens (SpellsDeclared tokens))
-    semicolon))
-declare_made others from to small h =
-    let at = placed others from (what.Word w.DCL) h.0 in
-    let long = list_long others (SpellsDeclared others) (one_long 1 (SpellsDeclared others)
-    (after_of 2 SpellsDeclared declared_keeps others)) (from + 1) h.1.0 h.1.1 h.1.2 in
-    let few : length h.1.0 < 2 ^ 63 = omega (arith, long, h.1.3.1) in
-    (decl.Declare (parts_of h.1.0 few) at.0, (h.1.1, at.1, h.0, h.1.2, h.1.3.0, h.1.3.1))
 
 pub specify_made : Makes SpellsDecl (BehindWord w.SPC (Then (λ tokens. SpellsList tokens (SpellsSpec tokens))
     semicolon))
@@ -221,12 +171,12 @@ module_made others from to small h =
     )
 
 -- a module that goes on as far as a stop begins with the tokens before it
-pub begins : (tokens : List Token) (room stop : ℕ) → ReachesIn room SpellsTree tokens 0 stop → Begins tokens stop
+pub begins : (tokens : List Token) (room stop : ℕ) → ReachesIn room SpellsSource tokens 0 stop → Begins tokens stop
 begins tokens room stop r = (
   r.part,
   r.others,
   (λ j below. ap (option_map (λ token. token.what)) (r.alike j below)),
-  record { spells = r.spelled },
+  record { spells = r.spelled.0 },
 )
 
 -- tokens are lawful where they are lawful ones before some number, and lawful from there on
@@ -247,12 +197,12 @@ all_lawful tokens others stop lawful alike rest k other within = by (order k sto
     by (inr behind) = subst (λ found. IfSome (option_map (λ token. token.what) found) IsLawfulWhat) is (rest k behind)
 
 -- and it does so with lawful tokens where these are lawful
-pub some_begins : (tokens : List Token) (room stop : ℕ) → AreLawful tokens → ReachesIn room SpellsTree tokens 0 stop →
+pub some_begins : (tokens : List Token) (room stop : ℕ) → AreLawful tokens → ReachesIn room SpellsSource tokens 0 stop →
     SomeBegins tokens stop
 some_begins tokens room stop lawful r = (
   r.part,
   r.others,
   (λ j below. ap (option_map (λ token. token.what)) (r.alike j below)),
   all_lawful tokens r.others stop lawful.spelled r.alike r.lawful,
-  record { spells = r.spelled },
+  record { spells = r.spelled.0 },
 )

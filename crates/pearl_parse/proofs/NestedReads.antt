@@ -59,7 +59,7 @@ module _ (tokens : List Token) (depth from : ℕ) where
         read.spells
         (omega (arith, read.bounds)) (omega (arith, read.bounds)) read.least;
     ahead = omega (arith, a.ahead, read.bounds);
-    near = omega (arith, read.bounds);
+    near = omega (arith, a.ahead, read.bounds);
     inside = omega (arith, read.bounds);
   }
 
@@ -76,7 +76,7 @@ module _ (tokens : List Token) (depth from : ℕ) where
     level = past_other tokens depth from word at stop (omega (arith, a.ahead)) a.level x.part x.end x.stop read.spells
         (omega (arith, read.bounds)) (omega (arith, read.bounds)) read.least;
     ahead = omega (arith, a.ahead, read.bounds);
-    near = omega (arith, read.bounds);
+    near = omega (arith, a.ahead, read.bounds);
     inside = omega (arith, read.bounds);
   }
 
@@ -94,7 +94,7 @@ module _ (tokens : List Token) (depth from : ℕ) where
         read.spells
         (omega (arith, read.bounds)) (omega (arith, read.bounds)) read.least;
     ahead = omega (arith, a.ahead, read.bounds);
-    near = omega (arith, read.bounds);
+    near = omega (arith, a.ahead, read.bounds);
     inside = omega (arith, read.bounds);
   }
 
@@ -108,7 +108,7 @@ module _ (tokens : List Token) (depth from : ℕ) where
     level = past_inner tokens depth from at stop (omega (arith, a.ahead)) a.level x.part x.end x.stop read.spells
         (omega (arith, read.bounds)) (omega (arith, read.bounds)) read.least;
     ahead = omega (arith, a.ahead, read.bounds);
-    near = omega (arith, read.bounds);
+    near = omega (arith, a.ahead, read.bounds);
     inside = omega (arith, read.bounds);
   }
 
@@ -125,7 +125,7 @@ module _ (tokens : List Token) (depth from : ℕ) where
         unread 24 (Spelled depth) tokens from Q halt result h step
         (no_part (Spelled depth) tokens from (SpellsChoices (depth - 1)) (otherwise_rest (depth - 1) w.OUT) at stop halt
         a.goes
-        (omega (arith, a.ahead, a.near)) refused)
+        a.near refused)
         (choices_halt tokens depth from at stop (omega (arith, a.ahead)) a.level halt least)
 
     pub no_body : (at stop : ℕ) → StandsAt (block_rest (depth - 1)) (Inside (depth - 1)) at stop →
@@ -135,7 +135,7 @@ module _ (tokens : List Token) (depth from : ℕ) where
     no_body at stop a refused least =
         unread 24 (Spelled depth) tokens from Q halt result h step
         (no_part (Spelled depth) tokens from (SpellsBlock (depth - 1)) (closing_rest w.END) at stop halt a.goes
-        (omega (arith, a.ahead, a.near)) refused)
+        a.near refused)
         (inner_halts tokens depth from at stop (omega (arith, a.ahead)) a.level halt least)
 
     pub not_closed : (word at stop : ℕ) → StandsAt (closing_rest word) (closing_rest word) at stop →
@@ -144,7 +144,7 @@ module _ (tokens : List Token) (depth from : ℕ) where
     not_closed word at stop a refused least =
         unread 24 (Spelled depth) tokens from Q halt result h step
         (no_part (Spelled depth) tokens from (SpellsClosing word) Ends at stop halt a.goes
-        (omega (arith, a.ahead, a.near)) refused)
+        a.near refused)
         (closing_halts tokens depth from word at stop a.level halt least)
 
   -- ---- the end

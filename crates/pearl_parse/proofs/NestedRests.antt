@@ -359,11 +359,6 @@ no_statement tokens depth from within none = (
   within,
 )
 
--- want of memory is no refusal
-pub out_of_memory : {X : Type 0} (spells : List Token → Spelling X) (tokens : List Token) (from : ℕ) (halt : Halt) →
-    halt ≡ NoMemory → IsHalted spells tokens from halt
-out_of_memory spells tokens from halt is = subst (λ halt. IsHalted spells tokens from halt) (sym is) tt
-
 pub out_of_memory_behind : {X : Type 0} (spells : List Token → Spelling X) (tokens : List Token) (from least_stop : ℕ)
     (halt : Halt) → halt ≡ NoMemory → IsStopped spells tokens from least_stop halt
 out_of_memory_behind spells tokens from least_stop halt is = subst (λ halt.

@@ -235,9 +235,6 @@ pub begun_fills : Fills 3 (Then SpellsAnyBegun Ends)
 begun_fills = fills_as 3 activation activation_fills (Then SpellsAnyBegun Ends)
     (λ others k to h. let part = activation_spelled others k to h in ((None, part.0), to, (k, refl, part.1), refl))
 
-pub late_begun_fills : Fills 3 (Then (Maybe (After w.AFTER)) (Then SpellsAnyBegun Ends))
-late_begun_fills = fills_maybe 3 (Then SpellsAnyBegun Ends) begun_fills (After w.AFTER)
-
 pub priority_fills : Fills 1 (Then (Maybe (After w.PRIO)) semicolon)
 priority_fills = fills_maybe 1 semicolon semicolon_fills (After w.PRIO)
 
@@ -270,6 +267,21 @@ module _ (tokens : List Token) (from low : ℕ) (inside : from ≤ length tokens
   activation_named here within =
       past_word 16 SpellsActivation tokens from low w.ACTIVATE (Then SpellsName (Then (Maybe (After w.PRIO)) semicolon))
       from low (from + 1) (omega arith) activation_first here within
+
+  module _ (here : HasWord tokens from w.ACTIVATE) (within : from < length tokens) (name : Name)
+      (named : IsName tokens (from + 1) name) (inner : from + 1 < length tokens) where
+    pub activation_prior : State 16 SpellsActivation tokens from low (Then (Maybe (After w.PRIO)) semicolon) (from + 2)
+        low
+    activation_prior =
+        past_name 16 SpellsActivation tokens from low name (Then (Maybe (After w.PRIO)) semicolon) (from + 1) low
+        (from + 2) (omega arith) (activation_named here within) named inner
+
+    pub activation_past : (x : Option Expr) (end stop : ℕ) → Maybe (After w.PRIO) tokens (from + 2) x end →
+        from + 2 ≤ end → stop ≤ length tokens → GoesBehind 8 (Maybe (After w.PRIO)) tokens (from + 2) low end stop →
+        State 16 SpellsActivation tokens from low semicolon end stop
+    activation_past =
+        past_part 16 SpellsActivation tokens from low 1 8 (Maybe (After w.PRIO)) semicolon
+        (maybe_after_is_local w.PRIO) semicolon_fills (omega arith) (from + 2) low (omega arith) activation_prior
 
   pub begun_first : State 24 SpellsAnyBegun tokens from low (Then (Maybe SpellsPeriod) (Then SpellsActivation Ends))
       from low
@@ -351,17 +363,11 @@ module _ (tokens : List Token) (depth from : ℕ) (inside : from < length tokens
           (past_name 24 (Spelled depth) tokens from 0 name rest (from + 1) from (from + 2) (omega arith)
           (when_first rest makes) named within) (omega arith) (omega arith)
 
-      pub interrupt_continues : HasWord tokens (from + 2) w.CONTINUE → from + 2 < length tokens →
-          State 24 (Spelled depth) tokens from 0 (Then SpellsName semicolon) (from + 3) (from + 2)
-      interrupt_continues next =
-          past_word 24 (Spelled depth) tokens from 0 w.CONTINUE (Then SpellsName semicolon) (from + 2) (from + 2)
-          (from + 3) (omega arith) (when_named continuation (when_continuation_made depth)) next
+      pub interrupt_continues : State 24 (Spelled depth) tokens from 0 continuation (from + 2) (from + 2)
+      interrupt_continues = when_named continuation (when_continuation_made depth)
 
-      pub interrupt_resumes : HasWord tokens (from + 2) w.RESUME → from + 2 < length tokens →
-          State 24 (Spelled depth) tokens from 0 semicolon (from + 3) (from + 2)
-      interrupt_resumes next =
-          past_word 24 (Spelled depth) tokens from 0 w.RESUME semicolon (from + 2) (from + 2) (from + 3) (omega arith)
-          (when_named resumption (when_resumption_made depth)) next
+      pub interrupt_resumes : State 24 (Spelled depth) tokens from 0 resumption (from + 2) (from + 2)
+      interrupt_resumes = when_named resumption (when_resumption_made depth)
 
       pub interrupt_late : State 24 (Spelled depth) tokens from 0
           (Then (Maybe (After w.AFTER)) (Then SpellsAnyBegun Ends)) (from + 2) (from + 2)

@@ -1,7 +1,6 @@
 -- Statements on tasks at some time, made of what their rules say, one token or part after the other.
 use Rattle.std.proofs.Common.{◌≡◌, ℕ, ◌+◌, Bool, true, false, List, Option, Some, sym, subst, arith}
 use Rattle.pearl_tree.specs.declared.expression.Expr.{Expr}
-use Rattle.pearl_tree.specs.declared.statement.PeriodEnd.TheVariants.{Until, During}
 use Rattle.pearl_tree.specs.declared.statement.Period.{Period}
 use Rattle.pearl_tree.specs.declared.statement.Start.{Start}
 use Rattle.pearl_tree.specs.declared.statement.Start.TheVariants as start
@@ -34,16 +33,6 @@ continuation = BehindWord w.CONTINUE (Then SpellsName semicolon)
 -- RESUME ";"
 abbrev pub resumption : Rest
 resumption = BehindWord w.RESUME semicolon
-
-pub until_made : Makes SpellsPeriodEnd (Then (After w.UNTIL) Ends)
-until_made others from to small h =
-    let at = placed others from (what.Word w.UNTIL) h.2.0 in
-    (Until h.0 at.0, (at.1, subst (λ k. SpellsAfter others w.UNTIL from h.0 k) (sym h.3) h.2))
-
-pub during_made : Makes SpellsPeriodEnd (Then (After w.DURING) Ends)
-during_made others from to small h =
-    let at = placed others from (what.Word w.DURING) h.2.0 in
-    (During h.0 at.0, (at.1, subst (λ k. SpellsAfter others w.DURING from h.0 k) (sym h.3) h.2))
 
 pub period_made : Makes SpellsPeriod (Then (After w.ALL) (Then (Maybe SpellsPeriodEnd) Ends))
 period_made others from to small h =

@@ -25,7 +25,7 @@ use Rattle.pearl_parse.specs.Stops.{IsStopped}
 use Rattle.pearl_parse.specs.Schedules.{SpellsOptionalEnd, SpellsLongPeriod, SpellsOptionalPeriod}
 use Rattle.pearl_parse.specs.Schedules.{SpellsOptionalPriority, SpellsActivation, SpellsBegun}
 use Rattle.pearl_parse.proofs.ByFirst.{group, of_kind}
-use Rattle.pearl_parse.proofs.Steps.{Rest, Ends, Then, Goes}
+use Rattle.pearl_parse.proofs.Steps.{Rest, Ends, Then, Goes, past}
 use Rattle.pearl_parse.proofs.StatementRests.{Spelled, exit_rest}
 
 abbrev pub priority_rest : Rest
@@ -60,6 +60,21 @@ module _ (tokens : List Token) (from : ℕ) where
 
   pub activation_goes : (stop : ℕ) → Goes SpellsActivation tokens from priority_rest (from + 2) stop
   activation_goes stop = λ others agree x to h. (x.1, h.0, h.3, (h.4, h.5))
+
+  -- behind the period and the priority
+  pub begun_goes_on : (low end stop : ℕ) → low ≤ stop →
+      IsLongest SpellsOptionalPeriod extends_expression tokens from end stop →
+      Goes SpellsBegun tokens from activation_rest end stop
+  begun_goes_on low end stop near longest =
+      past SpellsBegun tokens from SpellsOptionalPeriod extends_expression activation_rest from low end stop
+      (begun_goes low) near longest (λ others at to h. ap extends_expression h.2.1)
+
+  pub activation_goes_on : (low end stop : ℕ) → low ≤ stop →
+      IsLongest SpellsOptionalPriority extends_expression tokens (from + 2) end stop →
+      Goes SpellsActivation tokens from exit_rest end stop
+  activation_goes_on low end stop near longest =
+      past SpellsActivation tokens from SpellsOptionalPriority extends_expression exit_rest (from + 2) low end stop
+      (activation_goes low) near longest (λ others at to h. ap extends_expression h.0)
 
 module _ (others : List Token) where
   pub priority_optional : (k : ℕ) (x : Option Expr) (b : ℕ) → SpellsMaybe (SpellsAfter others w.PRIO) k x b →

@@ -1,6 +1,5 @@
 -- Statements without others in them: what completes them behind their first tokens.
-use Rattle.std.proofs.Common.{◌≡◌, ℕ, ◌+◌, ◌<◌, ◌≤◌, ◌^◌, max, List, length, Result, arith}
-use Rattle.std.specs.Result.{IsErr, IsErrAnd}
+use Rattle.std.proofs.Common.{◌≡◌, ℕ, ◌+◌, ◌<◌, ◌≤◌, ◌^◌, max, List, length, arith}
 use Rattle.pearl_tree.specs.declared.name.Name.{Name}
 use Rattle.pearl_tree.specs.declared.expression.Expr.{Expr}
 use Rattle.pearl_tree.specs.declared.expression.Ref.{Ref}
@@ -10,13 +9,12 @@ use Rattle.pearl_tree.specs.declared.statement.InterruptWord.{InterruptWord}
 use Rattle.pearl_tree.specs.declared.token.Token.{Token}
 use Rattle.pearl_tree.specs.Standing.{HasWord, HasSymbol, IsName, SpellsName}
 use Rattle.pearl_tree.specs.Expressions.{SpellsWhole, SpellsOwnRef}
-use Rattle.pearl_tree.specs.Statements.{SpellsStmt, HasBecomes, SpellsValue, task_word, sema_word, interrupt_word}
+use Rattle.pearl_tree.specs.Statements.{HasBecomes, SpellsValue, task_word, sema_word, interrupt_word}
 use Rattle.pearl_tree.specs.declared.symbol.TheConstants as s
 use Rattle.pearl_tree.specs.declared.word_code.TheConstants as w
 use Rattle.pearl_parse_expr.specs.declared.reading.Halt.{Halt}
-use Rattle.pearl_parse_expr.specs.declared.reading.Reading.{Reading as Read}
 use Rattle.pearl_parse_expr.specs.Stops.{is_symbol, is_name, is_word}
-use Rattle.pearl_parse_expr.specs.Least.{GoesIn, IsLeastIn}
+use Rattle.pearl_parse_expr.specs.Least.{GoesIn}
 use Rattle.pearl_parse_decl.proofs.LocalLists.{local_of, maybe_keeps, name_keeps}
 use Rattle.pearl_parse_decl.proofs.LocalDeclarations.{whole_keeps, own_ref_keeps}
 use Rattle.pearl_parse_expr.proofs.Reaching.{IsLocal}
@@ -30,7 +28,7 @@ use Rattle.pearl_parse.proofs.Made as made
 use Rattle.pearl_parse.proofs.Made.{semicolon, station}
 use Rattle.pearl_parse.proofs.Tails.{semicolon_fills, name_fills, to_fills, from_fills}
 use Rattle.pearl_parse.proofs.States.{State, first, past_word, past_symbol, past_name, past_part, past_first}
-use Rattle.pearl_parse.proofs.States.{halt_token, done, goes_in_told, handed_in}
+use Rattle.pearl_parse.proofs.States.{halt_token, done, goes_in_told}
 
 pub expr_is_local : IsLocal SpellsWhole
 expr_is_local = local_of 1 SpellsWhole whole_keeps
@@ -164,11 +162,3 @@ module _ (tokens : List Token) (depth from : ℕ) where
   pub behind_station : (word : ℕ) (at stop next : ℕ) → next ≡ at + 1 → Reading (station word) at stop →
       HasWord tokens at word → at < length tokens → Reading (Then SpellsName semicolon) next stop
   behind_station word = past_word 24 (Spelled depth) tokens from 0 word (Then SpellsName semicolon)
-
-  -- what `?` hands on
-  pub statement_halts : {Y : Type 0} (Q : Halt → Type 0) (told : Halt) (result : Result (Read Y) Halt) → IsErr result ×
-      IsErrAnd result Q → ((e : Halt) → Q e → e ≡ told) →
-      HaltsBehind 24 (Spelled depth) tokens from 0 told →
-      IsLeastIn 24 (λ tokens. SpellsStmt tokens depth) tokens from result
-  statement_halts Q told result h step halts = handed_in 24 (Spelled depth) tokens from 0 Q told result h step
-      (omega arith) halts

@@ -10,17 +10,16 @@ use Rattle.pearl_tree.specs.Expressions.{SpellsWhole}
 use Rattle.pearl_tree.specs.Statements.{SpellsAfter}
 use Rattle.pearl_parse_expr.specs.declared.reading.Halt.{Halt}
 use Rattle.pearl_parse_expr.specs.declared.reading.Halt.TheVariants.{Refused, NoMemory}
-use Rattle.pearl_parse_expr.specs.declared.reading.Reading.{Reading}
 use Rattle.pearl_parse_expr.specs.Stops.{IsHalted}
-use Rattle.pearl_parse_expr.specs.Least.{AlikeBefore, ReachesIn, GoesIn, HaltsIn, IsLeastIn}
+use Rattle.pearl_parse_expr.specs.Least.{AlikeBefore, ReachesIn, GoesIn, HaltsIn}
 use Rattle.pearl_parse_expr.proofs.Halts.{stuck_of}
 use Rattle.pearl_parse_expr.proofs.Local as local
 use Rattle.pearl_parse_expr.proofs.Reaching.{order, reached_halt, IsLocal}
 use Rattle.pearl_parse.specs.Stops.{IsMissing}
-use Rattle.pearl_parse.specs.Reached.{GoesBehind, HaltsBehind, IsLeastBehind}
+use Rattle.pearl_parse.specs.Reached.{GoesBehind, HaltsBehind}
 use Rattle.pearl_parse.proofs.Steps.{Rest, Ends, Then}
 use Rattle.pearl_parse.proofs.Comes.{Fills, Behind, BehindWord, BehindSymbol, Maybe, Makes, Comes, come_made, come_word}
-use Rattle.pearl_parse.proofs.Comes.{come_symbol, come_name, come_without, come_past, state_reaches, part_reaches}
+use Rattle.pearl_parse.proofs.Comes.{come_symbol, come_name, come_past, state_reaches, part_reaches}
 use Rattle.pearl_parse.proofs.Comes.{read_reaches}
 
 -- whatever makes `rest` behind the tokens before number `at` makes a whole part from `from`, and some goes on as far as
@@ -132,13 +131,6 @@ module _ {X : Type 0} (room : ℕ) (whole : List Token → Spelling X) (tokens :
       subst (λ k. At rest k stop) (sym is)
       (moved (Then SpellsName rest) rest at stop (at + 1) a (omega arith) (omega arith)
       (come_name whole tokens from name rest at here a.comes))
-
-  -- before a part that may be missing
-  pub without : {Y : Type 0} (spells : List Token → Spelling Y) (rest : Rest) (at stop : ℕ) →
-      At (Then (Maybe spells) rest) at stop → At rest at stop
-  without spells rest at stop a =
-      moved (Then (Maybe spells) rest) rest at stop at a (omega arith) a.inside
-      (come_without whole tokens from spells rest at a.comes)
 
   larger : (a b c : ℕ) → c ≡ max a b → (c ≡ a) ⊎ (c ≡ b)
   larger a b c is = by (order a b)
@@ -339,13 +331,3 @@ pub handed_on : {X E : Type 0} (P : Result X E → Type 0) (Q : E → Type 0) (t
     IsErr result × IsErrAnd result Q → ((e : E) → Q e → e ≡ told) → P (Err told) → P result
 handed_on P Q told (Ok x) h step p = absurd h.1
 handed_on P Q told (Err e) h step p = subst (λ e. P (Err e)) (sym (step e h.1)) p
-
-module _ {X Y : Type 0} (room : ℕ) (whole : List Token → Spelling X) (tokens : List Token) (from low : ℕ)
-    (Q : Halt → Type 0) (told : Halt) (result : Result (Reading Y) Halt)
-    (h : IsErr result × IsErrAnd result Q) (step : (e : Halt) → Q e → e ≡ told) where
-  pub handed_behind : HaltsBehind room whole tokens from low told → IsLeastBehind room whole tokens from low result
-  handed_behind halts = handed_on (λ r. IsLeastBehind room whole tokens from low r) Q told result h step halts
-
-  pub handed_in : low ≤ from → HaltsBehind room whole tokens from low told → IsLeastIn room whole tokens from result
-  handed_in near halts = handed_on (λ r. IsLeastIn room whole tokens from r) Q told result h step
-      (halts_in room whole tokens from low near told halts)

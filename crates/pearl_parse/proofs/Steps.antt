@@ -28,9 +28,6 @@ Then {Y} spells rest others at to = (y : Y) × (m : ℕ) × spells others at y m
 abbrev pub Avoids : (Option What → Bool) → Rest → Type 0
 Avoids kind rest = (others : List Token) (at to : ℕ) → rest others at to → kind (what_at others at) ≡ false
 
-pub err_holds : {X E : Type 0} (P : E → Type 0) (result : Result X E) (e : E) → result ≡ Err e → P e → IfErr result P
-err_holds P result e is h = subst (λ r. IfErr r P) (sym is) h
-
 pub itself : (n : ℕ) → (n == n) ≡ true
 itself n = search rules
 

@@ -1,5 +1,5 @@
 -- The system part of a module, and what opens its problem part: what completes them behind their first parts.
-use Rattle.std.proofs.Common.{◌≡◌, ℕ, ◌+◌, ◌<◌, ◌≤◌, ◌^◌, max, List, length, Option, subst, arith}
+use Rattle.std.proofs.Common.{◌≡◌, ℕ, ◌+◌, ◌<◌, ◌≤◌, ◌^◌, max, List, length, Option, Ok, subst, arith}
 use Rattle.pearl_tree.specs.declared.declaration.Device.{Device}
 use Rattle.pearl_tree.specs.declared.parts.Parts.{Parts}
 use Rattle.pearl_tree.specs.declared.token.Token.{Token}
@@ -9,7 +9,9 @@ use Rattle.pearl_tree.specs.Modules.{SpellsSystem}
 use Rattle.pearl_tree.specs.declared.symbol.TheConstants as s
 use Rattle.pearl_tree.specs.declared.word_code.TheConstants as w
 use Rattle.pearl_parse_expr.specs.declared.reading.Halt.{Halt}
-use Rattle.pearl_parse_expr.specs.Stops.{IsHalted, is_word, is_symbol}
+use Rattle.pearl_parse_expr.specs.declared.reading.Reading.{Reading}
+use Rattle.pearl_parse_expr.specs.Stops.{IsHalted, is_word, is_symbol, is_name}
+use Rattle.pearl_parse_expr.specs.Reads.{ReadsMaybe}
 use Rattle.pearl_parse_expr.specs.Least.{GoesIn, HaltsIn}
 use Rattle.pearl_parse_expr.proofs.Reaching.{IsLocal}
 use Rattle.pearl_parse_expr.proofs.Trees.{parts_of}
@@ -18,11 +20,13 @@ use Rattle.pearl_parse_decl.proofs.LocalDeclarations.{device_keeps}
 use Rattle.pearl_parse.specs.Stops.{IsMissing}
 use Rattle.pearl_parse.specs.Modules.{SpellsOptionalSystem, SpellsOpening}
 use Rattle.pearl_parse.specs.Reached.{HaltsBehind}
-use Rattle.pearl_parse.proofs.Steps.{Rest, Ends, Then}
+use Rattle.pearl_parse.proofs.Steps.{Rest, Ends, Then, past}
+use Rattle.pearl_parse.proofs.ModuleRests.{problem_rest, opening_goes, problem_stops}
 use Rattle.pearl_parse.proofs.LocalModules.{system_keeps}
 use Rattle.pearl_parse.proofs.Comes.{Fills, BehindWord, BehindSymbol, Maybe, Makes, ends_fill, fills_word, fills_symbol}
 use Rattle.pearl_parse.proofs.Tails.{fills_each}
 use Rattle.pearl_parse.proofs.Optional.{maybe_of}
+use Rattle.pearl_parse.proofs.Stands.{Stands}
 use Rattle.pearl_parse.proofs.States.{State, first, past_word, past_symbol, past_first, halt_token, halt_first, done}
 use Rattle.pearl_parse.proofs.States.{goes_in_told}
 
@@ -116,14 +120,20 @@ module _ (tokens : List Token) (from : ℕ) (inside : from ≤ length tokens) (f
       halt_first 24 SpellsOpening tokens from 0 2 16 (Maybe SpellsSystem) problem_begins system_is_local problem_fills
       (omega arith) from from (omega arith) opening_first SpellsOptionalSystem halt (omega arith) h r
 
-  pub past_system : (x : Option (Parts Device)) (end stop : ℕ) → SpellsOptionalSystem tokens from x end → from ≤ end →
-      end ≤ stop → stop ≤ length tokens → GoesIn 16 (Maybe SpellsSystem) tokens from end stop →
-      Opening problem_begins end stop
-  past_system x end stop h ahead near reach g =
-      past_first 24 SpellsOpening tokens from 0 2 16 (Maybe SpellsSystem) problem_begins system_is_local problem_fills
-      (omega arith) from from (omega arith) opening_first x end stop (maybe_of (is_word w.SYSTEM) SpellsSystem
-      tokens from x end h)
-      ahead reach (omega arith) near g
+  pub past_system : (x : Reading (Option (Parts Device))) →
+      ReadsMaybe 16 SpellsOptionalSystem SpellsOptionalSystem (Maybe SpellsSystem) is_name tokens from (Ok x) →
+      Stands 24 SpellsOpening tokens from 0 from problem_rest problem_begins x.end x.stop
+  past_system x read = record {
+    goes = past SpellsOpening tokens from SpellsOptionalSystem is_name problem_rest from from x.end x.stop
+        (opening_goes tokens from) read.bounds.2 read.longest problem_stops;
+    level = past_first 24 SpellsOpening tokens from 0 2 16 (Maybe SpellsSystem) problem_begins system_is_local
+        problem_fills (omega arith) from from (omega arith) opening_first x.part x.end x.stop
+        (maybe_of (is_word w.SYSTEM) SpellsSystem tokens from x.part x.end read.spells) read.bounds.0 read.bounds.3
+        (omega arith) read.bounds.1 read.least;
+    ahead = read.bounds.0;
+    near = read.bounds.2;
+    inside = read.bounds.3;
+  }
 
   module _ (at stop : ℕ) (a : Opening problem_begins at stop) where
     pub no_problem : (halt : Halt) → IsMissing tokens (is_word w.PROBLEM) at stop halt → HaltsBehind 24 SpellsOpening
@@ -141,9 +151,9 @@ module _ (tokens : List Token) (from : ℕ) (inside : from ≤ length tokens) (f
       no_last halt h = halt_token 24 SpellsOpening tokens from 0 1 last_symbol last_fills (omega arith)
           (is_symbol s.SEMICOLON) (at + 1) stop halt problem_past h
 
-      pub opening_goes : (new : ℕ) → HasSymbol tokens (at + 1) s.SEMICOLON → at + 1 < length tokens → new ≡ max stop
+      pub opened_so_far : (new : ℕ) → HasSymbol tokens (at + 1) s.SEMICOLON → at + 1 < length tokens → new ≡ max stop
           (at + 2) → GoesIn 24 SpellsOpening tokens from (at + 2) new
-      opening_goes new symbol inner is =
+      opened_so_far new symbol inner is =
           goes_in_told 24 SpellsOpening tokens from 0 (omega arith) (at + 2) new (omega (arith, a.near))
           (done 24 SpellsOpening tokens from 0 (at + 2) stop new
           (past_symbol 24 SpellsOpening tokens from 0 s.SEMICOLON Ends (at + 1) stop (at + 2) (omega arith) problem_past

@@ -1,6 +1,6 @@
 -- The tokens that complete what was read of a statement or a module: names, symbols, words, and the ends of what is
 -- open.
-use Rattle.std.proofs.Common.{ℕ, ◌+◌, inl, false, List, [], ◌∷◌, None, ap, refl, arith}
+use Rattle.std.proofs.Common.{ℕ, ◌+◌, inl, List, [], ◌∷◌, None, ap, refl, arith}
 use Rattle.std.specs.Option.{option_map}
 use Rattle.pearl_tree.specs.declared.expression.Primary as primary
 use Rattle.pearl_tree.specs.declared.expression.Expr as tree
@@ -9,11 +9,11 @@ use Rattle.pearl_tree.specs.declared.format.Fmt.TheVariants.{Free}
 use Rattle.pearl_tree.specs.declared.token.What.TheVariants as what
 use Rattle.pearl_tree.specs.declared.token.Token.{Token}
 use Rattle.pearl_tree.specs.Tokens.{IsLawfulWhat}
-use Rattle.pearl_tree.specs.Standing.{Spelling, SpellsName, SpellsList, SpellsEach, SpellsSome, SpellsSymbolFlag}
+use Rattle.pearl_tree.specs.Standing.{Spelling, SpellsName, SpellsList, SpellsEach, SpellsSome}
 use Rattle.pearl_tree.specs.Expressions.{SpellsWhole}
 use Rattle.pearl_tree.specs.Formats.{SpellsFmt}
-use Rattle.pearl_tree.specs.Statements.{HasBecomes, SpellsPeriod, SpellsBranch}
-use Rattle.pearl_tree.specs.Modules.{SpellsBlock, SpellsModuleName, SpellsSystem, SpellsDecl}
+use Rattle.pearl_tree.specs.Statements.{HasBecomes, SpellsBranch}
+use Rattle.pearl_tree.specs.Modules.{SpellsBlock}
 use Rattle.pearl_tree.specs.declared.symbol.TheConstants as s
 use Rattle.pearl_tree.specs.declared.word_code.TheConstants as w
 use Rattle.pearl_parse_expr.proofs.Ids.{letter_token, letter_lawful}
@@ -136,12 +136,6 @@ activation_fills = fills_word 2 (Then SpellsName (Then (Maybe (After w.PRIO)) se
     (fills_name 1 (Then (Maybe (After w.PRIO)) semicolon) (fills_maybe 1 semicolon semicolon_fills (After w.PRIO)))
     w.ACTIVATE (omega arith)
 
-pub period_activation_fills : Fills 3 (Then (Maybe SpellsPeriod) activation)
-period_activation_fills = fills_maybe 3 activation activation_fills SpellsPeriod
-
-pub late_activation_fills : Fills 3 (Then (Maybe (After w.AFTER)) (Then (Maybe SpellsPeriod) activation))
-late_activation_fills = fills_maybe 3 (Then (Maybe SpellsPeriod) activation) period_activation_fills (After w.AFTER)
-
 pub continuation_fills : Fills 3 continuation
 continuation_fills = fills_word 2 (Then SpellsName semicolon) name_fills w.CONTINUE (omega arith)
 
@@ -197,41 +191,3 @@ block_fills =
       (k + 1, h.0, (k + 1, at.1, refl, refl), h.1.0, h.1.1.0, omega (arith, h.1.1.1)),
       refl,
     ))
-
--- MODEND [ ";" ]
-abbrev pub module_end : Rest
-module_end = BehindWord w.MODEND (Then (λ tokens. SpellsSymbolFlag tokens s.SEMICOLON) Ends)
-
-pub module_end_fills : Fills 1 module_end
-module_end_fills =
-    fills_word 0 (Then (λ tokens. SpellsSymbolFlag tokens s.SEMICOLON) Ends)
-    (fills_as 0 Ends ends_fill (Then (λ tokens. SpellsSymbolFlag tokens s.SEMICOLON) Ends)
-    (λ others k to h. (false, k, refl, h))) w.MODEND (omega arith)
-
--- { decl } MODEND [ ";" ]
-abbrev pub declarations : Rest
-declarations = Then (λ tokens. SpellsEach (SpellsDecl tokens)) module_end
-
-pub declarations_fill : Fills 1 declarations
-declarations_fill = fills_each 1 module_end module_end_fills SpellsDecl
-
--- PROBLEM ";" { decl } MODEND [ ";" ]
-abbrev pub problem : Rest
-problem = BehindWord w.PROBLEM (BehindSymbol s.SEMICOLON declarations)
-
-pub problem_fills : Fills 3 problem
-problem_fills = fills_word 2 (BehindSymbol s.SEMICOLON declarations) (fills_symbol 1 declarations declarations_fill
-    s.SEMICOLON (omega arith)) w.PROBLEM (omega arith)
-
--- ";" [ system ] PROBLEM ";" { decl } MODEND [ ";" ]
-pub module_fills : Fills 4 (BehindSymbol s.SEMICOLON (Then (Maybe SpellsSystem) problem))
-module_fills = fills_symbol 3 (Then (Maybe SpellsSystem) problem) (fills_maybe 3 problem problem_fills SpellsSystem)
-    s.SEMICOLON (omega arith)
-
--- MODULE and all that must follow it
-pub tree_fills : Fills 5 (BehindWord w.MODULE (Then (Maybe SpellsModuleName)
-    (BehindSymbol s.SEMICOLON (Then (Maybe SpellsSystem) problem))))
-tree_fills =
-    fills_word 4 (Then (Maybe SpellsModuleName) (BehindSymbol s.SEMICOLON (Then (Maybe SpellsSystem) problem)))
-    (fills_maybe 4 (BehindSymbol s.SEMICOLON (Then (Maybe SpellsSystem) problem)) module_fills SpellsModuleName)
-    w.MODULE (omega arith)

@@ -1,29 +1,33 @@
--- SEND and TAKE behind what they transfer: a word, an id and a semicolon.
-use Rattle.std.proofs.Common.{◌≡◌, ℕ, ◌+◌, ◌<◌, ◌≤◌, ◌^◌, max, length, List, Result, Ok, ap, ◌∙◌, arith}
+-- SEND and TAKE behind what they transfer: a word, an id and a semicolon; PUT and GET behind their lists: a station.
+use Rattle.std.proofs.Common.{◌≡◌, ℕ, ◌+◌, ◌<◌, ◌^◌, max, length, List, Vec, Result, Ok, ap, ◌∙◌, arith}
 use Rattle.std.specs.Result.{IsErr, IsErrAnd}
 use Rattle.pearl_tree.specs.declared.expression.Expr.{Expr}
 use Rattle.pearl_tree.specs.declared.expression.Ref.{Ref}
 use Rattle.pearl_tree.specs.declared.name.Name.{Name}
 use Rattle.pearl_tree.specs.declared.statement.Stmt.{Stmt}
 use Rattle.pearl_tree.specs.declared.token.Token.{Token}
-use Rattle.pearl_tree.specs.Standing.{HasWord, HasSymbol, IsName}
+use Rattle.pearl_tree.specs.Standing.{Spelling, HasWord, HasSymbol, IsName}
 use Rattle.pearl_tree.specs.Expressions.{SpellsWhole, SpellsOwnRef}
 use Rattle.pearl_tree.specs.declared.symbol.TheConstants as s
 use Rattle.pearl_tree.specs.declared.word_code.TheConstants as w
 use Rattle.pearl_parse_expr.specs.declared.reading.Halt.{Halt}
 use Rattle.pearl_parse_expr.specs.declared.reading.Reading.{Reading}
-use Rattle.pearl_parse_expr.specs.Stops.{IsOnly, extends_expression, extends_operand}
+use Rattle.pearl_parse_expr.specs.Stops.{IsOnly, IsHalted, extends_expression, extends_operand}
 use Rattle.pearl_parse_expr.specs.Stops.{is_symbol, is_word, is_name}
-use Rattle.pearl_parse_expr.specs.Least.{GoesIn}
+use Rattle.pearl_parse_expr.specs.Least.{GoesIn, HaltsIn}
 use Rattle.pearl_parse_expr.specs.Reads.{Reads, ReadsAs}
-use Rattle.pearl_parse.specs.Stops.{IsMissing, SpellsOwnNamed}
-use Rattle.pearl_parse.specs.Reads.{ReadsBehind, ReadsNested}
-use Rattle.pearl_parse.proofs.Steps.{itself, past, missing, ends}
+use Rattle.pearl_parse.specs.Stops.{IsMissing, SpellsBefore, SpellsOwnNamed, SpellsStation}
+use Rattle.pearl_parse.specs.Reads.{ReadsBehind, ReadsNested, ReadsOnlyListWhere}
+use Rattle.pearl_parse.proofs.Steps.{Ends, Then, Goes, itself, past, past_only, missing, no_first, ends}
 use Rattle.pearl_parse.proofs.StatementRests.{Spelled, station_rest, send_goes, take_goes}
 use Rattle.pearl_parse.proofs.StatementLeast.{send_past, take_past, station_missing, behind_station}
 use Rattle.pearl_parse.proofs.StatementLeast.{name_missing, behind_name, semicolon_missing, semicolon_read}
 use Rattle.pearl_parse.proofs.Made.{station}
 use Rattle.pearl_parse.proofs.Comes.{Fills}
+use Rattle.pearl_parse_expr.proofs.Reaching.{IsLocal}
+use Rattle.pearl_parse.proofs.TransferRests.{station_ends}
+use Rattle.pearl_parse.proofs.TransferLeast.{station_part_fills}
+use Rattle.pearl_parse.proofs.States.{State, past_first, halt_first}
 use Rattle.pearl_parse.proofs.Stands.{Stands}
 use Rattle.pearl_parse.proofs.Unread.{unread}
 
@@ -42,8 +46,8 @@ module _ (tokens : List Token) (depth from word at stop : ℕ) (a : StationAt to
     no_station fills absent =
         unread 24 (Spelled depth) tokens from Q halt result h step
         (missing (Spelled depth) tokens from (is_word word) (station_rest word) at stop at halt a.goes
-        (λ others to h. ap (is_word word) h.0 ∙ itself word) (omega (arith, a.ahead, a.near))
-        (omega (arith, a.near, a.inside)) a.inside absent)
+        (λ others to h. ap (is_word word) h.0 ∙ itself word) a.near
+        a.level.inside a.inside absent)
         (station_missing tokens depth from word at stop halt fills a.level absent)
 
     pub no_dation : HasWord tokens at word → at < length tokens → IsMissing tokens is_name (at + 1) stop halt →
@@ -52,7 +56,7 @@ module _ (tokens : List Token) (depth from word at stop : ℕ) (a : StationAt to
         unread 24 (Spelled depth) tokens from Q halt result h step
         (missing (Spelled depth) tokens from is_name (station_rest word) at stop (at + 1) halt a.goes
         (λ others to h. h.1)
-        (omega (arith, a.ahead, a.near)) (omega (arith, within)) a.inside absent)
+        a.near (omega (arith, within)) a.inside absent)
         (name_missing tokens depth from (at + 1) stop halt
         (behind_station tokens depth from word at stop (at + 1) (omega arith) a.level here within) absent)
 
@@ -62,7 +66,7 @@ module _ (tokens : List Token) (depth from word at stop : ℕ) (a : StationAt to
     no_end here within name named inner absent =
         unread 24 (Spelled depth) tokens from Q halt result h step
         (missing (Spelled depth) tokens from (is_symbol s.SEMICOLON) (station_rest word) at stop (at + 2) halt a.goes
-        (λ others to h. ap (is_symbol s.SEMICOLON) h.2) (omega (arith, a.ahead, a.near)) (omega (arith, inner)) a.inside
+        (λ others to h. ap (is_symbol s.SEMICOLON) h.2) a.near (omega (arith, inner)) a.inside
         absent)
         (semicolon_missing tokens depth from (at + 2) stop halt
         (behind_name tokens depth from name (at + 1) stop (at + 2) (omega arith)
@@ -113,4 +117,37 @@ module _ (tokens : List Token) (depth from : ℕ) (inside : from < length tokens
     ahead = omega (arith, named.ahead);
     near = omega (arith, named.ahead);
     inside = omega (arith, named.ahead);
+  }
+
+-- PUT and GET: a list that may be missing before a word, and a station
+module _ {X : Type 0} (tokens : List Token) (depth from word : ℕ) (spells : List Token → Spelling X)
+    (is_local : IsLocal (SpellsBefore word spells))
+    (go : Goes (Spelled depth) tokens from (Then (SpellsBefore word spells) station_ends) (from + 1) from)
+    (begun : State 24 (Spelled depth) tokens from 0 (Then (SpellsBefore word spells) (Then SpellsStation Ends))
+    (from + 1) from) where
+  pub no_list : {Q : Halt → Type 0} (halt : Halt) (result : Result (Reading Stmt) Halt) →
+      IsErr result × IsErrAnd result Q → ((e : Halt) → Q e → e ≡ halt) →
+      IsHalted (SpellsBefore word spells) tokens (from + 1) halt →
+      HaltsIn 24 (SpellsBefore word spells) tokens (from + 1) halt → ReadsNested depth tokens from result
+  no_list {Q} halt result h step refused least =
+      unread 24 (Spelled depth) tokens from Q halt result h step
+      (no_first (Spelled depth) tokens from (SpellsBefore word spells) station_ends (from + 1) from halt go
+      (omega arith) (omega arith) refused)
+      (halt_first 24 (Spelled depth) tokens from 0 4 24 (SpellsBefore word spells) (Then SpellsStation Ends) is_local
+      station_part_fills (omega arith) (from + 1) from (omega arith) begun (SpellsBefore word spells) halt (omega arith)
+      refused least)
+
+  pub past_list : {A : Type 0} {premise : Type 0} → (x : Reading (Vec X A)) →
+      ReadsOnlyListWhere premise 24 (SpellsBefore word spells) tokens (from + 1) (Ok x) → premise →
+      Stands 24 (Spelled depth) tokens from 0 from station_ends (Then SpellsStation Ends) x.end x.stop
+  past_list {A} {premise} x read known = record {
+    goes = past_only (Spelled depth) tokens from (SpellsBefore word spells) station_ends (from + 1) from x.end x.stop
+        go (omega (arith, read.ahead)) read.only;
+    level = past_first 24 (Spelled depth) tokens from 0 4 24 (SpellsBefore word spells) (Then SpellsStation Ends)
+        is_local station_part_fills (omega arith) (from + 1) from (omega arith) begun x.part.items x.end x.stop
+        read.spells (omega (arith, read.ahead)) (omega (arith, read.ahead)) (omega arith) (omega (arith, read.ahead))
+        (read.least known);
+    ahead = omega (arith, read.ahead);
+    near = omega (arith, read.ahead);
+    inside = omega (arith, read.ahead);
   }

@@ -16,5 +16,5 @@ pub mod Modules
 pub mod Refusals
 -- how far some part goes on, where that is told no earlier than what stands before it was stopped
 pub mod Reached
--- what is known where a statement is read, or isn't
+-- what is known of statements that are read, or aren't, and of parts that are read behind others
 pub mod Reads

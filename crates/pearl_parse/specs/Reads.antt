@@ -1,19 +1,23 @@
--- What is known where a statement is read, or isn't, and where a part is read that may be empty or that is told no
--- earlier than what stands before it.
-use Rattle.std.specs.Prelude.{ℕ, ◌+◌, Bool, List, Option, Vec, IfOk, IfErr, Result}
+-- What is known of a statement that is read, or isn't, and of a part that is read behind others and is told no earlier
+-- than at the token at which they were stopped.
+use Rattle.std.specs.Prelude.{◌≢◌, ℕ, ◌+◌, ◌≤◌, Bool, List, length, Option, Vec, OnOk, IfOk, IfErr, Result}
 use Rattle.pearl_tree.specs.declared.statement.Stmt.{Stmt}
 use Rattle.pearl_tree.specs.declared.token.What.{What}
+use Rattle.pearl_tree.specs.declared.token.What.TheVariants as what
 use Rattle.pearl_tree.specs.declared.token.Token.{Token}
-use Rattle.pearl_tree.specs.Standing.{Spelling}
+use Rattle.pearl_tree.specs.Standing.{Spelling, HasWord, HasSymbol}
 use Rattle.pearl_tree.specs.Statements.{SpellsStmt}
+use Rattle.pearl_tree.specs.Tokens.{IsLawfulWhat}
+use Rattle.pearl_tree.specs.declared.symbol.TheConstants as s
 use Rattle.pearl_parse_expr.specs.declared.reading.Halt.{Halt}
+use Rattle.pearl_parse_expr.specs.declared.reading.Halt.TheVariants.{NoMemory}
 use Rattle.pearl_parse_expr.specs.declared.reading.Reading.{Reading}
-use Rattle.pearl_parse_expr.specs.Stops.{IsLongest, IsOnly, IsAhead, IsHalted}
+use Rattle.pearl_parse_expr.specs.Stops.{IsLongest, IsOnly, IsAhead, IsHalted, StopsWithin}
 use Rattle.pearl_parse_expr.specs.Least.{IsLeastIn}
 use Rattle.pearl_parse_expr.specs.Reads.{ReadsOnly}
-use Rattle.pearl_parse_expr.specs.Stops.{StopsWithin}
 use Rattle.pearl_parse.specs.Stops.{IsStopped}
-use Rattle.pearl_parse.specs.Reached.{IsLeastBehind}
+use Rattle.pearl_parse.specs.Bodies.{SpellsClosing}
+use Rattle.pearl_parse.specs.Reached.{HaltsBehind, IsLeastBehind}
 
 -- a statement is read, with at most `depth` of those that hold others within one another
 abbrev pub ReadsNested : ℕ → List Token → ℕ → Result (Reading Stmt) Halt → Type 0
@@ -35,22 +39,6 @@ pub record ReadsOnlyBehind {X Y Z : Type 0} (room : ℕ) (told : List Token → 
   pub refused : IfErr result (λ halt. IsStopped part tokens from least_stop halt)
   pub least : IsLeastBehind room some tokens from least_stop result
 
--- a list with its end
-abbrev pub ReadsOnlyListBehind : {X A : Type 0} → ℕ → (List Token → Spelling (List X)) → List Token → ℕ → ℕ →
-    Result (Reading (Vec X A)) Halt → Type 0
-ReadsOnlyListBehind room part tokens from least_stop result =
-    ReadsOnlyBehind room (λ tokens from list to. part tokens from list.items to) part part tokens from (from + 1)
-    least_stop result
-
--- a list of one end that isn't empty, whose stop is known to be the least one under a premise
-pub record ReadsOnlyListWhere {X A : Type 0} (premise : Type 0) (room : ℕ) (part : List Token → Spelling (List X))
-    (tokens : List Token) (from : ℕ) (result : Result (Reading (Vec X A)) Halt) : Type 0 where
-  pub spells : IfOk result (λ reading. part tokens from reading.part.items reading.end)
-  pub only : IfOk result (λ reading. IsOnly part tokens from reading.end reading.stop)
-  pub ahead : IfOk result (λ reading. IsAhead tokens from reading.end reading.stop)
-  pub refused : IfErr result (λ halt. IsHalted part tokens from halt)
-  pub least : premise → IsLeastIn room part tokens from result
-
 -- the same of a part that a token of `extends` may go on with
 pub record ReadsBehind {X Y Z : Type 0} (room : ℕ) (told : List Token → Spelling Y) (part : List Token → Spelling X)
     (some : List Token → Spelling Z) (extends : Option What → Bool) (tokens : List Token) (from first least_stop : ℕ)
@@ -61,6 +49,13 @@ pub record ReadsBehind {X Y Z : Type 0} (room : ℕ) (told : List Token → Spel
   pub refused : IfErr result (λ halt. IsStopped part tokens from least_stop halt)
   pub least : IsLeastBehind room some tokens from least_stop result
 
+-- a list that isn't empty, with the tokens that end it
+abbrev pub ReadsOnlyListBehind : {X A : Type 0} → ℕ → (List Token → Spelling (List X)) → List Token → ℕ → ℕ →
+    Result (Reading (Vec X A)) Halt → Type 0
+ReadsOnlyListBehind room part tokens from least_stop result =
+    ReadsOnlyBehind room (λ tokens from list to. part tokens from list.items to) part part tokens from (from + 1)
+    least_stop result
+
 -- the longest list: `list` is what the tokens up to its end spell, and what goes on as far as the stop, and `part` all
 -- that begins where it does
 abbrev pub ReadsListBehind : {X Y A : Type 0} → ℕ → (List Token → Spelling (List X)) →
@@ -69,3 +64,24 @@ abbrev pub ReadsListBehind : {X Y A : Type 0} → ℕ → (List Token → Spelli
 ReadsListBehind room list part extends tokens from first least_stop result =
     ReadsBehind room (λ tokens from read to. list tokens from read.items to) part list extends tokens from first
     least_stop result
+
+-- a word and a semicolon close what stands before them, or the one that is missing is told, no earlier than at
+-- `least_stop`: some words and semicolons go on as far as there where a spelling means the word
+pub record ReadsClosing (word : ℕ) (tokens : List Token) (from least_stop : ℕ)
+    (result : Result (Unit {0}) Halt) : Type 0 where
+  pub stands : OnOk result (HasWord tokens from word × HasSymbol tokens (from + 1) s.SEMICOLON)
+  pub within : OnOk result (from + 2 ≤ length tokens)
+  pub refused : IfErr result (λ halt. IsStopped (SpellsClosing word) tokens from least_stop halt)
+  pub least : IsLawfulWhat (what.Word word) →
+      IfErr result (λ halt. HaltsBehind 8 (SpellsClosing word) tokens from least_stop halt)
+  pub memory : IfErr result (λ halt. halt ≢ NoMemory)
+
+-- a list of one end that isn't empty, whose stop is known to be the least one under a premise: the word that ends it is
+-- given to its reader, and completes a list only where a spelling means it
+pub record ReadsOnlyListWhere {X A : Type 0} (premise : Type 0) (room : ℕ) (part : List Token → Spelling (List X))
+    (tokens : List Token) (from : ℕ) (result : Result (Reading (Vec X A)) Halt) : Type 0 where
+  pub spells : IfOk result (λ reading. part tokens from reading.part.items reading.end)
+  pub only : IfOk result (λ reading. IsOnly part tokens from reading.end reading.stop)
+  pub ahead : IfOk result (λ reading. IsAhead tokens from reading.end reading.stop)
+  pub refused : IfErr result (λ halt. IsHalted part tokens from halt)
+  pub least : premise → IsLeastIn room part tokens from result

@@ -1,10 +1,8 @@
 // The bodies of tasks and procedures, from one semicolon to the other.
 
-ghost use Rattle.std.specs.Prelude.{◌≡◌, ◌+◌, ◌≤◌, length, max, IfOk, IfErr};
+ghost use Rattle.std.specs.Prelude.{◌+◌, ◌≤◌, length, max};
 ghost use Rattle.pearl_tree.specs.Modules.{SpellsBlock};
-ghost use Rattle.pearl_parse_expr.specs.Stops.{IsOnly};
 ghost use Rattle.pearl_parse.specs.Reads.{ReadsOnlyBehind};
-ghost use Rattle.pearl_parse.specs.Stops as spec;
 
 use crate::body::whole_body;
 use crate::token::{symbol, word};

@@ -1,12 +1,11 @@
 // Bodies of tasks and procedures, and the declarations of bodies.
 
-ghost use Rattle.std.specs.Prelude.{◌≡◌, ◌+◌, ◌<◌, ◌≤◌, length, IfOk, IfErr};
+ghost use Rattle.std.specs.Prelude.{◌+◌, ◌<◌, ◌≤◌, length};
 ghost use Rattle.std.proofs.Common.{ap};
 ghost use Rattle.pearl_tree.specs.Statements.{SpellsBodyDecl, SpellsWholeBody};
 ghost use Rattle.pearl_tree.specs.declared.word_code.TheConstants as w;
 ghost use Rattle.pearl_parse_expr.specs.Stops.{is_word};
-ghost use Rattle.pearl_parse_expr.specs.Reads.{ReadsMaybe};
-ghost use Rattle.pearl_parse_expr.specs.Reads.{ReadsOnly};
+ghost use Rattle.pearl_parse_expr.specs.Reads.{ReadsMaybe, ReadsOnly};
 ghost use Rattle.pearl_parse.specs.Bodies.{extends_body, SpellsInner};
 ghost use Rattle.pearl_tree.specs.declared.limit.TheConstants as limit;
 

@@ -1,15 +1,13 @@
 // Assignments, calls and returns.
 
-ghost use Rattle.std.specs.Prelude.{◌≡◌, ◌+◌, ◌<◌, ◌≤◌, length, IfOk, IfErr, true};
+ghost use Rattle.std.specs.Prelude.{◌≡◌, ◌+◌, ◌<◌, ◌≤◌, length, true};
 ghost use Rattle.pearl_tree.specs.Standing.{what_at, HasWord, HasSymbol, SpellsMaybe};
 ghost use Rattle.pearl_tree.specs.Statements.{SpellsValue, HasBecomes};
 ghost use Rattle.pearl_tree.specs.declared.word_code.TheConstants as w;
 ghost use Rattle.pearl_tree.specs.declared.symbol.TheConstants as s;
-ghost use Rattle.pearl_parse_expr.specs.Stops.{IsOnly, IsHalted, is_name, is_symbol};
-ghost use Rattle.pearl_parse.specs.Stops as spec;
+ghost use Rattle.pearl_parse_expr.specs.Stops.{is_name, is_symbol};
 ghost use Rattle.pearl_parse.specs.Calls as calls;
-ghost use Rattle.pearl_parse_expr.specs.Reads.{ReadsOnly};
-ghost use Rattle.pearl_parse_expr.specs.Reads.{ReadsOnlyMaybe};
+ghost use Rattle.pearl_parse_expr.specs.Reads.{ReadsOnly, ReadsOnlyMaybe};
 ghost use Rattle.pearl_parse.specs.Reads.{ReadsOnlyListBehind, ReadsStatement};
 
 use crate::expression::expr;
@@ -34,11 +32,7 @@ fn value(alloc: Global, tokens: &[Token], from: usize) -> Result<Reading<Expr>, 
 {
     let value = expr(alloc, tokens, from + 1, from)?;
     symbol(tokens, value.end, value.stop, RIGHT_ROUND)?;
-    Ok(Reading {
-        part: value.part,
-        end: value.end + 1,
-        stop: value.stop.max(value.end + 1),
-    })
+    Ok(value.past(1))
 }
 
 /// `[ "(" expr ")" ]`

@@ -1,20 +1,19 @@
 // Parts that stand one after the other with nothing between them, and lists that may be missing before a word.
 
-ghost use Rattle.std.specs.Prelude.{◌≡◌, ℕ, ◌+◌, ◌<◌, ◌≤◌, List, Bool, Option, length, IfOk, IfErr, true, Some, false};
+ghost use Rattle.std.specs.Prelude.{◌≡◌, ℕ, ◌+◌, ◌<◌, ◌≤◌, List, Bool, Option, length, IfErr, true, Some, false};
 ghost use Rattle.pearl_tree.specs.declared.token.Token.{Token};
 ghost use Rattle.pearl_tree.specs.declared.token.What.{What};
 ghost use Rattle.pearl_tree.specs.Standing.{Spelling, SpellsEach, what_at, HasWord};
 ghost use Rattle.pearl_parse_expr.specs.declared.reading.Halt.{Halt};
-ghost use Rattle.pearl_parse_expr.specs.Reads.{ReadsOnly};
+ghost use Rattle.pearl_parse_expr.specs.Reads.{ReadsOnly, ReadsMaybe};
 ghost use Rattle.pearl_parse_decl.specs.Readings.{IsSelfContained};
 ghost use Rattle.pearl_tree.specs.Tokens.{IsLawfulWhat};
 ghost use Rattle.pearl_parse.specs.Stops.{SpellsBefore};
-ghost use Rattle.pearl_parse_expr.specs.Reads.{ReadsMaybe};
 ghost use Rattle.pearl_parse.specs.Reads.{ReadsOnlyListWhere};
 ghost use Rattle.pearl_tree.specs.declared.token.What.TheVariants as what;
 
 use pearl_parse_decl::list::{Readable, list};
-use pearl_parse_expr::reading::{Halt, Reading, append};
+use pearl_parse_expr::reading::{Halt, Reading};
 use pearl_parse_expr::standing::is_word;
 use pearl_tree::token::Token;
 use std::alloc::Global;
@@ -47,26 +46,11 @@ pub fn each<P: Repeated>(
     ensures reads { ReadsMaybe 24 (λ tokens from list to. SpellsEach (P.spelling tokens) from list.items to) (λ tokens. SpellsEach (P.spelling tokens)) (λ tokens. SpellsEach (P.spelling tokens)) P.begins tokens.now from result }
     ensures memory { IfErr result (λ halt. halt ≡ Halt.NoMemory) }
 {
-    let mut list = Vec::new(alloc);
-    let mut end = from;
-    let mut stop = from;
+    let mut list = Reading::none(alloc, from, from);
     'each: loop {
-        match P::read(alloc, tokens, end) {
-            Ok(next) => {
-                append(&mut list, next.part)?;
-                end = next.end;
-                stop = stop.max(next.stop);
-            }
-            Err(halt) => match halt {
-                Halt::Refused(at) => {
-                    return Ok(Reading {
-                        part: list,
-                        end,
-                        stop: stop.max(at),
-                    });
-                }
-                Halt::NoMemory => return Err(Halt::NoMemory),
-            },
+        match P::read(alloc, tokens, list.end) {
+            Ok(next) => list.add(next)?,
+            Err(halt) => return list.ended(halt),
         }
     }
 }
@@ -97,9 +81,5 @@ pub fn before<P: Readable>(
     if !is_word(tokens, list.end, word) {
         return Err(Halt::Refused(list.stop));
     }
-    Ok(Reading {
-        part: list.part,
-        end: list.end + 1,
-        stop: list.stop.max(list.end + 1),
-    })
+    Ok(list.past(1))
 }

@@ -1,13 +1,10 @@
 // What stands before the body of a loop.
 
-ghost use Rattle.std.specs.Prelude.{◌≡◌, ◌≢◌, ◌+◌, ◌<◌, ◌≤◌, length, IfOk, IfErr};
+ghost use Rattle.std.specs.Prelude.{◌≢◌, ◌+◌, ◌<◌, ◌≤◌, length, IfErr};
 ghost use Rattle.pearl_tree.specs.Standing.{SpellsMaybe};
 ghost use Rattle.pearl_tree.specs.Statements.{SpellsFor};
 ghost use Rattle.pearl_parse_expr.specs.declared.reading.Halt.{Halt};
-ghost use Rattle.pearl_parse_expr.specs.Stops.{IsOnly, IsHalted};
-ghost use Rattle.pearl_parse.specs.Stops as spec;
-ghost use Rattle.pearl_parse_expr.specs.Reads.{ReadsOnly};
-ghost use Rattle.pearl_parse_expr.specs.Reads.{ReadsOnlyMaybe};
+ghost use Rattle.pearl_parse_expr.specs.Reads.{ReadsOnly, ReadsOnlyMaybe};
 ghost use Rattle.pearl_parse.specs.Bodies as bodies;
 
 use crate::name::name;

@@ -2,10 +2,9 @@
 
 ghost use Rattle.std.specs.Prelude.{◌≡◌, ◌+◌, ◌<◌, ◌≤◌, length, false, ◌≢◌, IfOk, IfErr, OnOk};
 ghost use Rattle.pearl_tree.specs.Standing.{HasWord, HasSymbol, IsName, SpellsMaybe};
-ghost use Rattle.pearl_tree.specs.Modules.{SpellsDecl, SpellsModuleName, SpellsTree};
-ghost use Rattle.pearl_parse_expr.specs.Reads.{ReadsOnly};
+ghost use Rattle.pearl_tree.specs.Modules.{SpellsDecl, SpellsModuleName};
+ghost use Rattle.pearl_parse_expr.specs.Reads.{ReadsOnly, ReadsOnlyMaybe};
 ghost use Rattle.pearl_parse_expr.specs.declared.reading.Halt.{Halt};
-ghost use Rattle.pearl_parse_expr.specs.Reads.{ReadsOnlyMaybe};
 ghost use Rattle.pearl_parse.specs.Reads.{ReadsOnlyBehind};
 ghost use Rattle.pearl_tree.specs.declared.symbol.TheConstants as s;
 ghost use Rattle.pearl_tree.specs.declared.word_code.TheConstants as w;
@@ -219,7 +218,7 @@ fn ending(tokens: &[Token], from: usize, least_stop: usize) -> Result<Reading<bo
 
 /// The module that the tokens are, from the first one to the last.
 pub fn module(alloc: Global, tokens: &[Token]) -> Result<Reading<Tree>, Halt>
-    ensures { ReadsOnlyMaybe 24 modules.SpellsSource modules.SpellsSource SpellsTree tokens.now 0 result }
+    ensures { ReadsOnly 24 modules.SpellsSource tokens.now 0 result }
 {
     let head = head(tokens, 0)?;
     let opening = opening(alloc, tokens, head.end)?;

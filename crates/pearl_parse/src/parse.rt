@@ -1,6 +1,6 @@
 // The tree of a source, from its tokens.
 
-ghost use Rattle.std.specs.Prelude.{◌≡◌, length, IfOk, IfErr};
+ghost use Rattle.std.specs.Prelude.{◌≡◌, IfOk, IfErr};
 ghost use Rattle.pearl_tree.specs.Modules.{Spells};
 ghost use Rattle.pearl_tree.specs.Lawful.{IsLawful};
 ghost use Rattle.pearl_tree.specs.Tokens.{AreLawful};

@@ -1,21 +1,17 @@
 // Statements, by their first tokens. Only IF, CASE, REPEAT and BEGIN begin another level of them.
 
-ghost use Rattle.std.specs.Prelude.{◌≡◌, ◌<◌, None, false, length, IfSome, Ok, ◌≢◌, ◌+◌, IfErr, ◌≤◌, OnOk, IfOk, true};
+ghost use Rattle.std.specs.Prelude.{◌≡◌, ◌<◌, None, false, length, IfSome, Ok, ◌≢◌, ◌+◌, IfErr, ◌≤◌, true};
 ghost use Rattle.pearl_tree.specs.Standing.{what_at, HasSymbol, HasWord, SpellsMaybe, SpellsSome};
 ghost use Rattle.pearl_parse.specs.Stops.{begins_statement};
 ghost use Rattle.pearl_parse.specs.FirstWords.{first_words};
 ghost use Rattle.pearl_parse.specs.Firsts.{BeginsSimple};
-ghost use Rattle.pearl_parse.specs.Reads.{ReadsBehind, ReadsListBehind, ReadsNested, ReadsStatement};
+ghost use Rattle.pearl_parse.specs.Reads.{ReadsBehind, ReadsClosing, ReadsListBehind, ReadsNested, ReadsStatement};
 ghost use Rattle.pearl_tree.specs.Statements.{SpellsBranch, SpellsBody};
 ghost use Rattle.pearl_parse_expr.specs.declared.reading.Halt.{Halt};
-ghost use Rattle.pearl_tree.specs.Tokens.{IsLawfulWhat};
 ghost use Rattle.pearl_parse_expr.specs.Reads.{ReadsOnly};
-ghost use Rattle.pearl_parse.specs.Reached.{HaltsBehind};
 ghost use Rattle.pearl_parse.specs.Firsts as firsts;
 ghost use Rattle.pearl_tree.specs.declared.symbol.TheConstants as s;
 ghost use Rattle.pearl_tree.specs.declared.word_code.TheConstants as w;
-ghost use Rattle.pearl_parse.specs.Stops as spec;
-ghost use Rattle.pearl_tree.specs.declared.token.What.TheVariants as what;
 ghost use Rattle.pearl_parse.specs.Bodies as bodies;
 
 use crate::call::{call, named, return_};
@@ -28,7 +24,7 @@ use crate::tasking::{
 };
 use crate::token::{symbol, word as word_here};
 use crate::transfer::{get, put, send, take};
-use pearl_parse_expr::reading::{Halt, Reading, append, boxed};
+use pearl_parse_expr::reading::{Halt, Reading, boxed};
 use pearl_parse_expr::standing::{is_word, place_at};
 use pearl_tree::expression::Expr;
 use pearl_tree::parts::Parts;
@@ -202,22 +198,13 @@ fn condition(alloc: Global, tokens: &[Token], from: usize) -> Result<Reading<Exp
 {
     let condition = after(alloc, tokens, from, from, IF)?;
     word_here(tokens, condition.end, condition.stop, THEN)?;
-    Ok(Reading {
-        part: condition.part,
-        end: condition.end + 1,
-        stop: condition.stop.max(condition.end + 1),
-    })
+    Ok(condition.past(1))
 }
 
 /// A word that closes statements, and a semicolon.
 fn closing(tokens: &[Token], from: usize, least_stop: usize, word: u8) -> Result<(), Halt>
-    requires from { from ≤ length tokens.now }
-    requires least_stop { (from ≤ least_stop) × (least_stop ≤ length tokens.now) }
-    ensures stands { OnOk result (HasWord tokens.now from word × HasSymbol tokens.now (from + 1) s.SEMICOLON) }
-    ensures within { OnOk result (from + 2 ≤ length tokens.now) }
-    ensures refused { IfErr result (λ halt. spec.IsStopped (bodies.SpellsClosing word) tokens.now from least_stop halt) }
-    ensures least { IsLawfulWhat (what.Word word) → IfErr result (λ halt. HaltsBehind 8 (bodies.SpellsClosing word) tokens.now from least_stop halt) }
-    ensures memory { IfErr result (λ halt. halt ≢ Halt.NoMemory) }
+    requires { (from ≤ least_stop) × (least_stop ≤ length tokens.now) }
+    ensures { ReadsClosing word tokens.now from least_stop result }
 {
     word_here(tokens, from, least_stop, word)?;
     symbol(tokens, from + 1, least_stop, SEMICOLON)
@@ -236,26 +223,11 @@ fn statements(
     ensures reads { ReadsListBehind 24 (bodies.SpellsStatements depth) (bodies.SpellsStatements depth) begins_statement tokens.now from from least_stop result }
     ensures memory { IfErr result (λ halt. halt ≡ Halt.NoMemory) }
 {
-    let mut list = Vec::new(alloc);
-    let mut end = from;
-    let mut stop = least_stop;
+    let mut list = Reading::none(alloc, from, least_stop);
     'each: loop {
-        match statement(alloc, tokens, end, depth) {
-            Ok(next) => {
-                append(&mut list, next.part)?;
-                end = next.end;
-                stop = stop.max(next.stop);
-            }
-            Err(halt) => match halt {
-                Halt::Refused(at) => {
-                    return Ok(Reading {
-                        part: list,
-                        end,
-                        stop: stop.max(at),
-                    });
-                }
-                Halt::NoMemory => return Err(Halt::NoMemory),
-            },
+        match statement(alloc, tokens, list.end, depth) {
+            Ok(next) => list.add(next)?,
+            Err(halt) => return list.ended(halt),
         }
     }
 }
@@ -335,24 +307,14 @@ fn alternatives(
     if !is_word(tokens, from, ALT) {
         return Err(Halt::Refused(least_stop));
     }
-    let mut list = Vec::new(alloc);
-    let mut end = from;
-    let mut stop = least_stop;
-    'each: while is_word(tokens, end, ALT) {
-        match branch(alloc, tokens, end, stop, depth, ALT) {
-            Ok(next) => {
-                append(&mut list, next.part)?;
-                end = next.end;
-                stop = next.stop;
-            }
+    let mut list = Reading::none(alloc, from, least_stop);
+    'each: while is_word(tokens, list.end, ALT) {
+        match branch(alloc, tokens, list.end, list.stop, depth, ALT) {
+            Ok(next) => list.add(next)?,
             Err(halt) => return Err(halt),
         }
     }
-    Ok(Reading {
-        part: list,
-        end,
-        stop,
-    })
+    Ok(list)
 }
 
 /// `IF expr THEN { stmt } [ ELSE { stmt } ] FIN ";"`

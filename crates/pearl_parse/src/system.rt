@@ -1,14 +1,12 @@
 // The system part of a module.
 
-ghost use Rattle.std.specs.Prelude.{◌≡◌, ◌+◌, ◌<◌, ◌≤◌, length, IfOk, IfErr};
+ghost use Rattle.std.specs.Prelude.{◌+◌, ◌<◌, ◌≤◌, length};
 ghost use Rattle.pearl_tree.specs.Standing.{HasWord, SpellsMaybe};
 ghost use Rattle.pearl_tree.specs.Declarations.{SpellsDevice};
 ghost use Rattle.pearl_tree.specs.Modules.{SpellsSystem};
 ghost use Rattle.pearl_tree.specs.declared.word_code.TheConstants as w;
-ghost use Rattle.pearl_parse_expr.specs.Stops.{IsLongest, IsAhead, IsHalted, is_name};
-ghost use Rattle.pearl_parse_expr.specs.Reads.{Reads, ReadsOnly};
-ghost use Rattle.pearl_parse_expr.specs.Reads.{ReadsMaybe};
-ghost use Rattle.pearl_parse.specs.Stops as spec;
+ghost use Rattle.pearl_parse_expr.specs.Stops.{is_name};
+ghost use Rattle.pearl_parse_expr.specs.Reads.{Reads, ReadsOnly, ReadsMaybe};
 ghost use Rattle.pearl_parse.specs.Modules as modules;
 
 use crate::lists::{Repeated, each};
@@ -90,9 +88,5 @@ pub fn opening(
     let system = maybe_system(alloc, tokens, from)?;
     word(tokens, system.end, system.stop, PROBLEM)?;
     symbol(tokens, system.end + 1, system.stop, SEMICOLON)?;
-    Ok(Reading {
-        part: system.part,
-        end: system.end + 2,
-        stop: system.stop.max(system.end + 2),
-    })
+    Ok(system.past(2))
 }

@@ -70,7 +70,7 @@ pub struct Begun {
 }
 
 /// `[ ALL expr [ UNTIL expr | DURING expr ] ] ACTIVATE id [ PRIO expr ] ";"`
-fn begin(
+fn maybe_periodic(
     alloc: Global,
     tokens: &[Token],
     from: usize,
@@ -237,7 +237,7 @@ pub fn timed(
             stop: time.stop.max(time.end + 2),
         });
     }
-    let begun = begin(alloc, tokens, time.end, time.stop)?;
+    let begun = maybe_periodic(alloc, tokens, time.end, time.stop)?;
     let activate = Activate {
         start: Some(start_of(later, time.part, begun.part.period, place)),
         task: begun.part.activation.task,
@@ -286,7 +286,7 @@ pub fn when(alloc: Global, tokens: &[Token], from: usize) -> Result<Reading<Stmt
         });
     }
     let after = maybe_after(alloc, tokens, from + 2, from + 2, AFTER)?;
-    let begun = begin(alloc, tokens, after.end, after.stop)?;
+    let begun = maybe_periodic(alloc, tokens, after.end, after.stop)?;
     let activate = Activate {
         start: Some(Start::When {
             interrupt,

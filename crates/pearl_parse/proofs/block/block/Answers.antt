@@ -66,9 +66,9 @@ returns-in_err-word c =
     let halt = c.in_err-word.field-0.0 in
     unread_only_behind _ halt c.from_residual-in_err-word.result c.from_residual-in_err-word.ensures (λ e is. is)
     (missing_behind SpellsBlock tokens from low (is_word w.END) end_rest body.end stop body.end halt behind.goes
-    (λ others to h. ap (is_word w.END) h.0) (omega (arith, behind.ahead, behind.near))
+    (λ others to h. ap (is_word w.END) h.0) behind.near
     (omega (arith, c.max-stop.ensures))
-    (omega (arith, behind.near, behind.inside)) behind.inside c.in_err-word.ensures.missing)
+    behind.level.inside behind.inside c.in_err-word.ensures.missing)
     (no_end_word tokens from low inside few body.end stop behind.level halt c.in_err-word.ensures.missing)
 
 pub returns-in_err-symbol-2 : goal.returns-in_err-symbol-2
@@ -88,7 +88,7 @@ returns-in_err-symbol-2 c =
     unread_only_behind _ halt c.from_residual-in_err-symbol-2.result c.from_residual-in_err-symbol-2.ensures
     (λ e is. is)
     (missing_behind SpellsBlock tokens from low (is_symbol s.SEMICOLON) end_rest body.end stop (body.end + 1) halt
-    behind.goes (λ others to h. ap (is_symbol s.SEMICOLON) h.1) (omega (arith, behind.ahead, behind.near))
+    behind.goes (λ others to h. ap (is_symbol s.SEMICOLON) h.1) behind.near
     (omega (arith, c.max-stop.ensures)) (omega (arith, word.within)) behind.inside c.in_err-symbol-2.ensures.missing)
     (no_last tokens from low inside few body.end stop behind.level word.stands word.within halt
     c.in_err-symbol-2.ensures.missing)

@@ -6,13 +6,13 @@ use Rattle.pearl_tree.specs.declared.symbol.TheConstants as s
 use Rattle.pearl_parse_expr.specs.Stops.{is_symbol}
 use Rattle.pearl_parse_expr.proofs.Halts.{stuck_of}
 use Rattle.pearl_parse.specs.Calls.{SpellsArguments}
-use Rattle.pearl_parse.proofs.Steps.{err_told, missing_behind, ends, Ends}
+use Rattle.pearl_parse.proofs.Steps.{missing_behind, ends, Ends}
 use Rattle.pearl_parse.proofs.CallRests.{closed_rest, arguments_go, arguments_stuck}
 use Rattle.pearl_parse_expr.specs.declared.reading.Halt.TheVariants.{Refused}
 use Rattle.pearl_parse.proofs.Made.{semicolon}
 use Rattle.pearl_parse.proofs.Tails.{semicolon_fills, closed_fills}
 use Rattle.pearl_parse.proofs.CallLeast.{closed, exprs_are_local, no_arguments, arguments_begun, arguments_past}
-use Rattle.pearl_parse.proofs.States.{past_symbol, halt_part, halt_token, halted_behind, handed_behind, done}
+use Rattle.pearl_parse.proofs.States.{past_symbol, halt_part, halt_token, halted_behind, done}
 use Rattle.pearl_parse.proofs.Unread.{unread_only_behind}
 use Rattle.pearl_parse.proofs.call.arguments.Goals as goal
 

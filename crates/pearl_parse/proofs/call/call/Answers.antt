@@ -2,15 +2,16 @@
 use Rattle.std.proofs.Common.{◌+◌, ◌<◌, ◌^◌, length, rules, arith}
 use Rattle.pearl_parse_expr.specs.Stops.{is_name}
 use Rattle.pearl_parse.specs.Calls.{SpellsArguments}
-use Rattle.pearl_parse.proofs.Steps.{Ends, past_only, missing, no_part, Then}
+use Rattle.pearl_parse.proofs.Steps.{Ends, missing, Then}
 use Rattle.pearl_parse.proofs.StatementRests.{Spelled}
-use Rattle.pearl_parse.proofs.CallRests.{call_rest, call_goes, call_goes_on}
+use Rattle.pearl_parse.proofs.CallRests.{call_rest, call_goes}
 use Rattle.pearl_tree.specs.Standing.{SpellsName}
-use Rattle.pearl_parse.proofs.Comes.{ends_fill}
 use Rattle.pearl_parse.proofs.Tails.{call_fills}
 use Rattle.pearl_parse.proofs.CallLeast.{arguments_are_local}
-use Rattle.pearl_parse.proofs.StatementLeast.{call_begun, ended}
-use Rattle.pearl_parse.proofs.States.{past_name, past_part, halt_part, halt_token}
+use Rattle.pearl_parse.proofs.CallReads.{past_called}
+use Rattle.pearl_parse.proofs.StatementLeast.{call_begun}
+use Rattle.pearl_parse.proofs.States.{halt_token}
+use Rattle.pearl_parse.proofs.Stands.{no_last, last_is_only, last_goes}
 use Rattle.pearl_parse.proofs.Unread.{unread}
 use Rattle.pearl_parse.proofs.call.call.Goals as goal
 
@@ -34,35 +35,28 @@ returns-in_err-arguments c = λ depth.
     let tokens = c.args.tokens.now in
     let from = c.args.from in
     let few : length tokens < 2 ^ 55 = search rules in
-    let begun = call_begun tokens depth from c.requires.within few c.requires.word in
-    let at = past_name 24 (Spelled depth) tokens from 0 c.in_ok-called.called (Then SpellsArguments Ends) (from + 1)
-    from (from + 2) (omega arith) begun c.in_ok-called.ensures.stands c.in_ok-called.ensures.within in
-    unread 24 (Spelled depth) tokens from _ c.in_err-arguments.field-0.0 c.from_residual-in_err-arguments.result
-    c.from_residual-in_err-arguments.ensures (λ e is. is)
-    (no_part (Spelled depth) tokens from SpellsArguments Ends (from + 2) from c.in_err-arguments.field-0.0
-    (call_goes_on tokens depth from c.requires.word) (omega arith) c.in_err-arguments.ensures.refused)
-    (halt_part 24 (Spelled depth) tokens from 0 0 24 SpellsArguments Ends arguments_are_local ends_fill (omega arith)
-    (from + 2) from (omega arith) at c.in_err-arguments.field-0.0 c.in_err-arguments.ensures.least)
+    let at = past_called tokens depth from c.requires.within few c.requires.word c.in_ok-called.called
+    c.in_ok-called.ensures.stands c.in_ok-called.ensures.within in
+    no_last 24 (Spelled depth) tokens from from (from + 2) from 24 SpellsArguments SpellsArguments arguments_are_local
+    (omega arith) at c.in_err-arguments.field-0.0 c.from_residual-in_err-arguments.result
+    c.from_residual-in_err-arguments.ensures (λ e is. is) c.in_err-arguments.ensures.refused
+    c.in_err-arguments.ensures.least
 
 pub returns : goal.returns
 returns c = λ depth.
     let tokens = c.args.tokens.now in
     let from = c.args.from in
+    let few : length tokens < 2 ^ 55 = search rules in
     let arguments = c.in_ok-arguments.arguments in
     let last = c.in_ok-arguments.ensures in
-    let few : length tokens < 2 ^ 55 = search rules in
-    let begun = call_begun tokens depth from c.requires.within few c.requires.word in
-    let at = past_name 24 (Spelled depth) tokens from 0 c.in_ok-called.called (Then SpellsArguments Ends) (from + 1)
-    from (from + 2) (omega arith) begun c.in_ok-called.ensures.stands c.in_ok-called.ensures.within in
+    let at = past_called tokens depth from c.requires.within few c.requires.word c.in_ok-called.called
+    c.in_ok-called.ensures.stands c.in_ok-called.ensures.within in
     record {
       spells = search rules;
-      only = past_only (Spelled depth) tokens from SpellsArguments Ends (from + 2) from arguments.end arguments.stop
-          (call_goes_on tokens depth from c.requires.word) last.bounds.2 last.only;
+      only = last_is_only 24 (Spelled depth) tokens from from (from + 2) from 24 SpellsArguments SpellsArguments
+          arguments_are_local (omega arith) at arguments last;
       ahead = search rules;
       refused = tt;
-      least = ended tokens depth from arguments.end arguments.stop arguments.stop
-          (past_part 24 (Spelled depth) tokens from 0 0 24 SpellsArguments Ends arguments_are_local ends_fill
-          (omega arith) (from + 2) from (omega arith) at arguments.part.items arguments.end arguments.stop
-          last.spells
-          (omega (arith, last.bounds)) (omega (arith, last.bounds)) last.least) (omega (arith, last.bounds));
+      least = last_goes 24 (Spelled depth) tokens from from (from + 2) from 24 SpellsArguments SpellsArguments
+          arguments_are_local (omega arith) at arguments last arguments.part.items last.spells;
     }

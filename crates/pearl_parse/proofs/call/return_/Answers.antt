@@ -1,18 +1,18 @@
 -- That RETURN is read, with its value if it has one, or the least stop is told.
-use Rattle.std.proofs.Common.{◌+◌, ap, ◌<◌, ◌^◌, length, rules, arith}
+use Rattle.std.proofs.Common.{◌+◌, ◌<◌, ◌^◌, length, rules, arith}
 use Rattle.pearl_tree.specs.Statements.{SpellsValue}
-use Rattle.pearl_tree.specs.declared.symbol.TheConstants as s
-use Rattle.pearl_parse_expr.specs.Stops.{is_symbol}
 use Rattle.pearl_parse.specs.Calls.{SpellsOptionalValue}
-use Rattle.pearl_parse.proofs.Steps.{past_only, missing, no_first, ends}
+use Rattle.pearl_parse.proofs.Steps.{no_first}
 use Rattle.pearl_parse.proofs.StatementRests.{Spelled, exit_rest}
 use Rattle.pearl_parse.proofs.CallRests.{return_goes}
 use Rattle.pearl_parse.proofs.Comes.{Maybe}
 use Rattle.pearl_parse.proofs.Made.{semicolon}
 use Rattle.pearl_parse.proofs.Tails.{semicolon_fills}
 use Rattle.pearl_parse.proofs.States.{halt_first}
-use Rattle.pearl_parse.proofs.StatementLeast.{return_begun, semicolon_missing, semicolon_read}
-use Rattle.pearl_parse.proofs.CallLeast.{maybe_value_is_local, return_past}
+use Rattle.pearl_parse.proofs.StatementLeast.{return_begun}
+use Rattle.pearl_parse.proofs.CallLeast.{maybe_value_is_local}
+use Rattle.pearl_parse.proofs.CallReads.{past_returned}
+use Rattle.pearl_parse.proofs.Stands.{no_semicolon, semicolon_is_only, semicolon_goes}
 use Rattle.pearl_parse.proofs.Unread.{unread}
 use Rattle.pearl_parse.proofs.call.return_.Goals as goal
 
@@ -36,39 +36,27 @@ pub returns-in_err-symbol : goal.returns-in_err-symbol
 returns-in_err-symbol c = λ depth.
     let tokens = c.args.tokens.now in
     let from = c.args.from in
-    let value = c.in_ok-value.value in
-    let read = c.in_ok-value.ensures in
     let few : length tokens < 2 ^ 55 = search rules in
-    let at = return_past tokens from c.requires.within few depth c.requires.word value.part value.end value.stop
-    read.spells (omega (arith, read.bounds)) (omega (arith, read.bounds)) (omega (arith, read.bounds)) read.least in
-    unread 24 (Spelled depth) tokens from _ c.in_err-symbol.field-0.0 c.from_residual-in_err-symbol.result
-    c.from_residual-in_err-symbol.ensures (λ e is. is)
-    (let go = past_only (Spelled depth) tokens from SpellsOptionalValue exit_rest (from + 1) from value.end value.stop
-    (return_goes tokens depth from c.requires.word) (omega (arith, read.bounds)) read.only in
-    missing (Spelled depth) tokens from (is_symbol s.SEMICOLON) exit_rest value.end value.stop value.end
-    c.in_err-symbol.field-0.0 go
-    (λ others to h. ap (is_symbol s.SEMICOLON) h.0) (omega (arith, read.bounds)) (omega (arith, read.bounds))
-    (omega (arith, read.bounds)) c.in_err-symbol.ensures.missing)
-    (semicolon_missing tokens depth from value.end value.stop c.in_err-symbol.field-0.0 at
-    c.in_err-symbol.ensures.missing)
+    let value = c.in_ok-value.value in
+    let at = past_returned tokens depth from c.requires.within few c.requires.word value c.in_ok-value.ensures in
+    no_semicolon 24 (Spelled depth) tokens from from value.end value.stop (omega arith) at c.in_err-symbol.field-0.0
+    c.from_residual-in_err-symbol.result c.from_residual-in_err-symbol.ensures (λ e is. is)
+    c.in_err-symbol.ensures.missing
 
 pub returns : goal.returns
 returns c = λ depth.
     let tokens = c.args.tokens.now in
     let from = c.args.from in
-    let value = c.in_ok-value.value in
-    let read = c.in_ok-value.ensures in
-    let go = past_only (Spelled depth) tokens from SpellsOptionalValue exit_rest (from + 1) from value.end value.stop
-    (return_goes tokens depth from c.requires.word) (omega (arith, read.bounds)) read.only in
     let few : length tokens < 2 ^ 55 = search rules in
-    let at = return_past tokens from c.requires.within few depth c.requires.word value.part value.end value.stop
-    read.spells (omega (arith, read.bounds)) (omega (arith, read.bounds)) (omega (arith, read.bounds)) read.least in
+    let value = c.in_ok-value.value in
+    let symbol = c.in_ok-symbol.ensures in
+    let at = past_returned tokens depth from c.requires.within few c.requires.word value c.in_ok-value.ensures in
     record {
       spells = search rules;
-      only = ends (Spelled depth) tokens from exit_rest value.end value.stop c.max.result (value.end + 1) go
-          (omega (arith, c.max.ensures)) (λ others to h. h.1);
+      only = semicolon_is_only 24 (Spelled depth) tokens from from value.end value.stop (omega arith) at c.max.result
+          (omega (arith, c.max.ensures));
       ahead = search rules;
       refused = tt;
-      least = semicolon_read tokens depth from value.end value.stop (value.end + 1) c.max.result (omega arith) at
-          c.in_ok-symbol.ensures.stands c.in_ok-symbol.ensures.within (omega (arith, c.max.ensures));
+      least = semicolon_goes 24 (Spelled depth) tokens from from value.end value.stop (omega arith) at c.max.result
+          (omega (arith, c.max.ensures)) symbol.stands symbol.within;
     }

@@ -1,10 +1,10 @@
 -- That an expression in brackets is read, or the least stop is told.
-use Rattle.std.proofs.Common.{◌+◌, ap, ◌<◌, ◌^◌, length, rules, arith}
+use Rattle.std.proofs.Common.{ℕ, ◌+◌, max, ap, ◌<◌, ◌^◌, length, refl, rules, arith}
 use Rattle.pearl_tree.specs.Expressions.{SpellsWhole}
 use Rattle.pearl_tree.specs.Statements.{SpellsValue}
 use Rattle.pearl_tree.specs.declared.symbol.TheConstants as s
 use Rattle.pearl_parse_expr.specs.Stops.{extends_expression, is_symbol}
-use Rattle.pearl_parse.proofs.Steps.{Ends, past, missing}
+use Rattle.pearl_parse.proofs.Steps.{Ends, past, missing, ends}
 use Rattle.pearl_parse.proofs.Comes.{BehindSymbol}
 use Rattle.pearl_parse.proofs.Tails.{bracket_fills}
 use Rattle.pearl_parse.proofs.StatementLeast.{expr_is_local}
@@ -57,15 +57,19 @@ returns c =
     let read = c.in_ok-value.ensures in
     let at = value_past tokens from c.requires.within few c.requires.bracket value.part value.end value.stop read.spells
     (omega (arith, read.bounds)) (omega (arith, read.bounds)) read.least in
-    record {
-      spells = search rules;
-      only = search rules;
-      ahead = search rules;
+    let new : ℕ = max value.stop (value.end + 1) in
+    let symbol = c.in_ok-symbol.ensures in
+    let go = past SpellsValue tokens from SpellsWhole extends_expression (BehindSymbol s.RIGHT_ROUND Ends) (from + 1)
+    from value.end value.stop (λ others agree x to h. (x, h.0, h.2, (h.3, h.4))) read.bounds.2 read.longest
+    (λ others at to h. ap extends_expression h.0) in
+    rw c.past.ensures (record {
+      spells = (value.end, c.requires.bracket, read.spells, symbol.stands, refl);
+      only = ends SpellsValue tokens from (BehindSymbol s.RIGHT_ROUND Ends) value.end value.stop new (value.end + 1) go
+          (omega arith) (λ others to h. h.1);
+      ahead = (omega (arith, read.bounds), omega arith, omega (arith, read.bounds, symbol.within));
       refused = tt;
-      least = goes_in_told 16 SpellsValue tokens from 0 (omega arith) (value.end + 1) c.max.result
-          (omega (arith, read.bounds))
-          (done 16 SpellsValue tokens from 0 (value.end + 1) value.stop c.max.result
+      least = goes_in_told 16 SpellsValue tokens from 0 (omega arith) (value.end + 1) new (omega (arith, read.bounds))
+          (done 16 SpellsValue tokens from 0 (value.end + 1) value.stop new
           (past_symbol 16 SpellsValue tokens from 0 s.RIGHT_ROUND Ends value.end value.stop (value.end + 1)
-          (omega arith) at c.in_ok-symbol.ensures.stands c.in_ok-symbol.ensures.within)
-          (omega (arith, c.max.ensures)));
-    }
+          (omega arith) at symbol.stands symbol.within) refl);
+    })

@@ -1,7 +1,7 @@
 -- That a list that may be missing is read with the word behind it, or the least stop is told.
-use Rattle.std.proofs.Common.{sym, ◌<◌, ◌≤◌, ◌^◌, length, rules, refl, arith}
+use Rattle.std.proofs.Common.{ℕ, ◌+◌, max, sym, ◌<◌, ◌≤◌, ◌^◌, length, rules, refl, arith}
 use Rattle.pearl_parse.proofs.Steps.{itself}
-use Rattle.pearl_parse.proofs.Before.{behind_list, no_word_behind, no_list}
+use Rattle.pearl_parse.proofs.Before.{maybe_list, behind_list, no_word_behind, no_list}
 use Rattle.pearl_parse.proofs.TransferLeast.{no_list_least, no_word_least, before_least}
 use Rattle.pearl_parse.proofs.lists.before.Goals as goal
 
@@ -56,16 +56,23 @@ returns g c =
     let after : c.args.from ≤ list.end = omega (arith, read.ahead) in
     let near : list.end ≤ list.stop = omega (arith, read.ahead) in
     let inside : list.stop ≤ length tokens = omega (arith, read.ahead) in
-    record {
-      spells = search rules;
+    let new : ℕ = max list.stop (list.end + 1) in
+    let here = c.if-not-is_word.ensures.stands refl in
+    let within = c.if-not-is_word.ensures.within refl in
+    rw c.past.ensures (record {
+      spells = (
+        list.end,
+        maybe_list (g.P.Readable.spelling tokens) tokens c.args.from list.part.items list.end read.spells,
+        here,
+        refl,
+      );
       only = behind_list g.P.Readable.spelling g.P.Readable.extends c.args.word c.requires.begins c.requires.stops
           tokens
-          c.args.from list.end list.stop c.max.result (itself c.args.word) (sym c.if-is_word.ensures.value)
-          (omega (arith, after, near, c.max.ensures)) (omega (arith, c.max.ensures)) read.longest;
-      ahead = search rules;
+          c.args.from list.end list.stop new (itself c.args.word) (sym c.if-is_word.ensures.value)
+          (omega (arith, after, near)) (omega arith) read.longest;
+      ahead = (omega (arith, after), omega arith, omega (arith, inside, within));
       refused = tt;
       least = λ known. before_least g.P.Readable.spelling c.in-Ok.ensures.contained c.args.word known tokens c.args.from
           (omega (arith, c.requires.within)) few list.part.items list.end list.stop read.spells after near inside
-          read.least c.max.result (c.if-not-is_word.ensures.stands refl) (c.if-not-is_word.ensures.within refl)
-          (omega (arith, c.max.ensures));
-    }
+          read.least new here within refl;
+    })

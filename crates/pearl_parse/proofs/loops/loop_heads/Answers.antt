@@ -1,5 +1,5 @@
 -- That the heads of a loop are read up to REPEAT, or the least stop is told.
-use Rattle.std.proofs.Common.{◌+◌, ap, ◌<◌, ◌^◌, length, rules, ◌≤◌, arith}
+use Rattle.std.proofs.Common.{◌+◌, ap, ◌<◌, ◌^◌, length, rules, arith}
 use Rattle.pearl_tree.specs.declared.word_code.TheConstants as w
 use Rattle.pearl_parse_expr.specs.Stops.{is_word}
 use Rattle.pearl_parse.specs.Bodies.{SpellsOptionalFor, SpellsHeads}
@@ -100,8 +100,8 @@ returns-in_err-word c =
     unread 16 SpellsHeads tokens from _ halt c.from_residual-in_err-word.result c.from_residual-in_err-word.ensures
     (λ e is. is)
     (missing SpellsHeads tokens from (is_word w.REPEAT) repeat_word condition.end condition.stop condition.end halt
-    all.goes (λ others to h. ap (is_word w.REPEAT) h.0) (omega (arith, all.ahead, all.near))
-    (omega (arith, all.near, all.inside)) all.inside c.in_err-word.ensures.missing)
+    all.goes (λ others to h. ap (is_word w.REPEAT) h.0) all.near
+    all.level.inside all.inside c.in_err-word.ensures.missing)
     (halt_token 16 SpellsHeads tokens from 0 1 repeat_behind repeat_fills (omega arith) (is_word w.REPEAT) condition.end
     condition.stop halt all.level c.in_err-word.ensures.missing)
 

@@ -1,13 +1,12 @@
 -- That the module is read that the tokens are, or the least stop is told.
-use Rattle.std.proofs.Common.{◌≡◌, sym, subst, ◌<◌, ◌≤◌, ◌^◌, inl, length, rules, arith}
-use Rattle.pearl_tree.specs.Modules.{SpellsTree}
+use Rattle.std.proofs.Common.{◌≡◌, sym, subst, ◌<◌, ◌^◌, inl, length, rules, arith}
 use Rattle.pearl_tree.specs.declared.tree.Tree.{Tree}
 use Rattle.pearl_parse.specs.Modules.{SpellsHead, SpellsOpening, SpellsEnding, SpellsSource}
 use Rattle.pearl_parse.proofs.Steps.{Ends, past_only, no_part, no_first, ends}
 use Rattle.pearl_parse.proofs.ModuleRests.{problems_rest, list_rest, source_goes, last_goes, Declarations, as_tree}
 use Rattle.pearl_parse.proofs.ModuleLeast.{head_halts, past_title, opening_halts, past_opening, past_decls, close_halts}
-use Rattle.pearl_parse.proofs.States.{halts_in}
-use Rattle.pearl_parse.proofs.Unread.{unread_only_maybe}
+use Rattle.pearl_parse.proofs.ModuleLeast.{source_halts}
+use Rattle.pearl_parse.proofs.Unread.{unread}
 use Rattle.pearl_parse.proofs.module.module.Goals as goal
 
 pub returns-in_err-head : goal.returns-in_err-head
@@ -16,10 +15,10 @@ returns-in_err-head c =
     let few : length tokens < 2 ^ 55 = search rules in
     let halt = c.in_err-head.field-0.0 in
     let head = c.in_err-head.ensures.reads in
-    unread_only_maybe _ halt c.from_residual.result c.from_residual.ensures (λ e is. is)
+    unread 24 SpellsSource tokens 0 _ halt c.from_residual.result c.from_residual.ensures (λ e is. is)
     (no_first SpellsSource tokens 0 SpellsHead problems_rest 0 0 halt (source_goes tokens) (omega arith) (omega arith)
     head.refused)
-    (halts_in 24 SpellsTree tokens 0 0 (omega arith) halt (head_halts tokens few halt head.refused head.least))
+    (source_halts tokens few halt (head_halts tokens few halt head.refused head.least))
 
 pub returns-in_err-opening : goal.returns-in_err-opening
 returns-in_err-opening c =
@@ -31,11 +30,12 @@ returns-in_err-opening c =
     let opening = c.in_err-opening.ensures in
     let at = past_title tokens few head.part head.end head.stop first.reads.spells (omega arith) first.close
     (omega (arith, first.reads.ahead)) in
-    unread_only_maybe _ halt c.from_residual-in_err-opening.result c.from_residual-in_err-opening.ensures (λ e is. is)
+    unread 24 SpellsSource tokens 0 _ halt c.from_residual-in_err-opening.result c.from_residual-in_err-opening.ensures
+    (λ e is. is)
     (no_first SpellsSource tokens 0 SpellsOpening list_rest head.end head.stop halt
     (past_only SpellsSource tokens 0 SpellsHead problems_rest 0 0 head.end head.stop (source_goes tokens) (omega arith)
     first.reads.only) (omega arith) (omega (arith, first.close)) opening.refused)
-    (halts_in 24 SpellsTree tokens 0 0 (omega arith) halt
+    (source_halts tokens few halt
     (opening_halts tokens few head.end head.stop (omega (arith, first.reads.ahead)) (omega (arith, first.close)) at halt
     opening.refused opening.least))
 
@@ -61,12 +61,13 @@ returns-in_err-ending c =
     let at = past_decls tokens few opening.end opening.stop (omega (arith, first.reads.ahead, second.ahead)) at_1
     list.part.items list.end list.stop stop third.spells (omega (arith, third.bounds)) (omega (arith, third.bounds))
     (omega (arith, third.bounds, second.ahead, c.max.ensures)) third.least c.max.ensures in
-    unread_only_maybe _ halt c.from_residual-in_err-ending.result c.from_residual-in_err-ending.ensures (λ e is. is)
+    unread 24 SpellsSource tokens 0 _ halt c.from_residual-in_err-ending.result c.from_residual-in_err-ending.ensures
+    (λ e is. is)
     (no_part SpellsSource tokens 0 SpellsEnding Ends list.end stop halt
     (last_goes tokens head.end head.stop opening.end opening.stop list.end list.stop stop
     (omega (arith, first.close, second.ahead)) (omega (arith, c.max.ensures)) (omega (arith, c.max.ensures))
     first.reads.only second.only third.longest) (omega arith) ending.refused)
-    (halts_in 24 SpellsTree tokens 0 0 (omega arith) halt (close_halts tokens few list.end stop at halt ending.least))
+    (source_halts tokens few halt (close_halts tokens few list.end stop at halt ending.least))
 
 pub returns : goal.returns
 returns c =
@@ -100,7 +101,7 @@ returns c =
           (omega (arith, first.close, second.ahead)) (omega (arith, c.max.ensures)) (omega (arith, c.max.ensures))
           first.reads.only second.only third.longest) (omega (arith, last.bounds)) last.only)
           (omega arith) (λ others to h. h);
-      bounds = (omega arith, omega (arith, last.bounds), omega arith, omega (arith, last.bounds));
+      ahead = (omega (arith, last.bounds), omega (arith, last.bounds), omega (arith, last.bounds));
       refused = tt;
       least = record { goes = inl (omega (arith, last.bounds, all)) };
     }

@@ -1,6 +1,5 @@
 -- That the tree is told that the tokens spell, or the place of the first token with which no module begins.
 use Rattle.std.proofs.Common.{length, refl}
-use Rattle.pearl_tree.specs.Modules.{SpellsTree}
 use Rattle.pearl_tree.specs.Stops.{NoneBegins}
 use Rattle.pearl_tree.proofs.SpelledLawful.{spelled_lawful}
 use Rattle.pearl_parse_expr.proofs.Halts.{stuck_of}
@@ -29,7 +28,7 @@ returns-in-Refused-clause-refused c =
     let stuck = stuck_of SpellsSource tokens 0 stop halt c.in-Refused.is c.in-Err.ensures.refused in
     let none : NoneBegins tokens stop =
     λ tree others agree h. stuck.0 others agree tree (length others) (h.spells, refl) in
-    let reached = reached_halt SpellsTree tokens 0 stop halt c.in-Refused.is c.in-Err.ensures.least in
+    let reached = reached_halt SpellsSource tokens 0 stop halt c.in-Refused.is c.in-Err.ensures.least in
     record {
       token = stop;
       within = stuck.2;

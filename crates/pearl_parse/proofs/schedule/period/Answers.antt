@@ -1,13 +1,13 @@
 -- That a period is read, or the least stop is told.
 use Rattle.std.proofs.Common.{◌<◌, ◌^◌, length, rules, arith}
-use Rattle.pearl_parse.proofs.Steps.{err_told, Ends, Then}
+use Rattle.pearl_parse.proofs.Steps.{Ends, Then}
 use Rattle.pearl_parse.proofs.ScheduleRests.{period_stopped}
 use Rattle.pearl_tree.specs.Statements.{SpellsPeriodEnd, SpellsPeriod}
 use Rattle.pearl_tree.specs.declared.word_code.TheConstants as w
 use Rattle.pearl_parse.proofs.Comes.{Maybe, ends_fill}
 use Rattle.pearl_parse.proofs.ScheduleMade.{After}
 use Rattle.pearl_parse.proofs.ScheduleLeast.{after_is_local, maybe_end_is_local, end_fills, period_first, period_past}
-use Rattle.pearl_parse.proofs.States.{halt_part, past_part, done, handed_behind}
+use Rattle.pearl_parse.proofs.States.{halt_part, past_part, done}
 use Rattle.pearl_parse.proofs.Unread.{unread_behind}
 use Rattle.pearl_parse.proofs.schedule.period.Goals as goal
 

@@ -1,104 +1,61 @@
 -- That each reader of statements reads what it names, or tells the least stop: lists of statements and of branches, IF,
 -- CASE, loops, BEGIN and bodies, which read one another.
-use Rattle.std.proofs.Common.{◌+◌, ◌-◌, ◌<◌, ◌≤◌, ◌^◌, length, refl, sym, ap, subst, ◌∙◌, rules, inr, arith}
+use Rattle.std.proofs.Common.{◌+◌, ◌-◌, ◌<◌, ◌≤◌, ◌^◌, length, refl, sym, ap, subst, ◌∙◌, rules, arith}
 use Rattle.pearl_tree.specs.Standing.{SpellsEach, SpellsSome, SpellsMaybe}
-use Rattle.pearl_tree.specs.Statements.{SpellsStmt, SpellsAfter, SpellsBranch, SpellsBodyDecl}
+use Rattle.pearl_tree.specs.Statements.{SpellsAfter, SpellsBranch, SpellsBodyDecl}
 use Rattle.pearl_tree.specs.declared.word_code.TheConstants as w
 use Rattle.pearl_parse_expr.specs.Stops.{is_word}
-use Rattle.pearl_parse_expr.proofs.Lists.{each_one_more}
-use Rattle.pearl_parse_expr.proofs.Halts.{stuck_of}
+use Rattle.pearl_parse_expr.proofs.Lists.{listed}
 use Rattle.pearl_parse.specs.Stops.{begins_statement}
 use Rattle.pearl_parse.specs.Bodies.{SpellsStatements, SpellsHeaded, SpellsOptionalHeaded, SpellsBlock, SpellsCondition}
 use Rattle.pearl_parse.specs.Bodies.{SpellsHeads, SpellsInner}
 use Rattle.pearl_parse.proofs.Steps.{no_first, no_part, itself, optional_is_none, optional_is_longest, only_is_longest}
 use Rattle.pearl_parse.proofs.ByFirst.{stmt_begins}
 use Rattle.pearl_parse.proofs.StatementRests.{Spelled}
-use Rattle.pearl_parse.proofs.Repetitions.{each_next, each_ends}
-use Rattle.pearl_parse.proofs.Choices.{some_of, choices_next, choices_end, no_choice, choices_begin}
+use Rattle.pearl_parse.proofs.EachReads.{EachRead, each_none, each_more, each_ended}
+use Rattle.pearl_parse.proofs.EachReads.{ChoicesRead, choices_none, choices_more}
+use Rattle.pearl_parse.proofs.Choices.{some_of, choices_end, no_choice}
 use Rattle.pearl_parse.proofs.Blocks.{block_is_longest, no_block}
 use Rattle.pearl_parse.proofs.NestedRests.{then_rest, choices_rest, block_rest, if_goes, case_goes, repeat_goes}
 use Rattle.pearl_parse.proofs.NestedRests.{if_spelled, case_spelled, begin_spelled, repeat_spelled}
 use Rattle.pearl_parse.proofs.NestedRests.{no_if, no_case, no_begin, no_repeat, no_statement, out_of_memory_behind}
-use Rattle.pearl_parse.proofs.NestedLeast.{stmt_kept, branch_kept, branch_read, maybe_branch_read, no_choice_least}
+use Rattle.pearl_parse.proofs.NestedLeast.{stmt_kept, branch_read, maybe_branch_read, no_choice_least}
 use Rattle.pearl_parse.proofs.NestedLeast.{choices_read}
 use Rattle.pearl_parse.proofs.NestedLeast.{no_inner, inner_read, some_statement, no_memory, if_halts, case_halts}
 use Rattle.pearl_parse.proofs.NestedLeast.{repeat_halts}
 use Rattle.pearl_parse.proofs.NestedReads.{past_if, past_thens, past_branch, past_case, past_alternatives, past_loop}
 use Rattle.pearl_parse.proofs.NestedReads.{begun}
 use Rattle.pearl_parse.proofs.NestedReads.{past_body, no_alternatives, no_body, not_closed, one_end, goes_so_far}
-use Rattle.pearl_parse.proofs.RepeatedLeast.{none_least, next_least, end_least}
 use Rattle.pearl_parse.proofs.States.{told_none}
 use Rattle.pearl_parse.proofs.Unread.{none_read, unread, no_memory_read, unread_behind, no_memory_behind}
 use Rattle.pearl_parse.proofs.statement.+statement.Goals as goal
 
 pub statements-each-init : goal.statements-each-init
 statements-each-init t c =
-    record {
-      spells = search rules;
-      goes = λ others agree xs to h. inr (xs, h);
-      bounds = search rules;
-      least = none_least (λ tokens. SpellsStmt tokens c.args.depth) c.args.tokens.now c.args.from c.args.least_stop
-          c.args.least_stop (omega (arith, c.requires));
-    }
+    let tokens = c.args.tokens.now in
+    let depth = c.args.depth in
+    let from = c.args.from in
+    let low = c.args.least_stop in
+    listed (EachRead (Spelled depth) begins_statement tokens from low) c.none-list.ensures
+    (each_none (Spelled depth) begins_statement tokens from low c.requires.0 c.requires.1)
 
 pub statements-each-preserved : goal.statements-each-preserved
 statements-each-preserved t c =
     let tokens = c.args.tokens.now in
     let depth = c.args.depth in
-    let next = c.in-Ok.next in
-    let read = c.in-Ok.ensures in
-    let near : c.each.end ≤ c.each.stop = omega (arith, c.each.invariant.bounds) in
-    let ahead : c.each.end < next.end = omega (arith, read.ahead) in
-    let below : c.each.stop ≤ c.max-stop.result = omega (arith, c.max-stop.ensures) in
-    let reach : next.stop ≤ c.max-stop.result = omega (arith, c.max-stop.ensures) in
-    record {
-      spells = subst (λ xs. SpellsStatements depth tokens c.args.from xs next.end)
-          (sym c.in_ok-append-in-Ok.ensures.appended)
-          (each_one_more (SpellsStmt tokens depth) c.each.list.items c.args.from c.each.end next.end next.part
-          c.each.invariant.spells read.spells);
-      goes = each_next (λ tokens. SpellsStmt tokens depth) begins_statement tokens c.args.from c.each.end c.each.stop
-          next.end next.stop c.max-stop.result c.each.invariant.goes near ahead below reach
-          (stmt_begins tokens depth c.each.end next.part next.end read.spells) read.only;
-      bounds = (
-        omega (arith, c.each.invariant.bounds, read.ahead),
-        omega (arith, read.ahead, c.max-stop.ensures),
-        omega (arith, c.each.invariant.bounds, c.max-stop.ensures),
-        omega (
-          arith,
-          c.each.invariant.bounds,
-          read.ahead,
-          c.max-stop.ensures,
-        ),
-      );
-      least = next_least (λ tokens. SpellsStmt tokens depth) tokens c.args.from c.args.least_stop 1 (stmt_kept depth)
-          c.each.list.items c.each.end c.each.stop c.each.invariant.spells c.each.invariant.least next.end next.stop
-          c.max-stop.result
-          ahead (omega (arith, read.ahead)) read.least c.max-stop.ensures;
-    }
-
-pub statements-returns-in-Refused-clause-reads : goal.statements-returns-in-Refused-clause-reads
-statements-returns-in-Refused-clause-reads t c =
-    let tokens = c.args.tokens.now in
-    let depth = c.args.depth in
     let from = c.args.from in
-    let end = c.each.end in
-    let kept = c.each.invariant in
-    let read = c.in-Err.ensures in
-    let at = c.in-Refused.at in
-    let stuck = stuck_of (λ tokens. SpellsStmt tokens depth) tokens end at c.in-Err.halt c.in-Refused.is read.refused in
-    let below : c.each.stop ≤ c.max.result = omega (arith, c.max.ensures) in
-    let reach : at ≤ c.max.result = omega (arith, c.max.ensures) in
-    record {
-      spells = kept.spells;
-      longest = each_ends (λ tokens. SpellsStmt tokens depth) begins_statement tokens from end c.each.stop at
-          c.max.result
-          kept.goes below reach stuck.0;
-      bounds = search rules;
-      refused = tt;
-      least = end_least (λ tokens. SpellsStmt tokens depth) tokens from c.args.least_stop 1 (stmt_kept depth)
-          c.each.list.items end c.each.stop kept.spells kept.least c.in-Err.halt at c.max.result c.in-Refused.is
-          read.least stuck.1 c.max.ensures;
-    }
+    let low = c.args.least_stop in
+    let list = c.each.list in
+    listed (EachRead (Spelled depth) begins_statement tokens from low) c.in_ok-add-in-Ok.ensures.added
+    (each_more (Spelled depth) begins_statement tokens from low (stmt_kept depth)
+    (λ tokens from x to h. stmt_begins tokens depth from x to h) list.part.items list.end list.stop c.each.invariant
+    c.in-Ok.next c.in-Ok.ensures)
+
+pub statements-returns-in-Err-clause-reads : goal.statements-returns-in-Err-clause-reads
+statements-returns-in-Err-clause-reads t c =
+    let depth = c.args.depth in
+    rw c.ended.ensures.value (each_ended (Spelled depth) begins_statement c.args.tokens.now c.args.from
+    c.args.least_stop (stmt_kept depth) c.each.list c.each.invariant c.in-Err.halt c.in-Err.ensures)
 
 pub branch-returns-in-Ok-clause-reads : goal.branch-returns-in-Ok-clause-reads
 branch-returns-in-Ok-clause-reads t c =
@@ -182,41 +139,23 @@ alternatives-returns-then-not-is_word t c =
 
 pub alternatives-each-init : goal.alternatives-each-init
 alternatives-each-init t c =
-    record {
-      spells = search rules;
-      goes = choices_begin c.args.tokens.now c.args.depth c.args.from c.args.least_stop;
-      bounds = search rules;
-      least = none_least (λ tokens. SpellsBranch tokens c.args.depth w.ALT) c.args.tokens.now c.args.from
-          c.args.least_stop c.args.least_stop (omega (arith, c.requires));
-    }
+    let tokens = c.args.tokens.now in
+    let depth = c.args.depth in
+    let from = c.args.from in
+    let low = c.args.least_stop in
+    listed (ChoicesRead tokens depth from low) c.none-list.ensures
+    (choices_none tokens depth from low c.requires.0 c.requires.1)
 
 pub alternatives-each-preserved : goal.alternatives-each-preserved
 alternatives-each-preserved t c =
     let tokens = c.args.tokens.now in
     let depth = c.args.depth in
-    let next = c.in_Ok-next.next in
-    let read = c.in_Ok-next.ensures.reads in
-    let here = c.each-test.ensures.stands refl in
-    let near : c.each.end ≤ c.each.stop = omega (arith, c.each.invariant.bounds) in
-    let ahead : c.each.end < next.end = omega (arith, read.bounds) in
-    record {
-      spells = subst (λ xs. SpellsEach (SpellsBranch tokens depth w.ALT) c.args.from xs next.end)
-          (sym c.in_ok-append-in_Ok-next.ensures.appended)
-          (each_one_more (SpellsBranch tokens depth w.ALT) c.each.list.items c.args.from c.each.end next.end next.part
-          c.each.invariant.spells read.spells);
-      goes = choices_next tokens depth c.args.from c.each.end c.each.stop next.end next.stop c.each.invariant.goes near
-          ahead read.bounds.2 here read.longest;
-      bounds = (
-        omega (arith, c.each.invariant.bounds, read.bounds),
-        read.bounds.1,
-        omega (arith, c.each.invariant.bounds, read.bounds),
-        read.bounds.3,
-      );
-      least = next_least (λ tokens. SpellsBranch tokens depth w.ALT) tokens c.args.from c.args.least_stop 1
-          (branch_kept depth w.ALT) c.each.list.items c.each.end c.each.stop c.each.invariant.spells
-          c.each.invariant.least next.end read.least.0 next.stop
-          ahead read.least.1 read.least.2 (omega (arith, read.least.3));
-    }
+    let from = c.args.from in
+    let low = c.args.least_stop in
+    let list = c.each.list in
+    listed (ChoicesRead tokens depth from low) c.in_ok-add-in_Ok-next.ensures.added
+    (choices_more tokens depth from low list.part.items list.end list.stop c.each.invariant
+    (c.each-test.ensures.stands refl) c.in_Ok-next.next c.in_Ok-next.ensures.reads)
 
 pub alternatives-returns-in_Err-next : goal.alternatives-returns-in_Err-next
 alternatives-returns-in_Err-next t c = no_memory_behind c.in_Err-next.halt c.in_Err-next.ensures.memory
@@ -227,15 +166,16 @@ alternatives-returns t c =
     let depth = c.args.depth in
     let from = c.args.from in
     let few : length tokens < 2 ^ 55 = search rules in
+    let list = c.each.list in
     let kept = c.each.invariant in
     let other = sym c.each-test.ensures.value in
     record {
-      spells = some_of tokens depth from c.each.list.items c.each.end (c.if-not-is_word.ensures.stands refl) other
+      spells = some_of tokens depth from list.part.items list.end (c.if-not-is_word.ensures.stands refl) other
           kept.spells;
-      longest = choices_end tokens depth from c.each.end c.each.stop kept.goes (omega (arith, kept.bounds)) other;
+      longest = choices_end tokens depth from list.end list.stop kept.goes (omega (arith, kept.bounds)) other;
       bounds = kept.bounds;
       refused = tt;
-      least = choices_read tokens depth from (omega (arith, c.requires)) few c.args.least_stop c.each.end c.each.stop
+      least = choices_read tokens depth from (omega (arith, c.requires)) few c.args.least_stop list.end list.stop
           (omega (arith, kept.bounds)) kept.least;
     }
 

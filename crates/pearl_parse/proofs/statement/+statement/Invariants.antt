@@ -1,14 +1,8 @@
 -- What the loops keep of the parts that they read, and what falls with each call and each turn.
 use Rattle.std.proofs.Common.{◌+◌, ◌-◌, ◌*◌, length}
-use Rattle.pearl_tree.specs.Standing.{SpellsEach}
-use Rattle.pearl_tree.specs.Statements.{SpellsStmt, SpellsBranch}
-use Rattle.pearl_tree.specs.declared.word_code.TheConstants as w
-use Rattle.pearl_parse.specs.Reached.{GoesBehind}
-use Rattle.pearl_parse_expr.specs.Stops.{StopsWithin}
+use Rattle.pearl_tree.specs.Statements.{SpellsStmt}
 use Rattle.pearl_parse.specs.Stops.{begins_statement}
-use Rattle.pearl_parse.specs.Bodies.{SpellsStatements}
-use Rattle.pearl_parse.proofs.Repetitions.{EachGoes}
-use Rattle.pearl_parse.proofs.Choices.{ChoicesGo}
+use Rattle.pearl_parse.proofs.EachReads.{EachRead, ChoicesRead}
 use Rattle.pearl_parse.proofs.statement.+statement.Given as goal
 
 abbrev pub decreases-maybe_branch : goal.decreases-maybe_branch
@@ -42,24 +36,16 @@ abbrev pub decreases-begin : goal.decreases-begin
 decreases-begin l = 6 * l.depth
 
 abbrev pub invariant-statements-each : goal.invariant-statements-each
-invariant-statements-each l = record {
-  spells : SpellsStatements l.depth l.tokens l.from l.list.items l.end;
-  goes : EachGoes (λ tokens. SpellsStmt tokens l.depth) begins_statement l.tokens l.from l.end l.stop;
-  bounds : StopsWithin l.tokens l.from l.least_stop l.end l.stop;
-  least : GoesBehind 24 (SpellsStatements l.depth) l.tokens l.from l.least_stop l.end l.stop;
-}
+invariant-statements-each l =
+    EachRead (λ tokens. SpellsStmt tokens l.depth) begins_statement l.tokens l.from l.least_stop l.list.part.items
+    l.list.end l.list.stop
 
 abbrev pub decreases-statements-each : goal.decreases-statements-each
-decreases-statements-each l = length l.tokens - l.end
+decreases-statements-each l = length l.tokens - l.list.end
 
 abbrev pub invariant-alternatives-each : goal.invariant-alternatives-each
-invariant-alternatives-each l = record {
-  spells : SpellsEach (SpellsBranch l.tokens l.depth w.ALT) l.from l.list.items l.end;
-  goes : ChoicesGo l.tokens l.depth l.from l.end l.stop;
-  bounds : StopsWithin l.tokens l.from l.least_stop l.end l.stop;
-  least : GoesBehind 24 (λ tokens. SpellsEach (SpellsBranch tokens l.depth w.ALT)) l.tokens l.from l.least_stop l.end
-      l.stop;
-}
+invariant-alternatives-each l =
+    ChoicesRead l.tokens l.depth l.from l.least_stop l.list.part.items l.list.end l.list.stop
 
 abbrev pub decreases-alternatives-each : goal.decreases-alternatives-each
-decreases-alternatives-each l = length l.tokens - l.end
+decreases-alternatives-each l = length l.tokens - l.list.end

@@ -1,5 +1,5 @@
 -- That an expression is read between IF and THEN, or the least stop is told.
-use Rattle.std.proofs.Common.{◌+◌, ap, ◌<◌, ◌^◌, length, rules, arith}
+use Rattle.std.proofs.Common.{ℕ, ◌+◌, max, ap, ◌<◌, ◌^◌, length, refl, rules, arith}
 use Rattle.pearl_tree.specs.Statements.{SpellsAfter}
 use Rattle.pearl_tree.specs.declared.word_code.TheConstants as w
 use Rattle.pearl_parse_expr.specs.Stops.{extends_expression, is_word}
@@ -60,15 +60,17 @@ returns c =
     let few : length tokens < 2 ^ 55 = search rules in
     let at = condition_past tokens from (omega (arith, c.requires.within)) few condition.part condition.end
     condition.stop read.spells (omega (arith, read.bounds)) (omega (arith, read.bounds)) read.least in
-    record {
-      spells = search rules;
-      only = ends SpellsCondition tokens from then_word condition.end condition.stop c.max.result (condition.end + 1) go
-          (omega (arith, c.max.ensures)) (λ others to h. h.1);
-      ahead = search rules;
+    let new : ℕ = max condition.stop (condition.end + 1) in
+    let word = c.in_ok-word.ensures in
+    rw c.past.ensures (record {
+      spells = (condition.end, read.spells, word.stands, refl);
+      only = ends SpellsCondition tokens from then_word condition.end condition.stop new (condition.end + 1) go
+          (omega arith) (λ others to h. h.1);
+      ahead = (omega (arith, read.bounds), omega arith, omega (arith, read.bounds, word.within));
       refused = tt;
-      least = goes_in_told 16 SpellsCondition tokens from 0 (omega arith) (condition.end + 1) c.max.result
+      least = goes_in_told 16 SpellsCondition tokens from 0 (omega arith) (condition.end + 1) new
           (omega (arith, read.bounds))
-          (done 16 SpellsCondition tokens from 0 (condition.end + 1) condition.stop c.max.result
+          (done 16 SpellsCondition tokens from 0 (condition.end + 1) condition.stop new
           (past_word 16 SpellsCondition tokens from 0 w.THEN Ends condition.end condition.stop (condition.end + 1)
-          (omega arith) at c.in_ok-word.ensures.stands c.in_ok-word.ensures.within) (omega (arith, c.max.ensures)));
-    }
+          (omega arith) at word.stands word.within) refl);
+    })

@@ -1,20 +1,20 @@
 -- That ACTIVATE is read with its task and priority, or the least stop is told.
 use Rattle.std.proofs.Common.{◌+◌, ap, ◌<◌, ◌^◌, length, rules, arith}
 use Rattle.pearl_tree.specs.declared.symbol.TheConstants as s
-use Rattle.pearl_parse_expr.specs.Stops.{extends_expression, is_symbol, is_word, is_name}
+use Rattle.pearl_parse_expr.specs.Stops.{is_symbol, is_word, is_name}
 use Rattle.pearl_parse.specs.Schedules.{SpellsOptionalPriority, SpellsActivation}
-use Rattle.pearl_parse.proofs.Steps.{err_told, past, missing_behind, no_part_behind, ends, Ends, Then}
+use Rattle.pearl_parse.proofs.Steps.{missing_behind, no_part_behind, ends, Ends, Then}
 use Rattle.pearl_parse.proofs.StatementRests.{exit_rest}
-use Rattle.pearl_parse.proofs.ScheduleRests.{activation_goes}
+use Rattle.pearl_parse.proofs.ScheduleRests.{activation_goes, activation_goes_on}
 use Rattle.pearl_tree.specs.Standing.{SpellsName}
 use Rattle.pearl_tree.specs.declared.word_code.TheConstants as w
-use Rattle.pearl_tree.specs.declared.symbol.TheConstants as s
 use Rattle.pearl_parse.proofs.Comes.{Maybe}
 use Rattle.pearl_parse.proofs.Made.{semicolon}
 use Rattle.pearl_parse.proofs.ScheduleMade.{After, activation}
 use Rattle.pearl_parse.proofs.Tails.{semicolon_fills, activation_fills}
 use Rattle.pearl_parse.proofs.ScheduleLeast.{maybe_after_is_local, activated_fills, activation_first, activation_named}
-use Rattle.pearl_parse.proofs.States.{halt_part, halt_token, past_part, past_name, past_symbol, done, handed_behind}
+use Rattle.pearl_parse.proofs.ScheduleLeast.{activation_prior, activation_past}
+use Rattle.pearl_parse.proofs.States.{halt_part, halt_token, past_symbol, done}
 use Rattle.pearl_parse.proofs.Unread.{unread_only_behind}
 use Rattle.pearl_parse.proofs.tasking.activate.Goals as goal
 
@@ -22,18 +22,15 @@ pub returns-in_err-priority : goal.returns-in_err-priority
 returns-in_err-priority c =
     let tokens = c.args.tokens.now in
     let from = c.args.from in
-    let least_stop = c.args.least_stop in
     let low = c.args.least_stop in
     let few : length tokens < 2 ^ 55 = search rules in
-    let at_name = activation_named tokens from low (omega (arith, c.in_ok-word.ensures.within)) few
-    c.in_ok-word.ensures.stands c.in_ok-word.ensures.within in
-    let at_priority = past_name 16 SpellsActivation tokens from low c.in_ok-task.task
-    (Then (Maybe (After w.PRIO)) semicolon) (from + 1) low (from + 2) (omega arith) at_name
-    c.in_ok-task.ensures.stands c.in_ok-task.ensures.within in
+    let at_priority = activation_prior tokens from low (omega (arith, c.in_ok-word.ensures.within)) few
+    c.in_ok-word.ensures.stands c.in_ok-word.ensures.within c.in_ok-task.task c.in_ok-task.ensures.stands
+    c.in_ok-task.ensures.within in
     unread_only_behind _ c.in_err-priority.field-0.0 c.from_residual-in_err-priority.result
     c.from_residual-in_err-priority.ensures (λ e is. is)
-    (no_part_behind SpellsActivation tokens from least_stop SpellsOptionalPriority exit_rest (from + 2) least_stop
-    c.in_err-priority.field-0.0 (activation_goes tokens from least_stop) c.requires.least_stop.0 (omega arith)
+    (no_part_behind SpellsActivation tokens from low SpellsOptionalPriority exit_rest (from + 2) low
+    c.in_err-priority.field-0.0 (activation_goes tokens from low) c.requires.least_stop.0 (omega arith)
     c.in_err-priority.ensures.refused)
     (halt_part 16 SpellsActivation tokens from low 1 8 (Maybe (After w.PRIO)) semicolon (maybe_after_is_local w.PRIO)
     semicolon_fills (omega arith) (from + 2) low (omega arith) at_priority
@@ -43,26 +40,18 @@ pub returns-in_err-symbol : goal.returns-in_err-symbol
 returns-in_err-symbol c =
     let tokens = c.args.tokens.now in
     let from = c.args.from in
-    let least_stop = c.args.least_stop in
     let priority = c.in_ok-priority.priority in
     let read = c.in_ok-priority.ensures in
-    let go = past SpellsActivation tokens from SpellsOptionalPriority extends_expression exit_rest (from + 2) least_stop
-    priority.end priority.stop (activation_goes tokens from least_stop) read.bounds.2 read.longest
-    (λ others at to h. ap extends_expression h.0) in
     let low = c.args.least_stop in
+    let go = activation_goes_on tokens from low priority.end priority.stop read.bounds.2 read.longest in
     let few : length tokens < 2 ^ 55 = search rules in
-    let at_name = activation_named tokens from low (omega (arith, c.in_ok-word.ensures.within)) few
-    c.in_ok-word.ensures.stands c.in_ok-word.ensures.within in
-    let at_priority = past_name 16 SpellsActivation tokens from low c.in_ok-task.task
-    (Then (Maybe (After w.PRIO)) semicolon) (from + 1) low (from + 2) (omega arith) at_name
-    c.in_ok-task.ensures.stands c.in_ok-task.ensures.within in
-    let at_close = past_part 16 SpellsActivation tokens from low 1 8 (Maybe (After w.PRIO)) semicolon
-    (maybe_after_is_local w.PRIO) semicolon_fills (omega arith) (from + 2) low (omega arith) at_priority
-    priority.part priority.end priority.stop read.spells (omega (arith, read.bounds)) (omega (arith, read.bounds))
-    read.least in
+    let at_close = activation_past tokens from low (omega (arith, c.in_ok-word.ensures.within)) few
+    c.in_ok-word.ensures.stands c.in_ok-word.ensures.within c.in_ok-task.task c.in_ok-task.ensures.stands
+    c.in_ok-task.ensures.within priority.part priority.end priority.stop read.spells (omega (arith, read.bounds))
+    (omega (arith, read.bounds)) read.least in
     unread_only_behind _ c.in_err-symbol.field-0.0 c.from_residual-in_err-symbol.result
     c.from_residual-in_err-symbol.ensures (λ e is. is)
-    (missing_behind SpellsActivation tokens from least_stop (is_symbol s.SEMICOLON) exit_rest priority.end priority.stop
+    (missing_behind SpellsActivation tokens from low (is_symbol s.SEMICOLON) exit_rest priority.end priority.stop
     priority.end c.in_err-symbol.field-0.0 go
     (λ others to h. ap (is_symbol s.SEMICOLON) h.0) (omega (arith, read.bounds)) read.bounds.2
     (omega (arith, read.bounds)) (omega (arith, read.bounds)) c.in_err-symbol.ensures.missing)
@@ -75,21 +64,13 @@ returns c =
     let from = c.args.from in
     let low = c.args.least_stop in
     let few : length tokens < 2 ^ 55 = search rules in
-    let at_name = activation_named tokens from low (omega (arith, c.in_ok-word.ensures.within)) few
-    c.in_ok-word.ensures.stands c.in_ok-word.ensures.within in
-    let at_priority = past_name 16 SpellsActivation tokens from low c.in_ok-task.task
-    (Then (Maybe (After w.PRIO)) semicolon) (from + 1) low (from + 2) (omega arith) at_name
-    c.in_ok-task.ensures.stands c.in_ok-task.ensures.within in
     let priority = c.in_ok-priority.priority in
     let read = c.in_ok-priority.ensures in
-    let at_close = past_part 16 SpellsActivation tokens from low 1 8 (Maybe (After w.PRIO)) semicolon
-    (maybe_after_is_local w.PRIO) semicolon_fills (omega arith) (from + 2) low (omega arith) at_priority
-    priority.part priority.end priority.stop read.spells (omega (arith, read.bounds)) (omega (arith, read.bounds))
-    read.least in
-    let least_stop = c.args.least_stop in
-    let go = past SpellsActivation tokens from SpellsOptionalPriority extends_expression exit_rest (from + 2) least_stop
-    priority.end priority.stop (activation_goes tokens from least_stop) read.bounds.2 read.longest
-    (λ others at to h. ap extends_expression h.0) in
+    let at_close = activation_past tokens from low (omega (arith, c.in_ok-word.ensures.within)) few
+    c.in_ok-word.ensures.stands c.in_ok-word.ensures.within c.in_ok-task.task c.in_ok-task.ensures.stands
+    c.in_ok-task.ensures.within priority.part priority.end priority.stop read.spells (omega (arith, read.bounds))
+    (omega (arith, read.bounds)) read.least in
+    let go = activation_goes_on tokens from low priority.end priority.stop read.bounds.2 read.longest in
     record {
       spells = search rules;
       only = ends SpellsActivation tokens from exit_rest priority.end priority.stop c.max.result (priority.end + 1) go

@@ -1,21 +1,19 @@
 -- That a statement is read that begins with WHEN, or the least stop is told.
-use Rattle.std.proofs.Common.{◌≡◌, true, ◌+◌, refl, sym, ap, subst, ◌<◌, ◌^◌, length, rules, arith}
-use Rattle.pearl_tree.specs.Standing.{HasSymbol, what_at}
-use Rattle.pearl_tree.specs.declared.symbol.TheConstants as s
-use Rattle.pearl_parse_expr.specs.Stops.{extends_expression, is_symbol, is_name}
+use Rattle.std.proofs.Common.{◌+◌, refl, sym, ◌<◌, ◌^◌, length, rules, arith}
+use Rattle.pearl_parse_expr.specs.Stops.{is_name}
 use Rattle.pearl_parse.specs.Schedules.{SpellsOptionalAfter, SpellsBegun, SpellsAnyBegun}
-use Rattle.pearl_parse.proofs.Steps.{Ends, past, past_only, missing, no_part, ends, Then}
+use Rattle.pearl_parse.proofs.Steps.{Ends, missing, no_part, Then}
 use Rattle.pearl_parse.proofs.StatementRests.{Spelled}
-use Rattle.pearl_parse.proofs.ScheduleRests.{continue_rest}
-use Rattle.pearl_parse.proofs.TaskingRests.{resume_rest, begun_rest}
-use Rattle.pearl_parse.proofs.WhenRests.{when_rest, avoids_begun, when_goes, when_continues, when_resumes, when_begins}
+use Rattle.pearl_parse.proofs.TaskingRests.{begun_rest}
+use Rattle.pearl_parse.proofs.WhenRests.{when_rest, when_goes}
 use Rattle.pearl_tree.specs.declared.word_code.TheConstants as w
-use Rattle.pearl_parse.proofs.Comes.{Maybe, ends_fill}
+use Rattle.pearl_parse.proofs.Comes.{Maybe}
 use Rattle.pearl_parse.proofs.ScheduleMade.{After}
 use Rattle.pearl_parse.proofs.ScheduleLeast.{maybe_after_is_local, begun_is_local, begun_fills, interrupt_missing}
-use Rattle.pearl_parse.proofs.ScheduleLeast.{interrupt_continues, interrupt_resumes, interrupt_late, interrupt_begins}
-use Rattle.pearl_parse.proofs.StatementLeast.{name_missing, behind_name, semicolon_missing, ended}
-use Rattle.pearl_parse.proofs.States.{past_part, halt_part}
+use Rattle.pearl_parse.proofs.Stands.{no_last, last_is_only, last_goes}
+use Rattle.pearl_parse.proofs.TaskingReads.{then_continues, then_resumes, then_waits, then_begins, no_task, no_task_end}
+use Rattle.pearl_parse.proofs.TaskingReads.{continued_ends, no_resume_end, resumed_ends}
+use Rattle.pearl_parse.proofs.States.{halt_part}
 use Rattle.pearl_parse.proofs.Unread.{unread}
 use Rattle.pearl_parse.proofs.tasking.when.Goals as goal
 
@@ -38,47 +36,42 @@ returns-in_err-task c = λ depth.
     let tokens = c.args.tokens.now in
     let from = c.args.from in
     let few : length tokens < 2 ^ 55 = search rules in
-    let at_name = interrupt_continues tokens depth from c.requires.within few c.requires.word
-    c.in_ok-interrupt.interrupt c.in_ok-interrupt.ensures.stands c.in_ok-interrupt.ensures.within
-    (c.if-is_word.ensures.stands refl) (c.if-is_word.ensures.within refl) in
-    unread 24 (Spelled depth) tokens from _ c.in_err-task.field-0.0 c.from_residual-in_err-task.result
-    c.from_residual-in_err-task.ensures (λ e is. is)
-    (missing (Spelled depth) tokens from is_name continue_rest (from + 2) (from + 2) (from + 3) c.in_err-task.field-0.0
-    (when_continues tokens depth from c.requires.word (c.if-is_word.ensures.stands refl))
-    (λ others to h. subst (λ k. is_name (what_at others k) ≡ true) (omega arith) h.0) (omega arith)
-    (omega (arith, c.if-is_word.ensures.within refl)) (omega (arith, c.in_ok-interrupt.ensures.within))
-    c.in_err-task.ensures.missing)
-    (name_missing tokens depth from (from + 3) (from + 2) c.in_err-task.field-0.0 at_name c.in_err-task.ensures.missing)
+    let interrupt = c.in_ok-interrupt.ensures in
+    let word = c.if-is_word.ensures in
+    let at = then_continues tokens depth from c.requires.within few c.requires.word c.in_ok-interrupt.interrupt
+    interrupt.stands interrupt.within (word.stands refl) in
+    no_task tokens depth from (from + 2) (from + 2) at (word.stands refl) (word.within refl) c.in_err-task.field-0.0
+    c.from_residual-in_err-task.result c.from_residual-in_err-task.ensures (λ e is. is) (from + 3) (omega arith)
+    c.in_err-task.ensures.missing
 
 pub returns-in_err-symbol : goal.returns-in_err-symbol
 returns-in_err-symbol c = λ depth.
     let tokens = c.args.tokens.now in
     let from = c.args.from in
     let few : length tokens < 2 ^ 55 = search rules in
-    let at_name = interrupt_continues tokens depth from c.requires.within few c.requires.word
-    c.in_ok-interrupt.interrupt c.in_ok-interrupt.ensures.stands c.in_ok-interrupt.ensures.within
-    (c.if-is_word.ensures.stands refl) (c.if-is_word.ensures.within refl) in
-    let at_close = behind_name tokens depth from c.in_ok-task.task (from + 3) (from + 2) (from + 4) (omega arith)
-    at_name c.in_ok-task.ensures.stands c.in_ok-task.ensures.within in
-    unread 24 (Spelled depth) tokens from _ c.in_err-symbol.field-0.0 c.from_residual-in_err-symbol.result
-    c.from_residual-in_err-symbol.ensures (λ e is. is)
-    (missing (Spelled depth) tokens from (is_symbol s.SEMICOLON) continue_rest (from + 2) (from + 2) (from + 4)
-    c.in_err-symbol.field-0.0 (when_continues tokens depth from c.requires.word (c.if-is_word.ensures.stands refl))
-    (λ others to h. ap (is_symbol s.SEMICOLON) (subst (λ k. HasSymbol others k s.SEMICOLON) (omega arith) h.1))
-    (omega arith) (omega (arith, c.in_ok-task.ensures.within)) (omega (arith, c.in_ok-interrupt.ensures.within))
-    c.in_err-symbol.ensures.missing)
-    (semicolon_missing tokens depth from (from + 4) (from + 2) c.in_err-symbol.field-0.0 at_close
-    c.in_err-symbol.ensures.missing)
+    let interrupt = c.in_ok-interrupt.ensures in
+    let word = c.if-is_word.ensures in
+    let task = c.in_ok-task.ensures in
+    let at = then_continues tokens depth from c.requires.within few c.requires.word c.in_ok-interrupt.interrupt
+    interrupt.stands interrupt.within (word.stands refl) in
+    no_task_end tokens depth from (from + 2) (from + 2) at (word.stands refl) (word.within refl) c.in_ok-task.task
+    (from + 3) (omega arith) task.stands task.within (from + 4) (omega arith) c.in_err-symbol.field-0.0
+    c.from_residual-in_err-symbol.result c.from_residual-in_err-symbol.ensures (λ e is. is)
+    c.in_err-symbol.ensures.missing
 
 pub returns-then-is_word : goal.returns-then-is_word
 returns-then-is_word c = λ depth.
     let tokens = c.args.tokens.now in
     let from = c.args.from in
+    let few : length tokens < 2 ^ 55 = search rules in
+    let interrupt = c.in_ok-interrupt.ensures in
+    let word = c.if-is_word.ensures in
+    let at = then_continues tokens depth from c.requires.within few c.requires.word c.in_ok-interrupt.interrupt
+    interrupt.stands interrupt.within (word.stands refl) in
     record {
       spells = search rules;
-      only = ends (Spelled depth) tokens from continue_rest (from + 2) (from + 2) (from + 5) (from + 5)
-          (when_continues tokens depth from c.requires.word (c.if-is_word.ensures.stands refl)) (omega arith)
-          (λ others to h. omega (arith, h.2));
+      only = continued_ends tokens depth from (from + 2) (from + 2) at (word.stands refl) (word.within refl) (from + 5)
+          (from + 5) (omega arith) (omega arith);
       ahead = search rules;
       refused = tt;
       least = search rules;
@@ -89,29 +82,27 @@ returns-in_err-symbol-2 c = λ depth.
     let tokens = c.args.tokens.now in
     let from = c.args.from in
     let few : length tokens < 2 ^ 55 = search rules in
-    let at_close = interrupt_resumes tokens depth from c.requires.within few c.requires.word c.in_ok-interrupt.interrupt
-    c.in_ok-interrupt.ensures.stands c.in_ok-interrupt.ensures.within (c.if-is_word-2.ensures.stands refl)
-    (c.if-is_word-2.ensures.within refl) in
-    unread 24 (Spelled depth) tokens from _ c.in_err-symbol-2.field-0.0 c.from_residual-in_err-symbol-2.result
-    c.from_residual-in_err-symbol-2.ensures (λ e is. is)
-    (missing (Spelled depth) tokens from (is_symbol s.SEMICOLON) resume_rest (from + 2) (from + 2) (from + 3)
-    c.in_err-symbol-2.field-0.0 (when_resumes tokens depth from c.requires.word
-    (c.if-is_word-2.ensures.stands refl))
-    (λ others to h. ap (is_symbol s.SEMICOLON) (subst (λ k. HasSymbol others k s.SEMICOLON) (omega arith) h.0))
-    (omega arith) (omega (arith, c.if-is_word-2.ensures.within refl)) (omega (arith, c.in_ok-interrupt.ensures.within))
-    c.in_err-symbol-2.ensures.missing)
-    (semicolon_missing tokens depth from (from + 3) (from + 2) c.in_err-symbol-2.field-0.0 at_close
-    c.in_err-symbol-2.ensures.missing)
+    let interrupt = c.in_ok-interrupt.ensures in
+    let word = c.if-is_word-2.ensures in
+    let at = then_resumes tokens depth from c.requires.within few c.requires.word c.in_ok-interrupt.interrupt
+    interrupt.stands interrupt.within (word.stands refl) in
+    no_resume_end tokens depth from (from + 2) (from + 2) at (word.stands refl) (word.within refl) (from + 3)
+    (omega arith) c.in_err-symbol-2.field-0.0 c.from_residual-in_err-symbol-2.result
+    c.from_residual-in_err-symbol-2.ensures (λ e is. is) c.in_err-symbol-2.ensures.missing
 
 pub returns-then-is_word-2 : goal.returns-then-is_word-2
 returns-then-is_word-2 c = λ depth.
     let tokens = c.args.tokens.now in
     let from = c.args.from in
+    let few : length tokens < 2 ^ 55 = search rules in
+    let interrupt = c.in_ok-interrupt.ensures in
+    let word = c.if-is_word-2.ensures in
+    let at = then_resumes tokens depth from c.requires.within few c.requires.word c.in_ok-interrupt.interrupt
+    interrupt.stands interrupt.within (word.stands refl) in
     record {
       spells = search rules;
-      only = ends (Spelled depth) tokens from resume_rest (from + 2) (from + 2) (from + 4) (from + 4)
-          (when_resumes tokens depth from c.requires.word (c.if-is_word-2.ensures.stands refl)) (omega arith)
-          (λ others to h. omega (arith, h.1));
+      only = resumed_ends tokens depth from (from + 2) (from + 2) at (word.stands refl) (word.within refl) (from + 4)
+          (from + 4) (omega arith) (omega arith);
       ahead = search rules;
       refused = tt;
       least = search rules;
@@ -122,64 +113,50 @@ returns-in_err-after c = λ depth.
     let tokens = c.args.tokens.now in
     let from = c.args.from in
     let few : length tokens < 2 ^ 55 = search rules in
-    let late = interrupt_late tokens depth from c.requires.within few c.requires.word c.in_ok-interrupt.interrupt
-    c.in_ok-interrupt.ensures.stands c.in_ok-interrupt.ensures.within in
+    let interrupt = c.in_ok-interrupt.ensures in
+    let at = then_waits tokens depth from c.requires.within few c.requires.word c.in_ok-interrupt.interrupt
+    interrupt.stands interrupt.within (sym c.if-is_word.ensures.value) (sym c.if-is_word-2.ensures.value) in
     unread 24 (Spelled depth) tokens from _ c.in_err-after.field-0.0 c.from_residual-in_err-after.result
     c.from_residual-in_err-after.ensures (λ e is. is)
     (no_part (Spelled depth) tokens from SpellsOptionalAfter begun_rest (from + 2) (from + 2) c.in_err-after.field-0.0
-    (when_begins tokens depth from c.requires.word (sym c.if-is_word.ensures.value) (sym c.if-is_word-2.ensures.value))
-    (omega arith) c.in_err-after.ensures.refused)
+    at.goes (omega arith) c.in_err-after.ensures.refused)
     (halt_part 24 (Spelled depth) tokens from 0 3 8 (Maybe (After w.AFTER)) (Then SpellsAnyBegun Ends)
-    (maybe_after_is_local w.AFTER) begun_fills (omega arith) (from + 2) (from + 2) (omega arith) late
+    (maybe_after_is_local w.AFTER) begun_fills (omega arith) (from + 2) (from + 2) (omega arith) at.level
     c.in_err-after.field-0.0 c.in_err-after.ensures.least)
 
 pub returns-in_err-begun : goal.returns-in_err-begun
 returns-in_err-begun c = λ depth.
     let tokens = c.args.tokens.now in
     let from = c.args.from in
-    let after = c.in_ok-after.after in
-    let read = c.in_ok-after.ensures in
     let few : length tokens < 2 ^ 55 = search rules in
-    let at = interrupt_begins tokens depth from c.requires.within few c.requires.word c.in_ok-interrupt.interrupt
-    c.in_ok-interrupt.ensures.stands c.in_ok-interrupt.ensures.within after.part after.end after.stop read.spells
-    (omega (arith, read.bounds)) (omega (arith, read.bounds)) read.least in
-    unread 24 (Spelled depth) tokens from _ c.in_err-begun.field-0.0 c.from_residual-in_err-begun.result
-    c.from_residual-in_err-begun.ensures (λ e is. is)
-    (let go = past (Spelled depth) tokens from SpellsOptionalAfter extends_expression begun_rest (from + 2) (from + 2)
-    after.end after.stop
-    (when_begins tokens depth from c.requires.word (sym c.if-is_word.ensures.value) (sym c.if-is_word-2.ensures.value))
-    read.bounds.2 read.longest avoids_begun in
-    no_part (Spelled depth) tokens from SpellsBegun Ends after.end after.stop c.in_err-begun.field-0.0 go
-    (omega (arith, read.bounds)) c.in_err-begun.ensures.refused)
-    (halt_part 24 (Spelled depth) tokens from 0 0 24 SpellsAnyBegun Ends begun_is_local ends_fill (omega arith)
-    after.end after.stop (omega (arith, read.bounds)) at c.in_err-begun.field-0.0 c.in_err-begun.ensures.least)
+    let interrupt = c.in_ok-interrupt.ensures in
+    let after = c.in_ok-after.after in
+    let at = then_begins tokens depth from c.requires.within few c.requires.word c.in_ok-interrupt.interrupt
+    interrupt.stands interrupt.within (sym c.if-is_word.ensures.value) (sym c.if-is_word-2.ensures.value) after
+    c.in_ok-after.ensures in
+    no_last 24 (Spelled depth) tokens from from after.end after.stop 24 SpellsBegun SpellsAnyBegun begun_is_local
+    (omega arith) at c.in_err-begun.field-0.0 c.from_residual-in_err-begun.result c.from_residual-in_err-begun.ensures
+    (λ e is. is) c.in_err-begun.ensures.refused c.in_err-begun.ensures.least
 
 pub returns : goal.returns
 returns c = λ depth.
     let tokens = c.args.tokens.now in
     let from = c.args.from in
+    let few : length tokens < 2 ^ 55 = search rules in
+    let interrupt = c.in_ok-interrupt.ensures in
     let after = c.in_ok-after.after in
-    let read = c.in_ok-after.ensures in
     let begun = c.in_ok-begun.begun in
     let last = c.in_ok-begun.ensures in
-    let go = past (Spelled depth) tokens from SpellsOptionalAfter extends_expression begun_rest (from + 2) (from + 2)
-    after.end after.stop
-    (when_begins tokens depth from c.requires.word (sym c.if-is_word.ensures.value) (sym c.if-is_word-2.ensures.value))
-    read.bounds.2 read.longest avoids_begun in
-    let few : length tokens < 2 ^ 55 = search rules in
-    let at = interrupt_begins tokens depth from c.requires.within few c.requires.word c.in_ok-interrupt.interrupt
-    c.in_ok-interrupt.ensures.stands c.in_ok-interrupt.ensures.within after.part after.end after.stop read.spells
-    (omega (arith, read.bounds)) (omega (arith, read.bounds)) read.least in
+    let at = then_begins tokens depth from c.requires.within few c.requires.word c.in_ok-interrupt.interrupt
+    interrupt.stands interrupt.within (sym c.if-is_word.ensures.value) (sym c.if-is_word-2.ensures.value) after
+    c.in_ok-after.ensures in
     record {
       spells = search rules;
-      only = past_only (Spelled depth) tokens from SpellsBegun Ends after.end after.stop begun.end begun.stop go
-          last.bounds.2 last.only;
+      only = last_is_only 24 (Spelled depth) tokens from from after.end after.stop 24 SpellsBegun SpellsAnyBegun
+          begun_is_local (omega arith) at begun last;
       ahead = search rules;
       refused = tt;
-      least = ended tokens depth from begun.end begun.stop begun.stop
-          (past_part 24 (Spelled depth) tokens from 0 0 24 SpellsAnyBegun Ends begun_is_local ends_fill (omega arith)
-          after.end after.stop (omega (arith, read.bounds)) at
-          (begun.part.period, (begun.part.activation.task, begun.part.activation.priority)) begun.end begun.stop
-          last.spells (omega (arith, last.bounds)) (omega (arith, last.bounds)) last.least)
-          (omega (arith, last.bounds));
+      least = last_goes 24 (Spelled depth) tokens from from after.end after.stop 24 SpellsBegun SpellsAnyBegun
+          begun_is_local (omega arith) at begun last
+          (begun.part.period, (begun.part.activation.task, begun.part.activation.priority)) last.spells;
     }
