@@ -28,7 +28,6 @@ pub mod NestedMade
 pub mod ModulesMade
 pub mod Tails
 pub mod StatementLeast
-pub mod ListReach
 pub mod Beginnings
 pub mod States
 pub mod CallLeast
