@@ -3,25 +3,16 @@
 ghost use Rattle.std.specs.Prelude.{◌≡◌, IfOk, length};
 ghost use Rattle.pearl_script.specs.Lines.{IsEventOf};
 
+use crate::journal::task;
 use arrayvec::ArrayVec;
 use pearl_rules::event::{Event, Shown};
-use pearl_rules::setup::{Device, Direction, Setup, TaskEntry};
+use pearl_rules::setup::{Device, Direction, Setup};
 use pearl_script::refusal::{Refusal, refusal_line};
 use pearl_script::transcript::{close_line, event_line, state_line};
 use pearl_value::listing::Listing;
 use pearl_value::trap::Trap;
 use std::alloc::{AllocError, Global};
 use std::test::Fail;
-
-fn task(name: &[u8]) -> TaskEntry {
-    let mut entry = TaskEntry {
-        name: ArrayVec::new(),
-        priority: 9,
-        main: false,
-    };
-    let _ = entry.name.try_extend_from_slice(name);
-    entry
-}
 
 // Two tasks, and two devices with other numbers than their places.
 fn two_of_each(alloc: Global) -> Result<Setup, AllocError>
@@ -44,13 +35,14 @@ fn two_of_each(alloc: Global) -> Result<Setup, AllocError>
     })
 }
 
-fn line_of(moment: u64, event: &Event, setup: &Setup) -> ArrayVec<u8, 2304>
+// Whether this is the line of the event.
+fn is_line_of(moment: u64, event: &Event, setup: &Setup, want: &[u8]) -> bool
     requires { IsEventOf setup.now event.now }
 {
     let mut line = ArrayVec::new();
     line.push(b'x');
     event_line(moment, event, setup, &mut line);
-    line
+    line.as_slice() == want
 }
 
 #[test]
@@ -60,17 +52,13 @@ fn events(rt: HostRuntime) -> Result<(), Fail> {
         task: 1,
         priority: 20,
     };
-    let line = line_of(0, &start, &setup);
-    assert_eq!(rt; line.as_slice(), b"0 start VALVE 20\n".as_slice());
-    let line = line_of(15, &Event::End(0), &setup);
-    assert_eq!(rt; line.as_slice(), b"15 end PUMP\n".as_slice());
+    assert!(rt; is_line_of(0, &start, &setup, b"0 start VALVE 20\n"));
+    assert!(rt; is_line_of(15, &Event::End(0), &setup, b"15 end PUMP\n"));
     let mut text = ArrayVec::new();
     let _ = text.try_extend_from_slice(b"it's\n\\ 5");
-    let line = line_of(u64::MAX, &Event::Out { device: 1, text }, &setup);
-    assert_eq!(rt;
-        line.as_slice(),
-        b"18446744073709551615 out 12 'it''s\\n\\\\ 5'\n".as_slice()
-    );
+    let out = Event::Out { device: 1, text };
+    let want: &[u8] = b"18446744073709551615 out 12 'it''s\\n\\\\ 5'\n";
+    assert!(rt; is_line_of(u64::MAX, &out, &setup, want));
     Ok(())
 }
 
@@ -85,11 +73,19 @@ fn traps(rt: HostRuntime) -> Result<(), Fail> {
         (Trap::Format, b"3 trap PUMP Format\n"),
         (Trap::SemaLimit, b"3 trap PUMP SemaLimit\n"),
     ];
-    for (trap, want) in table {
-        let line = line_of(3, &Event::Trap { task: 0, trap }, &setup);
-        assert_eq!(rt; line.as_slice(), want);
+    for &(trap, want) in &table {
+        let event = Event::Trap { task: 0, trap };
+        assert!(rt; is_line_of(3, &event, &setup, want), "of {trap:?}");
     }
     Ok(())
+}
+
+// Whether this is the line of the task's state.
+fn is_state_line(shown: &Shown, want: &[u8]) -> bool {
+    let mut line = ArrayVec::new();
+    line.push(b'x');
+    state_line(100, b"PUMP", shown, &mut line);
+    line.as_slice() == want
 }
 
 #[test]
@@ -101,13 +97,25 @@ fn states(rt: HostRuntime) {
         (Shown::Running(10), b"100 state PUMP running 10\n"),
         (Shown::Runnable(10), b"100 state PUMP runnable 10\n"),
     ];
-    let mut line = ArrayVec::new();
-    for (shown, want) in table {
-        state_line(100, b"PUMP", &shown, &mut line);
-        assert_eq!(rt; line.as_slice(), want);
+    for (number, (shown, want)) in table.iter().enumerate() {
+        assert!(rt; is_state_line(shown, want), "row {number}");
     }
+}
+
+#[test]
+fn a_close(rt: HostRuntime) {
+    let mut line = ArrayVec::new();
+    line.push(b'x');
     close_line(86400000, &mut line);
-    assert_eq!(rt; line.as_slice(), b"86400000 close\n".as_slice());
+    assert!(rt; line.as_slice() == b"86400000 close\n".as_slice());
+}
+
+// Whether this is the line of the refusal.
+fn is_refusal_line(refusal: &Refusal, want: &[u8]) -> bool {
+    let mut line = ArrayVec::new();
+    line.push(b'x');
+    refusal_line(refusal, &mut line);
+    line.as_slice() == want
 }
 
 #[test]
@@ -130,9 +138,7 @@ fn refusals(rt: HostRuntime) {
         (Refusal::Memory, b"error memory\n"),
         (Refusal::TooLong(1_048_577), b"error too long 1048577\n"),
     ];
-    let mut line = ArrayVec::new();
-    for (refusal, want) in table {
-        refusal_line(&refusal, &mut line);
-        assert_eq!(rt; line.as_slice(), want);
+    for (number, (refusal, want)) in table.iter().enumerate() {
+        assert!(rt; is_refusal_line(refusal, want), "row {number}");
     }
 }

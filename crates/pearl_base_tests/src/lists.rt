@@ -9,20 +9,14 @@ use std::test::Fail;
 #[test]
 fn a_copy_is_the_same_value(rt: HostRuntime) {
     let cell = Cell::Fixed { len: 31, value: -7 };
-    match copy_of(&cell) {
-        Cell::Fixed { len, value } => {
-            assert_eq!(rt; len, 31);
-            assert_eq!(rt; value, -7);
-        }
-        _ => assert!(rt; false, "another kind"),
-    }
+    assert!(rt; matches!(copy_of(&cell), Cell::Fixed { len: 31, value: -7 }));
 }
 
 #[test]
 fn a_list_gives_its_items_back(rt: HostRuntime) -> Result<(), Fail> {
     let list = Listing::new(Vec::from_array(rt.alloc(), [3u8, 1, 2])?);
-    assert_eq!(rt; list.as_slice(), &[3u8, 1, 2][..]);
-    assert_eq!(rt; list.into_vec().as_slice(), &[3u8, 1, 2][..]);
+    assert!(rt; list.as_slice() == &[3u8, 1, 2][..]);
+    assert!(rt; list.into_vec().as_slice() == &[3u8, 1, 2][..]);
     Ok(())
 }
 
@@ -31,8 +25,8 @@ fn parts_show_their_items_in_order(rt: HostRuntime) -> Result<(), Fail> {
     let one = Number { value: 1, place: 4 };
     let two = Number { value: 2, place: 6 };
     let parts = Parts::new(Vec::from_array(rt.alloc(), [one, two])?);
-    assert_eq!(rt; parts.as_slice().len(), 2);
-    assert_eq!(rt; parts.as_slice()[0].place, 4);
-    assert_eq!(rt; parts.as_slice()[1].value, 2);
+    assert!(rt; parts.as_slice().len() == 2);
+    assert!(rt; parts.as_slice()[0].place == 4);
+    assert!(rt; parts.as_slice()[1].value == 2);
     Ok(())
 }

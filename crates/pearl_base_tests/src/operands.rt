@@ -1,7 +1,8 @@
 // Values as rows of tables write them.
 
 ghost use Rattle.std.specs.Prelude.{All, ◌<◌, length};
-ghost use Rattle.pearl_value.specs.WellFormed.{IsValue, IsLetter};
+ghost use Rattle.pearl_value.specs.declared.kind.Kind.{Kind};
+ghost use Rattle.pearl_value.specs.WellFormed.{IsValue, IsValueOf, IsLetter};
 
 use arrayvec::ArrayVec;
 use pearl_value::cell::Cell;
@@ -10,7 +11,7 @@ use pearl_value::kind::Kind;
 use std::process::Abort;
 
 /// A value.
-#[derive(Clone, Copy, Debug)]
+#[derive(Clone, Copy)]
 pub enum Given {
     Fixed(u8, i64),
     Bits(u8, u64),
@@ -19,12 +20,19 @@ pub enum Given {
     Span(i64),
 }
 
+/// A number of the longest FIXED.
+fn longest(value: i64) -> Cell
+    ensures { IsValueOf (Kind.Fixed 63) result }
+{
+    Cell::Fixed { len: 63, value }
+}
+
 /// A FIXED number, as far as it is one.
 fn number(rt: &impl Abort, len: u8, value: i64) -> Cell
     ensures { IsValue result }
 {
     assert!(rt; 1 <= len && len <= 63);
-    match convert(&Cell::Fixed { len: 63, value }, Kind::Fixed(len)) {
+    match convert(&longest(value), Kind::Fixed(len)) {
         Ok(cell) => cell,
         Err(_) => panic!(rt; "no number of this length"),
     }

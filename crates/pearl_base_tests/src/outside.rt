@@ -18,97 +18,114 @@ fn two_files(alloc: Global) -> Result<Vec<File>, AllocError> {
     Ok(files)
 }
 
-/// The kind of an answer.
-#[derive(Clone, Copy, PartialEq, Eq, Debug)]
-enum Told {
-    Whole,
-    TooLong,
-    Fault,
-    NoMemory,
+/// What a row wants of a call that fetches.
+#[derive(Clone, Copy)]
+enum Wanted {
+    Whole(&'static [u8]),
+    TooLong(&'static [u8]),
+    Fault(&'static [u8]),
 }
 
-/// The kind of an answer, and its bytes.
-type Answer = (Told, Vec<u8>);
-
-fn answer(alloc: Global, fetched: Fetched) -> Answer {
-    match fetched {
-        Fetched::Whole(bytes) => (Told::Whole, bytes),
-        Fetched::TooLong(bytes) => (Told::TooLong, bytes),
-        Fetched::Fault(bytes) => (Told::Fault, bytes),
-        Fetched::NoMemory => (Told::NoMemory, Vec::new(alloc)),
+fn is_wanted(fetched: &Fetched, wanted: Wanted) -> bool {
+    match (fetched, wanted) {
+        (Fetched::Whole(found), Wanted::Whole(bytes)) => found.as_slice() == bytes,
+        (Fetched::TooLong(found), Wanted::TooLong(bytes)) => found.as_slice() == bytes,
+        (Fetched::Fault(found), Wanted::Fault(bytes)) => found.as_slice() == bytes,
+        _ => false,
     }
 }
 
-fn from_sure(alloc: Global, name: &str) -> Result<Answer, AllocError> {
+fn surely_gives(alloc: Global, name: &str, wanted: Wanted) -> Result<bool, AllocError> {
     let mut shelf = SureShelf::new(two_files(alloc)?);
-    Ok(answer(alloc, fetch_all(alloc, &mut shelf, name, 99)))
+    Ok(is_wanted(&fetch_all(alloc, &mut shelf, name, 99), wanted))
 }
 
-fn from_memory(
-    alloc: Global,
-    name: &str,
+// A file that is fetched up to a limit, where these calls fail and each gives so many bytes at most.
+struct Fetch {
+    name: &'static str,
     limit: u32,
-    failing: &[u64],
+    failing: &'static [u64],
     most: usize,
-) -> Result<Answer, AllocError> {
-    let failing = Vec::from_slice(alloc, failing)?;
-    let mut shelf = MemoryShelf::new(two_files(alloc)?, failing, most.max(1));
-    let fetched = fetch_all(alloc, &mut shelf, name, u64::from(limit));
-    Ok(answer(alloc, fetched))
+    wanted: Wanted,
 }
 
-// Whether the bytes are put whole, and what was taken.
-fn into_sure(alloc: Global, room: usize, piece: &[u8]) -> Result<(bool, Vec<u8>), AllocError> {
-    let mut sink = SureSink::new(alloc, room)?;
-    let whole = put_all(&mut sink, piece).is_ok();
-    Ok((whole, Vec::from_slice(alloc, sink.bytes())?))
+/// Rows of files that are fetched.
+macro_rules! fetches {
+    ($($name:literal to $limit:literal, $failing:tt, $most:literal => $wanted:ident($bytes:literal);)*) => {
+        [$(Fetch {
+            name: $name,
+            limit: $limit,
+            failing: &$failing,
+            most: $most,
+            wanted: Wanted::$wanted($bytes),
+        }),*]
+    };
 }
 
-fn into_memory(
-    alloc: Global,
-    failing: &[u64],
-    most: usize,
-    piece: &[u8],
-) -> Result<(bool, Vec<u8>), AllocError> {
-    let mut sink = MemorySink::new(alloc, Vec::from_slice(alloc, failing)?, most);
-    let whole = put_all(&mut sink, piece).is_ok();
-    Ok((whole, Vec::from_slice(alloc, sink.bytes())?))
+static FETCHES: [Fetch; 8] = fetches! {
+    "a" to 99, [], 2 => Whole(b"alpha");
+    "b" to 99, [], 2 => Whole(b"");
+    "c" to 99, [], 2 => Whole(b"");
+    "a" to 5, [], 1 => Whole(b"alpha");
+    "a" to 4, [], 1 => TooLong(b"alph");
+    "a" to 0, [], 1 => TooLong(b"");
+    "a" to 5, [2], 1 => Fault(b"a");
+    "a" to 5, [6], 1 => Fault(b"alpha");
+};
+
+fn gives(alloc: Global, row: &Fetch) -> Result<bool, AllocError> {
+    let failing = Vec::from_slice(alloc, row.failing)?;
+    let mut shelf = MemoryShelf::new(two_files(alloc)?, failing, row.most.max(1));
+    let fetched = fetch_all(alloc, &mut shelf, row.name, u64::from(row.limit));
+    Ok(is_wanted(&fetched, row.wanted))
 }
 
 #[test]
-fn shelves_give_their_files(rt: HostRuntime) -> Result<(), Fail> {
-    let alloc = rt.alloc();
-    for (name, want) in [("a", b"alpha".as_slice()), ("b", b""), ("c", b"")] {
-        let (told, bytes) = from_sure(alloc, name)?;
-        assert_eq!(rt; told, Told::Whole, "of {name}");
-        assert_eq!(rt; bytes.as_slice(), want, "of {name}");
-        let (told, bytes) = from_memory(alloc, name, 99, &[], 2)?;
-        assert_eq!(rt; told, Told::Whole, "of {name}");
-        assert_eq!(rt; bytes.as_slice(), want, "of {name}");
+fn a_sure_shelf_gives_its_files(rt: HostRuntime) -> Result<(), Fail> {
+    for (name, bytes) in [("a", b"alpha".as_slice()), ("b", b""), ("c", b"")] {
+        assert!(rt;
+            surely_gives(rt.alloc(), name, Wanted::Whole(bytes))?,
+            "{name}"
+        );
     }
     Ok(())
 }
 
 #[test]
 fn fetching_stops_at_a_fault_and_at_the_limit(rt: HostRuntime) -> Result<(), Fail> {
-    let cases: [(u32, &[u64], Told, &[u8]); 5] = [
-        (5, &[], Told::Whole, b"alpha"),
-        (4, &[], Told::TooLong, b"alph"),
-        (0, &[], Told::TooLong, b""),
-        (5, &[2], Told::Fault, b"a"),
-        (5, &[6], Told::Fault, b"alpha"),
-    ];
-    for (limit, failing, want, front) in cases {
-        let (told, bytes) = from_memory(rt.alloc(), "a", limit, failing, 1)?;
-        assert_eq!(rt; told, want, "up to {limit}");
-        assert_eq!(rt; bytes.as_slice(), front, "up to {limit}");
+    for (number, row) in FETCHES.iter().enumerate() {
+        assert!(rt; gives(rt.alloc(), row)?, "row {number}");
     }
     Ok(())
 }
 
+// Whether the piece is put whole or not, as this says, and this is taken of it.
+fn surely_takes(
+    alloc: Global,
+    room: usize,
+    piece: &[u8],
+    is_whole: bool,
+    taken: &[u8],
+) -> Result<bool, AllocError> {
+    let mut sink = SureSink::new(alloc, room)?;
+    let is_put = put_all(&mut sink, piece).is_ok();
+    Ok(is_put == is_whole && sink.bytes() == taken)
+}
+
+fn takes(
+    alloc: Global,
+    failing: &[u64],
+    most: usize,
+    is_whole: bool,
+    taken: &[u8],
+) -> Result<bool, AllocError> {
+    let mut sink = MemorySink::new(alloc, Vec::from_slice(alloc, failing)?, most);
+    let is_put = put_all(&mut sink, b"hello").is_ok();
+    Ok(is_put == is_whole && sink.bytes() == taken)
+}
+
 #[test]
 fn sinks_take_what_is_put(rt: HostRuntime) -> Result<(), Fail> {
-    let alloc = rt.alloc();
     let cases: [(&[u64], usize, bool, &[u8]); 5] = [
         (&[], usize::MAX, true, b"hello"),
         (&[], 1, true, b"hello"),
@@ -116,28 +133,32 @@ fn sinks_take_what_is_put(rt: HostRuntime) -> Result<(), Fail> {
         (&[3], 1, false, b"he"),
         (&[6], 1, true, b"hello"),
     ];
-    for (failing, most, whole, taken) in cases {
-        let (is_whole, bytes) = into_memory(alloc, failing, most, b"hello")?;
-        assert_eq!(rt; is_whole, whole, "by {most}");
-        assert_eq!(rt; bytes.as_slice(), taken, "by {most}");
+    for (failing, most, is_whole, taken) in cases {
+        assert!(rt;
+            takes(rt.alloc(), failing, most, is_whole, taken)?,
+            "{is_whole} by {most}"
+        );
     }
     Ok(())
 }
 
 #[test]
 fn a_room_is_filled_and_no_more(rt: HostRuntime) -> Result<(), Fail> {
-    let alloc = rt.alloc();
-    for (room, whole, taken) in [
-        (6, true, b"hello".as_slice()),
-        (5, true, b"hello"),
-        (2, false, b"he"),
-        (0, false, b""),
-    ] {
-        let (is_whole, bytes) = into_sure(alloc, room, b"hello")?;
-        assert_eq!(rt; is_whole, whole, "in {room}");
-        assert_eq!(rt; bytes.as_slice(), taken, "in {room}");
-        let (nothing, _) = into_sure(alloc, room, b"")?;
-        assert!(rt; nothing, "nothing in {room}");
+    let cases: [(usize, &[u8], bool, &[u8]); 8] = [
+        (6, b"hello", true, b"hello"),
+        (6, b"", true, b""),
+        (5, b"hello", true, b"hello"),
+        (5, b"", true, b""),
+        (2, b"hello", false, b"he"),
+        (2, b"", true, b""),
+        (0, b"hello", false, b""),
+        (0, b"", true, b""),
+    ];
+    for (room, piece, is_whole, taken) in cases {
+        assert!(rt;
+            surely_takes(rt.alloc(), room, piece, is_whole, taken)?,
+            "{is_whole} in {room}"
+        );
     }
     Ok(())
 }

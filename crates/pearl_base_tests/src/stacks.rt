@@ -9,7 +9,6 @@ use pearl_value::kind::Kind;
 use std::test::Fail;
 
 /// A frame as a row of a table: where it stands, the numbers in its cells, and its operands from the first one pushed.
-#[derive(Clone, Copy, Debug)]
 struct Row {
     routine: u32,
     instruction: u64,
@@ -210,6 +209,6 @@ fn cells_may_be_of_any_kind(rt: HostRuntime) -> Result<(), Fail> {
 #[test]
 fn a_stack_may_have_no_room(rt: HostRuntime) -> Result<(), Fail> {
     let stack = Parked::new(rt.alloc(), 0, 0)?.load();
-    assert_eq!(rt; stack.frames(), 0);
+    assert!(rt; stack.frames() == 0);
     Ok(())
 }
