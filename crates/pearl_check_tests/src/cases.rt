@@ -4,6 +4,12 @@ use pearl_lex::lexer::tokens;
 use pearl_parse::parse::parse;
 use pearl_tree::tree::Tree;
 use std::alloc::{AllocError, Global};
+use std::process::Abort;
+
+/// Ends the test that says of this case what isn't so.
+pub fn expect(rt: &impl Abort, is_so: bool, case: &str) {
+    assert!(rt; is_so, "{case}");
+}
 
 /// Stands before what breaks a rule.
 pub const MARK: u8 = b'^';
@@ -39,11 +45,6 @@ pub fn tree_of(alloc: Global, source: &[u8]) -> Option<Tree> {
         return None;
     }
     let end = source.len() as u32;
-    match tokens(alloc, source) {
-        Ok(tokens) => match parse(alloc, tokens.as_slice(), end) {
-            Ok(tree) => Some(tree),
-            Err(_) => None,
-        },
-        Err(_) => None,
-    }
+    let tokens = tokens(alloc, source).ok()?;
+    parse(alloc, tokens.as_slice(), end).ok()
 }

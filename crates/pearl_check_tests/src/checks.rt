@@ -1,7 +1,7 @@
 // Modules worked out by hand, each with its sizes, tasks, procedures and slots, or with the first rule that it breaks, at its
 // mark: cycles of calls, sizes and weights, and rules of all sorts beside each other.
 
-use crate::cases::{places_of, source_of, tree_of};
+use crate::cases::{expect, places_of, source_of, tree_of};
 use pearl_check::check;
 use pearl_check::fault::CheckFault;
 use std::alloc::{AllocError, Global};
@@ -74,7 +74,7 @@ fn shown(alloc: Global, case: &str) -> Result<String, AllocError> {
 fn sizes_or_first_rules_are_told(rt: HostRuntime) -> Result<(), Fail> {
     for &(case, expected) in modules() {
         let found = shown(rt.alloc(), case)?;
-        assert_eq!(rt; found.as_str(), expected, "{case}");
+        expect(&rt, found.as_str() == expected, case);
     }
     Ok(())
 }
@@ -88,6 +88,21 @@ fn declared(alloc: Global, before: &str, behind: &str, count: u32) -> Result<Str
     Ok(text)
 }
 
+// Whether so many declarations come to these sizes, and one more breaks S34.
+fn is_limit(
+    alloc: Global,
+    before: &str,
+    behind: &str,
+    limit: u32,
+    sizes: &str,
+) -> Result<bool, AllocError> {
+    let enough = declared(alloc, before, behind, limit)?;
+    let within = shown(alloc, enough.as_str())?;
+    let beyond = declared(alloc, before, behind, limit.saturating_add(1))?;
+    let past = shown(alloc, beyond.as_str())?;
+    Ok(within.as_str() == sizes && past.as_str() == "S34")
+}
+
 #[test]
 fn limits_themselves_are_within(rt: HostRuntime) -> Result<(), Fail> {
     let limits: [(&str, &str, u32, &str); 4] = [
@@ -97,12 +112,11 @@ fn limits_themselves_are_within(rt: HostRuntime) -> Result<(), Fail> {
         ("DCL ", "(64) CLOCK;", 1024, "0 0 65536"),
     ];
     for &(before, behind, limit, sizes) in &limits {
-        let enough = declared(rt.alloc(), before, behind, limit)?;
-        let found = shown(rt.alloc(), enough.as_str())?;
-        assert_eq!(rt; found.as_str(), sizes, "{behind}");
-        let beyond = declared(rt.alloc(), before, behind, limit + 1)?;
-        let found = shown(rt.alloc(), beyond.as_str())?;
-        assert_eq!(rt; found.as_str(), "S34", "{behind}");
+        expect(
+            &rt,
+            is_limit(rt.alloc(), before, behind, limit, sizes)?,
+            behind,
+        );
     }
     Ok(())
 }
@@ -118,15 +132,18 @@ fn deep(alloc: Global, name: &str, fields: u32) -> Result<String, AllocError> {
     Ok(text)
 }
 
+// Whether a leaf below 15 such fields, of a variable of this name, comes to this.
+fn deep_is(alloc: Global, name: &str, expected: &str) -> Result<bool, AllocError> {
+    let case = deep(alloc, name, 15)?;
+    let found = shown(alloc, case.as_str())?;
+    Ok(found.as_str() == expected)
+}
+
 #[test]
 fn names_of_leaves_have_1024_bytes(rt: HostRuntime) -> Result<(), Fail> {
     let name = "vvvvvvvvvvvvvvvvvvvvvvvvvvvvvvvvvvvvvvvvvvvvvvvvvvvvvvvvvvvvvv";
-    let enough = deep(rt.alloc(), name, 15)?;
-    let found = shown(rt.alloc(), enough.as_str())?;
-    assert_eq!(rt; found.as_str(), "0 0 1");
-    let longer = format!(in rt.alloc(); "{name}v")?;
-    let beyond = deep(rt.alloc(), longer.as_str(), 15)?;
-    let found = shown(rt.alloc(), beyond.as_str())?;
-    assert_eq!(rt; found.as_str(), "S34");
+    let longer = "vvvvvvvvvvvvvvvvvvvvvvvvvvvvvvvvvvvvvvvvvvvvvvvvvvvvvvvvvvvvvvv";
+    assert!(rt; deep_is(rt.alloc(), name, "0 0 1")?);
+    assert!(rt; deep_is(rt.alloc(), longer, "S34")?);
     Ok(())
 }

@@ -1,8 +1,17 @@
 // Sources with marks in them, so that a case shows the places that it tells.
 
 use pearl_lex::lexer::tokens;
+use pearl_parse::parse::parse;
+use pearl_tree::fault::RuleFault;
 use pearl_tree::token::Token;
+use pearl_tree::tree::Tree;
 use std::alloc::{AllocError, Global};
+use std::process::Abort;
+
+/// Ends the test that says of this case what isn't so.
+pub fn expect(rt: &impl Abort, is_so: bool, case: &str) {
+    assert!(rt; is_so, "{case}");
+}
 
 /// Stands where what is read ends.
 pub const END: u8 = b'|';
@@ -99,4 +108,30 @@ pub fn case_of(alloc: Global, case: &[u8]) -> Option<Case> {
         None => end?,
     };
     Some(Case { tokens, end, stop })
+}
+
+/// The tree of a case, if its source has one.
+pub fn tree_of(alloc: Global, case: &[u8]) -> Option<Tree> {
+    let source = source_of(alloc, case).ok()?;
+    let (tokens, end) = tokens_of(alloc, source.as_slice())?;
+    parse(alloc, tokens.as_slice(), end).ok()
+}
+
+/// Shows the broken rules of a case, each with a blank behind it. One that isn't told at its mark has its place in front.
+pub fn show_faults(
+    into: &mut String,
+    faults: &[RuleFault],
+    places: &[u32],
+) -> Result<(), AllocError> {
+    let mut marks = places.iter();
+    for fault in faults {
+        if marks.next() != Some(&fault.place) {
+            write!(into, "{}:", fault.place)?;
+        }
+        write!(into, "S{} ", fault.rule)?;
+    }
+    if marks.next().is_some() {
+        into.push_str("a mark too many ")?;
+    }
+    Ok(())
 }

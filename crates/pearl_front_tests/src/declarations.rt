@@ -1,6 +1,6 @@
 // Parts that were worked out by hand, each with the place behind it and the token that ends it.
 
-use crate::cases::case_of;
+use crate::cases::{case_of, expect};
 use pearl_parse_decl::declaration::{declare, length_of, specify, type_of};
 use pearl_parse_decl::head::{returns, task_head};
 use pearl_parse_decl::list::{Readable, list};
@@ -315,14 +315,14 @@ fn is_read(alloc: Global, reader: Reader, case: &[u8]) -> bool {
 fn parts_end_where_the_grammar_says(rt: HostRuntime) -> Result<(), fmt::Error> {
     for &reader in readers() {
         for &case in cases_of(reader) {
-            assert!(rt; is_read(rt.alloc(), reader, case.as_bytes()), "{case}");
+            expect(&rt, is_read(rt.alloc(), reader, case.as_bytes()), case);
         }
     }
     Ok(())
 }
 
-// A variable whose type has 7 STRUCTs around this type.
-fn nested(alloc: Global, typing: &str) -> Result<Vec<u8>, AllocError> {
+// Whether a variable is read up to the marks whose type has 7 STRUCTs around this type, with this behind it.
+fn reads_nested(alloc: Global, typing: &str, behind: &str) -> Result<bool, AllocError> {
     let mut case = Vec::from_slice(alloc, b"a ")?;
     for _ in 0..7 {
         case.extend_from_slice(b"STRUCT [ b ")?;
@@ -331,16 +331,13 @@ fn nested(alloc: Global, typing: &str) -> Result<Vec<u8>, AllocError> {
     for _ in 0..7 {
         case.extend_from_slice(b" ]")?;
     }
-    Ok(case)
+    case.extend_from_slice(behind.as_bytes())?;
+    Ok(is_read(alloc, Reader::Item, case.as_slice()))
 }
 
 #[test]
 fn structs_nest_8_deep(rt: HostRuntime) -> Result<(), AllocError> {
-    let alloc = rt.alloc();
-    let mut case = nested(alloc, "STRUCT [ b FIXED ]")?;
-    case.push(b'|')?;
-    assert!(rt; is_read(alloc, Reader::Item, case.as_slice()));
-    let case = nested(alloc, "STRUCT [ b ^STRUCT [ b FIXED ] ]")?;
-    assert!(rt; is_read(alloc, Reader::Item, case.as_slice()));
+    assert!(rt; reads_nested(rt.alloc(), "STRUCT [ b FIXED ]", "|")?);
+    assert!(rt; reads_nested(rt.alloc(), "STRUCT [ b ^STRUCT [ b FIXED ] ]", "")?);
     Ok(())
 }

@@ -1,7 +1,6 @@
 // Devices and the rules S10 to S14 of small modules, worked out by hand.
 
-use crate::cases::{STOP, places_of, source_of, tokens_of};
-use pearl_parse::parse::parse;
+use crate::cases::{STOP, expect, places_of, show_faults, tree_of};
 use pearl_system::device::{Role, SpecifiedDevice};
 use pearl_system::system;
 use pearl_tree::declaration::Direction;
@@ -94,31 +93,15 @@ fn show_device(into: &mut String, device: &SpecifiedDevice) -> Result<(), AllocE
 // The broken rules of a module and its devices, each with a blank behind it, or what it has in place of them. A rule that
 // isn't told at its mark has its place in front.
 fn shown(alloc: Global, case: &[u8]) -> Result<String, AllocError> {
-    let mut text = String::new(alloc);
-    let source = source_of(alloc, case)?;
+    let Some(tree) = tree_of(alloc, case) else {
+        return String::from_str(alloc, "no tree");
+    };
     let places = places_of(alloc, case, STOP)?;
-    let Some((tokens, end)) = tokens_of(alloc, source.as_slice()) else {
-        text.push_str("no tokens")?;
-        return Ok(text);
-    };
-    let Ok(tree) = parse(alloc, tokens.as_slice(), end) else {
-        text.push_str("no tree")?;
-        return Ok(text);
-    };
+    let mut text = String::new(alloc);
     let Ok((devices, faults)) = system(alloc, &tree) else {
-        text.push_str("no memory")?;
-        return Ok(text);
+        return Err(AllocError);
     };
-    let mut marks = places.as_slice().iter();
-    for fault in faults.as_slice() {
-        if marks.next() != Some(&fault.place) {
-            write!(text, "{}:", fault.place)?;
-        }
-        write!(text, "S{} ", fault.rule)?;
-    }
-    if marks.next().is_some() {
-        text.push_str("a mark too many ")?;
-    }
+    show_faults(&mut text, faults.as_slice(), places.as_slice())?;
     for device in devices.as_slice() {
         show_device(&mut text, device)?;
     }
@@ -129,7 +112,7 @@ fn shown(alloc: Global, case: &[u8]) -> Result<String, AllocError> {
 fn modules_have_their_devices_and_faults(rt: HostRuntime) -> Result<(), Fail> {
     for &(case, expected) in modules() {
         let found = shown(rt.alloc(), case.as_bytes())?;
-        assert_eq!(rt; found.as_str(), expected, "{case}");
+        expect(&rt, found.as_str() == expected, case);
     }
     Ok(())
 }

@@ -1,6 +1,6 @@
 // Expressions that were worked out by hand, each written back with a bracket round each dyadic operator.
 
-use crate::cases::{Case, case_of};
+use crate::cases::{Case, case_of, expect};
 use pearl_parse_expr::expression::expression;
 use pearl_parse_expr::fault::ParseFault;
 use pearl_tree::expression::{Expr, Operand, Primary, Ref, Selector, Side};
@@ -233,8 +233,8 @@ fn reads(alloc: Global, case: &[u8], text: &[u8]) -> bool {
     }
 }
 
-fn is_refused(alloc: Global, tokens: &[Token], stop: u32) -> bool {
-    match expression(alloc, tokens, 0) {
+fn is_refused(alloc: Global, tokens: &[Token], from: usize, stop: u32) -> bool {
+    match expression(alloc, tokens, from) {
         Ok(_) => false,
         Err(fault) => match fault {
             ParseFault::Refused(place) => place == stop,
@@ -247,7 +247,7 @@ fn refuses(alloc: Global, case: &[u8]) -> bool {
     match case_of(alloc, case) {
         Some(case) => {
             let stop = place_or_none(case.tokens.as_slice(), case.stop);
-            case.end.is_none() && is_refused(alloc, case.tokens.as_slice(), stop)
+            case.end.is_none() && is_refused(alloc, case.tokens.as_slice(), 0, stop)
         }
         None => false,
     }
@@ -267,63 +267,87 @@ fn repeated(alloc: Global, parts: &[(&str, usize)]) -> Result<Vec<u8>, AllocErro
 #[test]
 fn expressions_are_read_to_their_end(rt: HostRuntime) -> Result<(), fmt::Error> {
     for &(case, text) in read() {
-        assert!(rt;
+        expect(
+            &rt,
             reads(rt.alloc(), case.as_bytes(), text.as_bytes()),
-            "{case}"
+            case,
         );
     }
+    Ok(())
+}
+
+#[test]
+fn what_begins_no_expression_is_refused(rt: HostRuntime) -> Result<(), fmt::Error> {
     for &case in refused() {
-        assert!(rt; refuses(rt.alloc(), case.as_bytes()), "{case}");
+        expect(&rt, refuses(rt.alloc(), case.as_bytes()), case);
     }
     Ok(())
 }
 
 #[test]
 fn a_token_after_the_last_begins_none(rt: HostRuntime) -> Result<(), fmt::Error> {
-    match expression(rt.alloc(), &[], 7) {
-        Ok(_) => assert!(rt; false),
-        Err(fault) => match fault {
-            ParseFault::Refused(place) => assert!(rt; place == NO_PLACE),
-            ParseFault::NoMemory => assert!(rt; false),
-        },
+    assert!(rt; is_refused(rt.alloc(), &[], 7, NO_PLACE));
+    Ok(())
+}
+
+/// Parts, each so many times.
+type Parts = &'static [(&'static str, usize)];
+
+// Cases of parts with what is shown of them: brackets nest 32 deep, a level has 100 dyadic operators, and a primary has 8
+// monadic ones.
+static READ: [(Parts, Parts); 6] = [
+    (
+        &[("(", 32), ("a", 1), (")", 32), ("|", 1)],
+        &[("[", 32), ("a", 1), ("]", 32)],
+    ),
+    (
+        &[("f(", 32), ("a", 1), (")", 32), ("|", 1)],
+        &[("f(", 32), ("a", 1), (")", 32)],
+    ),
+    (
+        &[("f|", 1), ("(f", 32), ("^(a)", 1), (")", 32)],
+        &[("f", 1)],
+    ),
+    (
+        &[("a", 1), ("+a", 100), ("|", 1)],
+        &[("(", 100), ("a", 1), ("+a)", 100)],
+    ),
+    (
+        &[("a", 1), ("+a", 100), ("|+a", 1)],
+        &[("(", 100), ("a", 1), ("+a)", 100)],
+    ),
+    (&[("-", 8), ("a|", 1)], &[("-", 8), ("a", 1)]),
+];
+
+// Cases of parts that pass these limits.
+static REFUSED: [Parts; 2] = [
+    &[("(", 32), ("^(a)", 1), (")", 32)],
+    &[("-", 8), ("^-a", 1)],
+];
+
+fn reads_parts(alloc: Global, case: Parts, shown: Parts) -> Result<bool, AllocError> {
+    let case = repeated(alloc, case)?;
+    let shown = repeated(alloc, shown)?;
+    Ok(reads(alloc, case.as_slice(), shown.as_slice()))
+}
+
+fn refuses_parts(alloc: Global, case: Parts) -> Result<bool, AllocError> {
+    let case = repeated(alloc, case)?;
+    Ok(refuses(alloc, case.as_slice()))
+}
+
+#[test]
+fn levels_and_operators_are_read_up_to_their_limits(rt: HostRuntime) -> Result<(), AllocError> {
+    for (number, &(case, shown)) in READ.iter().enumerate() {
+        assert!(rt; reads_parts(rt.alloc(), case, shown)?, "row {number}");
     }
     Ok(())
 }
 
 #[test]
-fn brackets_nest_32_deep(rt: HostRuntime) -> Result<(), AllocError> {
-    let alloc = rt.alloc();
-    let shown = repeated(alloc, &[("[", 32), ("a", 1), ("]", 32)])?;
-    let case = repeated(alloc, &[("(", 32), ("a", 1), (")", 32), ("|", 1)])?;
-    assert!(rt; reads(alloc, case.as_slice(), shown.as_slice()));
-    let case = repeated(alloc, &[("(", 32), ("^(a)", 1), (")", 32)])?;
-    assert!(rt; refuses(alloc, case.as_slice()));
-    let shown = repeated(alloc, &[("f(", 32), ("a", 1), (")", 32)])?;
-    let case = repeated(alloc, &[("f(", 32), ("a", 1), (")", 32), ("|", 1)])?;
-    assert!(rt; reads(alloc, case.as_slice(), shown.as_slice()));
-    let case = repeated(alloc, &[("f|", 1), ("(f", 32), ("^(a)", 1), (")", 32)])?;
-    assert!(rt; reads(alloc, case.as_slice(), b"f"));
-    Ok(())
-}
-
-#[test]
-fn a_level_has_100_dyadic_operators(rt: HostRuntime) -> Result<(), AllocError> {
-    let alloc = rt.alloc();
-    let shown = repeated(alloc, &[("(", 100), ("a", 1), ("+a)", 100)])?;
-    let case = repeated(alloc, &[("a", 1), ("+a", 100), ("|", 1)])?;
-    assert!(rt; reads(alloc, case.as_slice(), shown.as_slice()));
-    let case = repeated(alloc, &[("a", 1), ("+a", 100), ("|+a", 1)])?;
-    assert!(rt; reads(alloc, case.as_slice(), shown.as_slice()));
-    Ok(())
-}
-
-#[test]
-fn a_primary_has_8_monadic_operators(rt: HostRuntime) -> Result<(), AllocError> {
-    let alloc = rt.alloc();
-    let shown = repeated(alloc, &[("-", 8), ("a", 1)])?;
-    let case = repeated(alloc, &[("-", 8), ("a|", 1)])?;
-    assert!(rt; reads(alloc, case.as_slice(), shown.as_slice()));
-    let case = repeated(alloc, &[("-", 8), ("^-a", 1)])?;
-    assert!(rt; refuses(alloc, case.as_slice()));
+fn what_passes_their_limits_is_refused(rt: HostRuntime) -> Result<(), AllocError> {
+    for (number, &case) in REFUSED.iter().enumerate() {
+        assert!(rt; refuses_parts(rt.alloc(), case)?, "row {number}");
+    }
     Ok(())
 }

@@ -1,9 +1,8 @@
 // Statements of small modules, worked out by hand: the rules on the kinds of expressions that are broken at their marks.
 
-use crate::cases::{STOP, places_of, source_of, tokens_of};
+use crate::cases::{STOP, expect, places_of, show_faults, tree_of};
 use pearl_check_expr::subject::{Subject, kind_of};
 use pearl_names::table::{SenseTable, table_of};
-use pearl_parse::parse::parse;
 use pearl_tree::fault::{RuleFault, in_order};
 use pearl_tree::statement::{Body, Stmt};
 use pearl_tree::tree::{Decl, Tree};
@@ -74,29 +73,14 @@ fn faults_of(alloc: Global, tree: &Tree) -> Result<Vec<RuleFault>, AllocError> {
 // The broken rules of a module, each with a blank behind it, or what it has in place of them. A rule that isn't told at its
 // mark has its place in front.
 fn shown(alloc: Global, case: &str) -> Result<String, AllocError> {
-    let mut text = String::new(alloc);
     let case = format!(in alloc; "MODULE;PROBLEM;{case}MODEND")?;
-    let source = source_of(alloc, case.as_bytes())?;
+    let Some(tree) = tree_of(alloc, case.as_bytes()) else {
+        return String::from_str(alloc, "no tree");
+    };
     let places = places_of(alloc, case.as_bytes(), STOP)?;
-    let Some((tokens, end)) = tokens_of(alloc, source.as_slice()) else {
-        text.push_str("no tokens")?;
-        return Ok(text);
-    };
-    let Ok(tree) = parse(alloc, tokens.as_slice(), end) else {
-        text.push_str("no tree")?;
-        return Ok(text);
-    };
+    let mut text = String::new(alloc);
     let faults = faults_of(alloc, &tree)?;
-    let mut marks = places.as_slice().iter();
-    for fault in faults.as_slice() {
-        if marks.next() != Some(&fault.place) {
-            write!(text, "{}:", fault.place)?;
-        }
-        write!(text, "S{} ", fault.rule)?;
-    }
-    if marks.next().is_some() {
-        text.push_str("a mark too many ")?;
-    }
+    show_faults(&mut text, faults.as_slice(), places.as_slice())?;
     Ok(text)
 }
 
@@ -104,7 +88,7 @@ fn shown(alloc: Global, case: &str) -> Result<String, AllocError> {
 fn expressions_break_the_rules_at_their_marks(rt: HostRuntime) -> Result<(), Fail> {
     for &(case, expected) in modules() {
         let found = shown(rt.alloc(), case)?;
-        assert_eq!(rt; found.as_str(), expected, "{case}");
+        expect(&rt, found.as_str() == expected, case);
     }
     Ok(())
 }

@@ -1,6 +1,6 @@
 // Modules that were worked out by hand, each shown by a mark for each of its parts.
 
-use crate::cases::{STOP, place_of, source_of, tokens_of};
+use crate::cases::{STOP, expect, place_of, source_of, tokens_of};
 use pearl_parse::parse::parse;
 use pearl_parse_expr::fault::ParseFault;
 use pearl_tree::declaration::Device;
@@ -200,7 +200,7 @@ pub fn refuses(alloc: Global, case: &[u8]) -> Option<bool> {
 fn modules_are_read_from_the_first_token_to_the_last(rt: HostRuntime) -> Result<(), fmt::Error> {
     for &(case, text) in read() {
         let found = reads(rt.alloc(), case.as_bytes(), text.as_bytes());
-        assert!(rt; found == Some(true), "{case}");
+        expect(&rt, found == Some(true), case);
     }
     Ok(())
 }
@@ -208,9 +208,10 @@ fn modules_are_read_from_the_first_token_to_the_last(rt: HostRuntime) -> Result<
 #[test]
 fn what_is_no_module_is_refused_where_it_stops(rt: HostRuntime) -> Result<(), fmt::Error> {
     for &case in refused() {
-        assert!(rt;
+        expect(
+            &rt,
             refuses(rt.alloc(), case.as_bytes()) == Some(true),
-            "{case}"
+            case,
         );
     }
     Ok(())
@@ -224,7 +225,7 @@ fn the_first_token_with_which_no_module_begins_is_told(rt: HostRuntime) -> Resul
             Some((tokens, end)) => is_refused(rt.alloc(), tokens.as_slice(), *end, place),
             None => false,
         };
-        assert!(rt; told, "{source}");
+        expect(&rt, told, source);
     }
     Ok(())
 }
@@ -232,9 +233,10 @@ fn the_first_token_with_which_no_module_begins_is_told(rt: HostRuntime) -> Resul
 #[test]
 fn an_abandoned_alternative_is_told_where_it_stops(rt: HostRuntime) -> Result<(), fmt::Error> {
     for &case in abandoned() {
-        assert!(rt;
+        expect(
+            &rt,
             refuses(rt.alloc(), case.as_bytes()) == Some(true),
-            "{case}"
+            case,
         );
     }
     Ok(())

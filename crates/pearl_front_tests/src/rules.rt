@@ -1,7 +1,6 @@
 // Names, types and declarations of small modules, worked out by hand: the rules that are broken at their marks.
 
-use crate::cases::{STOP, places_of, source_of, tokens_of};
-use pearl_parse::parse::parse;
+use crate::cases::{STOP, expect, places_of, show_faults, tree_of};
 use pearl_scope::scopes;
 use std::alloc::{AllocError, Global};
 use std::test::Fail;
@@ -112,7 +111,7 @@ fn breaks_s2(alloc: Global, case: &str) -> Result<bool, AllocError> {
 #[test]
 fn names_are_asked_wherever_they_stand(rt: HostRuntime) -> Result<(), Fail> {
     for &case in statements() {
-        assert!(rt; breaks_s2(rt.alloc(), case)?, "{case}");
+        expect(&rt, breaks_s2(rt.alloc(), case)?, case);
     }
     Ok(())
 }
@@ -120,28 +119,13 @@ fn names_are_asked_wherever_they_stand(rt: HostRuntime) -> Result<(), Fail> {
 // The broken rules of a module, each with a blank behind it, or what it has in place of them. A rule that isn't told at its
 // mark has its place in front.
 fn shown(alloc: Global, case: &[u8]) -> Result<String, AllocError> {
-    let mut text = String::new(alloc);
-    let source = source_of(alloc, case)?;
+    let Some(tree) = tree_of(alloc, case) else {
+        return String::from_str(alloc, "no tree");
+    };
     let places = places_of(alloc, case, STOP)?;
-    let Some((tokens, end)) = tokens_of(alloc, source.as_slice()) else {
-        text.push_str("no tokens")?;
-        return Ok(text);
-    };
-    let Ok(tree) = parse(alloc, tokens.as_slice(), end) else {
-        text.push_str("no tree")?;
-        return Ok(text);
-    };
+    let mut text = String::new(alloc);
     let (_, faults) = scopes(alloc, &tree)?;
-    let mut marks = places.as_slice().iter();
-    for fault in faults.as_slice() {
-        if marks.next() != Some(&fault.place) {
-            write!(text, "{}:", fault.place)?;
-        }
-        write!(text, "S{} ", fault.rule)?;
-    }
-    if marks.next().is_some() {
-        text.push_str("a mark too many ")?;
-    }
+    show_faults(&mut text, faults.as_slice(), places.as_slice())?;
     Ok(text)
 }
 
@@ -149,7 +133,7 @@ fn shown(alloc: Global, case: &[u8]) -> Result<String, AllocError> {
 fn modules_break_the_rules_at_their_marks(rt: HostRuntime) -> Result<(), Fail> {
     for &(case, expected) in modules() {
         let found = shown(rt.alloc(), case.as_bytes())?;
-        assert_eq!(rt; found.as_str(), expected, "{case}");
+        expect(&rt, found.as_str() == expected, case);
     }
     Ok(())
 }

@@ -1,22 +1,20 @@
 // What the names of a module mean, scope by scope, and its default lengths.
 
-use crate::cases::{STOP, places_of, source_of, tokens_of};
+use crate::cases::{STOP, places_of, tree_of};
 use arrayvec::ArrayVec;
 use pearl_names::duration::is_too_long;
-use pearl_names::length::{is_length, kind_of_basic, lengths_set};
+use pearl_names::length::{Lengths, is_length, kind_of_basic, lengths_set};
 use pearl_names::meaning::sort_from;
+use pearl_names::names::ScopeTable;
 use pearl_names::scope::{NameSort, View};
 use pearl_names::sense::{Form, Sense};
 use pearl_names::sorted::names_of_module;
 use pearl_names::table::table_of;
 use pearl_names::types::TypeRef;
-use pearl_parse::parse::parse;
 use pearl_tree::literal::{Duration, Secs};
 use pearl_tree::name::Number;
-use pearl_tree::tree::Tree;
 use pearl_tree::typing::{Basic, Sort};
 use pearl_value::kind::Kind;
-use std::alloc::Global;
 use std::test::Fail;
 
 // A module, with marks before, at and behind the place from which FIXED has another length.
@@ -53,29 +51,30 @@ fn text_of(letters: &[u8]) -> ArrayVec<u8, 63> {
     text
 }
 
-fn tree_of(alloc: Global, case: &[u8]) -> Option<Tree> {
-    let source = source_of(alloc, case).ok()?;
-    let (tokens, end) = tokens_of(alloc, source.as_slice())?;
-    parse(alloc, tokens.as_slice(), end).ok()
+// Whether each scope has its outer one and so many names.
+fn are_scopes(found: &[ScopeTable]) -> bool {
+    if found.len() != scopes().len() {
+        return false;
+    }
+    for (scope, want) in found.iter().zip(scopes()) {
+        if scope.outer() != want.0 || scope.names().len() != want.1 {
+            return false;
+        }
+    }
+    true
 }
 
 #[test]
 fn names_mean_their_innermost_declaration(rt: HostRuntime) -> Result<(), Fail> {
     let Some(tree) = tree_of(rt.alloc(), MODULE) else {
-        assert!(rt; false, "no tree");
+        assert!(rt; false);
         return Ok(());
     };
     let found = names_of_module(rt.alloc(), &tree)?;
-    assert_eq!(rt; found.len(), scopes().len());
-    for (scope, want) in found.iter().zip(scopes()) {
-        assert_eq!(rt; (scope.outer(), scope.names().len()), *want);
-    }
-    for &(view, name, want) in meanings() {
-        assert_eq!(rt;
-            sort_from(found.as_slice(), view, &text_of(name)),
-            want,
-            "{name:?}"
-        );
+    assert!(rt; are_scopes(found.as_slice()));
+    for (number, &(view, name, want)) in meanings().iter().enumerate() {
+        let sort = sort_from(found.as_slice(), view, &text_of(name));
+        assert!(rt; sort == want, "row {number}");
     }
     Ok(())
 }
@@ -114,52 +113,63 @@ fn kind_of(sense: Option<&Sense>) -> Option<Kind> {
     }
 }
 
-#[test]
-fn names_stand_for_what_declares_them(rt: HostRuntime) -> Result<(), Fail> {
-    let Some(tree) = tree_of(rt.alloc(), MODULE) else {
-        assert!(rt; false, "no tree");
-        return Ok(());
-    };
-    let table = table_of(rt.alloc(), &tree)?;
-    for &(view, name, want) in kinds() {
-        let found = kind_of(table.sense_from(view, &text_of(name)));
-        assert_eq!(rt; found, want, "{name:?}");
+// Whether p is a procedure with one parameter and no result.
+fn is_procedure(sense: Option<&Sense>) -> bool {
+    match sense {
+        Some(Sense::Procedure(called)) => called.parameters.len() == 1 && called.result.is_none(),
+        _ => false,
     }
-    let Some(Sense::Procedure(called)) = table.sense_from(View::Within(0), &text_of(b"p")) else {
-        assert!(rt; false, "no procedure");
-        return Ok(());
-    };
-    assert_eq!(rt; called.parameters.len(), 1);
-    assert!(rt; called.result.is_none());
-    Ok(())
 }
 
 #[test]
-fn lengths_hold_from_their_place_on(rt: HostRuntime) -> Result<(), Fail> {
+fn names_stand_for_what_declares_them(rt: HostRuntime) -> Result<(), Fail> {
     let Some(tree) = tree_of(rt.alloc(), MODULE) else {
-        assert!(rt; false, "no tree");
+        assert!(rt; false);
         return Ok(());
     };
-    let lengths = lengths_set(rt.alloc(), &tree)?;
-    assert_eq!(rt; lengths.as_slice().len(), 1);
-    let places = places_of(rt.alloc(), MODULE, STOP)?;
-    let &[before, at, behind] = places.as_slice() else {
-        assert!(rt; false, "three marks");
-        return Ok(());
+    let table = table_of(rt.alloc(), &tree)?;
+    for (number, &(view, name, want)) in kinds().iter().enumerate() {
+        let found = kind_of(table.sense_from(view, &text_of(name)));
+        assert!(rt; found == want, "row {number}");
+    }
+    assert!(rt; is_procedure(table.sense_from(View::Within(0), &text_of(b"p"))));
+    Ok(())
+}
+
+// Whether FIXED has 31 before the second of these places and 15 from there on, and BIT has 1.
+fn are_lengths(lengths: &Lengths, places: &[u32]) -> bool {
+    let &[before, at, behind] = places else {
+        return false;
     };
-    assert_eq!(rt; lengths.at(Sort::Fixed, before), 31);
-    assert_eq!(rt; lengths.at(Sort::Fixed, at), 15);
-    assert_eq!(rt; lengths.at(Sort::Fixed, behind), 15);
-    assert_eq!(rt; lengths.at(Sort::Bit, behind), 1);
     let basic = Basic::Sized {
         sort: Sort::Fixed,
         number: None,
         place: behind,
     };
-    assert_eq!(rt; kind_of_basic(&lengths, &basic), Some(Kind::Fixed(15)));
+    lengths.at(Sort::Fixed, before) == 31
+        && lengths.at(Sort::Fixed, at) == 15
+        && lengths.at(Sort::Fixed, behind) == 15
+        && lengths.at(Sort::Bit, behind) == 1
+        && kind_of_basic(lengths, &basic) == Some(Kind::Fixed(15))
+}
+
+#[test]
+fn lengths_hold_from_their_place_on(rt: HostRuntime) -> Result<(), Fail> {
+    let Some(tree) = tree_of(rt.alloc(), MODULE) else {
+        assert!(rt; false);
+        return Ok(());
+    };
+    let lengths = lengths_set(rt.alloc(), &tree)?;
+    let places = places_of(rt.alloc(), MODULE, STOP)?;
+    assert!(rt; lengths.as_slice().len() == 1);
+    assert!(rt; are_lengths(&lengths, places.as_slice()));
+    Ok(())
+}
+
+#[test]
+fn kinds_have_their_lengths(rt: HostRuntime) {
     assert!(rt; is_length(Sort::Char, 255));
     assert!(rt; !is_length(Sort::Bit, 65));
-    Ok(())
 }
 
 fn of_seconds(whole: u64) -> Duration {

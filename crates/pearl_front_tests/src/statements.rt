@@ -1,6 +1,6 @@
 // Statements and bodies, worked out by hand. Each stands in the body of a module's task.
 
-use crate::cases::{STOP, tokens_of};
+use crate::cases::{STOP, expect, tokens_of};
 use crate::modules::refuses;
 use pearl_parse::parse::parse;
 use pearl_tree::statement::{Body, Stmt};
@@ -262,7 +262,7 @@ fn elses_of(alloc: Global, body: &[u8]) -> Option<(bool, bool)> {
 #[test]
 fn bodies_are_read_to_their_ends(rt: HostRuntime) -> Result<(), fmt::Error> {
     for &body in read() {
-        assert!(rt; tree_of(rt.alloc(), body.as_bytes()).is_some(), "{body}");
+        expect(&rt, tree_of(rt.alloc(), body.as_bytes()).is_some(), body);
     }
     Ok(())
 }
@@ -270,9 +270,10 @@ fn bodies_are_read_to_their_ends(rt: HostRuntime) -> Result<(), fmt::Error> {
 #[test]
 fn a_token_that_fits_in_no_body_is_refused(rt: HostRuntime) -> Result<(), fmt::Error> {
     for &body in refused() {
-        assert!(rt;
+        expect(
+            &rt,
             refuses_body(rt.alloc(), body.as_bytes()) == Some(true),
-            "{body}"
+            body,
         );
     }
     Ok(())
@@ -288,36 +289,39 @@ fn else_belongs_to_the_inner_if(rt: HostRuntime) -> Result<(), fmt::Error> {
     Ok(())
 }
 
+// Whether 32 levels are read, and one more is refused where it opens.
+fn nests_so(alloc: Global, open: &str, close: &str) -> Result<bool, AllocError> {
+    let deep = nest(alloc, open, "", close)?;
+    let body = format!(in alloc; "^{open}{close}")?;
+    let deeper = nest(alloc, open, body.as_str(), close)?;
+    Ok(
+        tree_of(alloc, deep.as_slice()).is_some()
+            && refuses_body(alloc, deeper.as_slice()) == Some(true),
+    )
+}
+
 #[test]
 fn thirty_two_levels_are_read_and_no_more(rt: HostRuntime) -> Result<(), fmt::Error> {
     for &(open, close) in levels() {
-        let deep = nest(rt.alloc(), open, "", close)?;
-        assert!(rt; tree_of(rt.alloc(), deep.as_slice()).is_some(), "{open}");
-        let body = format!(in rt.alloc(); "^{open}{close}")?;
-        let deeper = nest(rt.alloc(), open, body.as_str(), close)?;
-        assert!(rt;
-            refuses_body(rt.alloc(), deeper.as_slice()) == Some(true),
-            "{open}"
-        );
+        expect(&rt, nests_so(rt.alloc(), open, close)?, open);
     }
     Ok(())
+}
+
+// Whether the limit itself is read, and what passes it is refused at its first token.
+fn is_limited(alloc: Global, limit: &Limit) -> Result<bool, AllocError> {
+    let most = limited(alloc, limit, false)?;
+    let more = limited(alloc, limit, true)?;
+    Ok(
+        tree_of(alloc, most.as_slice()).is_some()
+            && refuses_body(alloc, more.as_slice()) == Some(true),
+    )
 }
 
 #[test]
 fn what_passes_a_limit_is_refused_at_its_first_token(rt: HostRuntime) -> Result<(), fmt::Error> {
     for limit in limits() {
-        let body = limited(rt.alloc(), limit, false)?;
-        assert!(rt;
-            tree_of(rt.alloc(), body.as_slice()).is_some(),
-            "{}",
-            limit.part
-        );
-        let body = limited(rt.alloc(), limit, true)?;
-        assert!(rt;
-            refuses_body(rt.alloc(), body.as_slice()) == Some(true),
-            "{}",
-            limit.part
-        );
+        expect(&rt, is_limited(rt.alloc(), limit)?, limit.part);
     }
     Ok(())
 }

@@ -1,6 +1,6 @@
 // Sources whose tokens were worked out by hand.
 
-use crate::cases::{STOP, place_of, places_of, source_of, tokens_of};
+use crate::cases::{STOP, expect, place_of, places_of, source_of, tokens_of};
 use pearl_lex::fault::LexFault;
 use pearl_lex::lexer::tokens;
 use pearl_tree::token::{Token, What};
@@ -161,7 +161,7 @@ fn has_only(alloc: Global, source: &[u8], want: Want, count: usize) -> bool {
 #[test]
 fn sources_have_their_tokens(rt: HostRuntime) -> Result<(), Fail> {
     for &(case, wants) in sources() {
-        assert!(rt; has_tokens(rt.alloc(), case, wants)?, "{case}");
+        expect(&rt, has_tokens(rt.alloc(), case, wants)?, case);
     }
     Ok(())
 }
@@ -169,41 +169,49 @@ fn sources_have_their_tokens(rt: HostRuntime) -> Result<(), Fail> {
 #[test]
 fn what_is_no_token_is_refused(rt: HostRuntime) -> Result<(), Fail> {
     for &case in refused() {
-        assert!(rt; refuses(rt.alloc(), case)?, "{case}");
+        expect(&rt, refuses(rt.alloc(), case)?, case);
     }
     Ok(())
 }
 
-// An id of this many letters.
-fn id(alloc: Global, length: usize) -> Result<Vec<u8>, AllocError> {
-    let mut text = Vec::new(alloc);
-    text.resize(length, b'n')?;
-    Ok(text)
-}
-
-#[test]
-fn an_id_has_at_most_63_bytes(rt: HostRuntime) -> Result<(), Fail> {
-    let longest = id(rt.alloc(), 63)?;
-    assert!(rt; tokens_of(rt.alloc(), longest.as_slice()).is_some());
-    let too_long = id(rt.alloc(), 64)?;
-    assert!(rt; is_refused(rt.alloc(), too_long.as_slice(), Some(0)));
-    Ok(())
-}
-
-// A source of 1 MiB that is one byte over and over.
-fn repeated(alloc: Global, byte: u8) -> Result<Vec<u8>, AllocError> {
+// A source that is one byte so many times.
+fn repeated(alloc: Global, byte: u8, times: usize) -> Result<Vec<u8>, AllocError> {
     let mut bytes = Vec::new(alloc);
-    bytes.resize(1_048_576, byte)?;
+    bytes.resize(times, byte)?;
     Ok(bytes)
 }
 
+fn refuses_repeated(alloc: Global, byte: u8, times: usize) -> Result<bool, AllocError> {
+    let source = repeated(alloc, byte, times)?;
+    Ok(is_refused(alloc, source.as_slice(), Some(0)))
+}
+
+#[test]
+fn what_is_too_long_is_refused(rt: HostRuntime) -> Result<(), Fail> {
+    assert!(rt; refuses_repeated(rt.alloc(), b'n', 64)?);
+    assert!(rt; refuses_repeated(rt.alloc(), b'9', 1_048_576)?);
+    assert!(rt; refuses_repeated(rt.alloc(), b'\'', 1_048_576)?);
+    Ok(())
+}
+
+// Whether one byte so many times is so many of one token.
+fn reads_repeated(
+    alloc: Global,
+    byte: u8,
+    times: usize,
+    want: Want,
+    count: usize,
+) -> Result<bool, AllocError> {
+    let source = repeated(alloc, byte, times)?;
+    Ok(has_only(alloc, source.as_slice(), want, count))
+}
+
+// An id of 63 letters.
+const LONGEST: &str = "nnnnnnnnnnnnnnnnnnnnnnnnnnnnnnnnnnnnnnnnnnnnnnnnnnnnnnnnnnnnnnn";
+
 #[test]
 fn long_sources_are_read(rt: HostRuntime) -> Result<(), Fail> {
-    let digits = repeated(rt.alloc(), b'9')?;
-    assert!(rt; is_refused(rt.alloc(), digits.as_slice(), Some(0)));
-    let apostrophes = repeated(rt.alloc(), b'\'')?;
-    assert!(rt; is_refused(rt.alloc(), apostrophes.as_slice(), Some(0)));
-    let strokes = repeated(rt.alloc(), b'/')?;
-    assert!(rt; has_only(rt.alloc(), strokes.as_slice(), Want::Symbol("//"), 524_288));
+    assert!(rt; reads_repeated(rt.alloc(), b'n', 63, Want::Id(LONGEST), 1)?);
+    assert!(rt; reads_repeated(rt.alloc(), b'/', 1_048_576, Want::Symbol("//"), 524_288)?);
     Ok(())
 }
