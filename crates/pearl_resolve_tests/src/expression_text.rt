@@ -12,14 +12,19 @@ pub fn put_bytes(into: &mut String, bytes: &[u8]) -> Result<(), AllocError> {
     Ok(())
 }
 
+/// A word with a number right behind it.
+pub fn put_number(into: &mut String, word: &str, number: u64) -> Result<(), AllocError> {
+    write!(into, "{word}{number}")
+}
+
 /// A kind by the first letter of its word and its length: `F31`, `B1`, `C3`, `T` for CLOCK and `D` for DURATION.
 pub fn put_kind(into: &mut String, kind: Kind) -> Result<(), AllocError> {
     match kind {
-        Kind::Fixed(len) => write!(into, "F{len}"),
-        Kind::Bits(len) => write!(into, "B{len}"),
-        Kind::Chars(len) => write!(into, "C{len}"),
-        Kind::Clock => write!(into, "T"),
-        Kind::Span => write!(into, "D"),
+        Kind::Fixed(len) => put_number(into, "F", u64::from(len)),
+        Kind::Bits(len) => put_number(into, "B", u64::from(len)),
+        Kind::Chars(len) => put_number(into, "C", u64::from(len)),
+        Kind::Clock => into.push_str("T"),
+        Kind::Span => into.push_str("D"),
     }
 }
 
@@ -29,11 +34,11 @@ pub fn put_cells(into: &mut String, cells: &[CellKind]) -> Result<(), AllocError
         match cell {
             CellKind::Plain(kind) => put_kind(into, kind)?,
             CellKind::RefTo(kind) => {
-                write!(into, "&")?;
+                into.push_str("&")?;
                 put_kind(into, kind)?;
             }
         }
-        write!(into, ",")?;
+        into.push_str(",")?;
     }
     Ok(())
 }
@@ -44,20 +49,20 @@ pub fn put_literal(into: &mut String, literal: &Literal) -> Result<(), AllocErro
         Literal::Fixed { len, value } => write!(into, "F{len}:{value}"),
         Literal::Bits { len, value } => write!(into, "B{len}:{value}"),
         Literal::Chars(text) => {
-            write!(into, "'")?;
+            into.push_str("'")?;
             put_bytes(into, text.as_slice())?;
-            write!(into, "'")
+            into.push_str("'")
         }
-        Literal::Clock(time) => write!(into, "T:{time}"),
+        Literal::Clock(time) => put_number(into, "T:", u64::from(*time)),
         Literal::Span(time) => write!(into, "D:{time}"),
     }
 }
 
 fn put_target(into: &mut String, target: Target) -> Result<(), AllocError> {
     match target {
-        Target::Leaf(number) => write!(into, "L{number}"),
-        Target::Own(number) => write!(into, "O{number}"),
-        Target::Param(number) => write!(into, "P{number}"),
+        Target::Leaf(number) => put_number(into, "L", u64::from(number)),
+        Target::Own(number) => put_number(into, "O", u64::from(number)),
+        Target::Param(number) => put_number(into, "P", u64::from(number)),
     }
 }
 
@@ -75,11 +80,11 @@ pub fn put_variable(into: &mut String, variable: &Variable) -> Result<(), AllocE
     if variable.bounds.as_slice().is_empty() && variable.subscripts.as_slice().is_empty() {
         return Ok(());
     }
-    write!(into, "(")?;
+    into.push_str("(")?;
     put_bounds(into, variable.bounds.as_slice())?;
-    write!(into, ")[")?;
+    into.push_str(")[")?;
     put_exprs(into, variable.subscripts.as_slice())?;
-    write!(into, "]")
+    into.push_str("]")
 }
 
 #[cycle(expression)]
@@ -90,18 +95,18 @@ pub fn put_expr(into: &mut String, expr: &Expr) -> Result<(), AllocError> {
         Expr::Monadic { op, operand } => {
             write!(into, "{op:?}(")?;
             put_expr(into, operand)?;
-            write!(into, ")")
+            into.push_str(")")
         }
         Expr::Dyadic { op, left, right } => {
             write!(into, "{op:?}(")?;
             put_expr(into, left)?;
-            write!(into, ",")?;
+            into.push_str(",")?;
             put_expr(into, right)?;
-            write!(into, ")")
+            into.push_str(")")
         }
         Expr::Call(call) => put_call(into, call.procedure, call.arguments.as_slice()),
-        Expr::Now => write!(into, "NOW"),
-        Expr::Try(semaphore) => write!(into, "TRY s{semaphore}"),
+        Expr::Now => into.push_str("NOW"),
+        Expr::Try(semaphore) => put_number(into, "TRY s", u64::from(*semaphore)),
     }
 }
 
@@ -109,7 +114,7 @@ pub fn put_expr(into: &mut String, expr: &Expr) -> Result<(), AllocError> {
 pub fn put_exprs(into: &mut String, exprs: &[Expr]) -> Result<(), AllocError> {
     for expr in exprs {
         put_expr(into, expr)?;
-        write!(into, ",")?;
+        into.push_str(",")?;
     }
     Ok(())
 }
@@ -121,11 +126,12 @@ pub fn put_call(
     procedure: u32,
     arguments: &[Argument],
 ) -> Result<(), AllocError> {
-    write!(into, "p{procedure}(")?;
+    put_number(into, "p", u64::from(procedure))?;
+    into.push_str("(")?;
     for argument in arguments {
         put_argument(into, argument)?;
     }
-    write!(into, ")")
+    into.push_str(")")
 }
 
 #[cycle(expression)]
@@ -133,9 +139,9 @@ fn put_argument(into: &mut String, argument: &Argument) -> Result<(), AllocError
     match argument {
         Argument::Value(expr) => put_expr(into, expr)?,
         Argument::Ident(variable) => {
-            write!(into, "&")?;
+            into.push_str("&")?;
             put_variable(into, variable)?;
         }
     }
-    write!(into, ",")
+    into.push_str(",")
 }

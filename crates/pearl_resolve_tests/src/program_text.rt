@@ -1,6 +1,6 @@
 // What a program says, as text: its tables in order, and then its procedures and tasks.
 
-use crate::expression_text::{put_bytes, put_cells, put_kind};
+use crate::expression_text::{put_bytes, put_cells, put_kind, put_number};
 use crate::statement_text::{put_block, put_values};
 use pearl_format::item::Item;
 use pearl_program::program::{Procedure, Program, Routine, Task};
@@ -11,30 +11,36 @@ use std::alloc::{AllocError, Global};
 pub fn put_leaves(into: &mut String, leaves: &[Leaf]) -> Result<(), AllocError> {
     for leaf in leaves {
         put_bytes(into, leaf.name.as_slice())?;
-        write!(into, " ")?;
+        into.push_str(" ")?;
         put_values(into, &leaf.values)?;
-        write!(into, ";")?;
+        into.push_str(";")?;
     }
     Ok(())
 }
 
 pub fn put_semaphores(into: &mut String, presets: &[u32]) -> Result<(), AllocError> {
     for preset in presets {
-        write!(into, "sema {preset};")?;
+        put_number(into, "sema ", u64::from(*preset))?;
+        into.push_str(";")?;
     }
     Ok(())
 }
 
 fn put_device(into: &mut String, device: Device) -> Result<(), AllocError> {
     match device {
-        Device::Interrupt { number } => write!(into, "interrupt {number}"),
-        Device::Terminal { number, direction } => write!(into, "terminal {number} {direction:?}"),
+        Device::Interrupt { number } => put_number(into, "interrupt ", u64::from(number)),
+        Device::Terminal { number, direction } => {
+            put_number(into, "terminal ", u64::from(number))?;
+            write!(into, " {direction:?}")
+        }
         Device::Input { number, kind } => {
-            write!(into, "input {number} ")?;
+            put_number(into, "input ", u64::from(number))?;
+            into.push_str(" ")?;
             put_kind(into, kind)
         }
         Device::Output { number, kind } => {
-            write!(into, "output {number} ")?;
+            put_number(into, "output ", u64::from(number))?;
+            into.push_str(" ")?;
             put_kind(into, kind)
         }
     }
@@ -43,34 +49,34 @@ fn put_device(into: &mut String, device: Device) -> Result<(), AllocError> {
 pub fn put_devices(into: &mut String, devices: &[Device]) -> Result<(), AllocError> {
     for &device in devices {
         put_device(into, device)?;
-        write!(into, ";")?;
+        into.push_str(";")?;
     }
     Ok(())
 }
 
 pub fn put_formats(into: &mut String, formats: &[Listing<Item>]) -> Result<(), AllocError> {
     for format in formats {
-        write!(into, "format ")?;
+        into.push_str("format ")?;
         for item in format.as_slice() {
             write!(into, "{:?}({}),", item.code, item.width)?;
         }
-        write!(into, ";")?;
+        into.push_str(";")?;
     }
     Ok(())
 }
 
 fn put_routine(into: &mut String, routine: &Routine) -> Result<(), AllocError> {
-    write!(into, "[")?;
+    into.push_str("[")?;
     put_cells(into, routine.cells.as_slice())?;
-    write!(into, "]")?;
+    into.push_str("]")?;
     put_block(into, routine.body.as_slice())
 }
 
 fn put_procedure(into: &mut String, procedure: &Procedure) -> Result<(), AllocError> {
-    write!(into, "proc {}", procedure.params)?;
+    put_number(into, "proc ", u64::from(procedure.params))?;
     match procedure.result {
         Some(kind) => {
-            write!(into, " ")?;
+            into.push_str(" ")?;
             put_kind(into, kind)?;
         }
         None => {}
@@ -79,14 +85,10 @@ fn put_procedure(into: &mut String, procedure: &Procedure) -> Result<(), AllocEr
 }
 
 fn put_task(into: &mut String, task: &Task) -> Result<(), AllocError> {
-    write!(into, "task ")?;
+    into.push_str("task ")?;
     put_bytes(into, task.name.as_slice())?;
-    write!(
-        into,
-        " {}{}",
-        task.priority,
-        if task.main { " main" } else { "" }
-    )?;
+    put_number(into, " ", u64::from(task.priority))?;
+    into.push_str(if task.main { " main" } else { "" })?;
     put_routine(into, &task.routine)
 }
 

@@ -1,6 +1,8 @@
 // What statements of a program say, as text: each ends with a semicolon, and those within it stand between braces.
 
-use crate::expression_text::{put_call, put_expr, put_exprs, put_kind, put_literal, put_variable};
+use crate::expression_text::{
+    put_call, put_expr, put_exprs, put_kind, put_literal, put_number, put_variable,
+};
 use pearl_program::expression::Expr;
 use pearl_program::schedule::{Once, Period, PeriodEnd, Start};
 use pearl_program::statement::{Branch, Case, Counter, Get, Put, Repeat, Stmt};
@@ -10,9 +12,9 @@ use std::alloc::AllocError;
 /// The kind of slots or cells, how many there are, and their constants.
 pub fn put_values(into: &mut String, values: &FirstValues) -> Result<(), AllocError> {
     put_kind(into, values.kind)?;
-    write!(into, "*{}", values.count)?;
+    put_number(into, "*", u64::from(values.count))?;
     for literal in values.constants.as_slice() {
-        write!(into, "=")?;
+        into.push_str("=")?;
         put_literal(into, literal)?;
     }
     Ok(())
@@ -27,7 +29,9 @@ fn put_part(into: &mut String, word: &str, part: &Option<Expr>) -> Result<(), Al
 }
 
 fn put_after(into: &mut String, word: &str, expr: &Expr) -> Result<(), AllocError> {
-    write!(into, " {word} ")?;
+    into.push_str(" ")?;
+    into.push_str(word)?;
+    into.push_str(" ")?;
     put_expr(into, expr)
 }
 
@@ -35,12 +39,12 @@ fn put_start(into: &mut String, start: &Start) -> Result<(), AllocError> {
     match start {
         Start::At(time) => put_after(into, "at", time),
         Start::After(duration) => put_after(into, "after", duration),
-        Start::When(interrupt) => write!(into, " when d{interrupt}"),
+        Start::When(interrupt) => put_number(into, " when d", u64::from(*interrupt)),
         Start::WhenAfter {
             interrupt,
             duration,
         } => {
-            write!(into, " when d{interrupt}")?;
+            put_number(into, " when d", u64::from(*interrupt))?;
             put_after(into, "after", duration)
         }
     }
@@ -59,49 +63,59 @@ fn put_once(into: &mut String, once: &Once) -> Result<(), AllocError> {
     match once {
         Once::At(time) => put_after(into, "at", time),
         Once::After(duration) => put_after(into, "after", duration),
-        Once::When(interrupt) => write!(into, " when d{interrupt}"),
+        Once::When(interrupt) => put_number(into, " when d", u64::from(*interrupt)),
     }
 }
 
 fn put_on_task(into: &mut String, word: &str, task: Option<u32>) -> Result<(), AllocError> {
     match task {
-        Some(task) => write!(into, "{word} t{task}"),
-        None => write!(into, "{word}"),
+        Some(task) => {
+            into.push_str(word)?;
+            put_number(into, " t", u64::from(task))
+        }
+        None => into.push_str(word),
     }
 }
 
 fn put_semaphores(into: &mut String, word: &str, semaphores: &[u16]) -> Result<(), AllocError> {
-    write!(into, "{word} ")?;
+    into.push_str(word)?;
+    into.push_str(" ")?;
     for semaphore in semaphores {
-        write!(into, "s{semaphore},")?;
+        put_number(into, "s", u64::from(*semaphore))?;
+        into.push_str(",")?;
     }
     Ok(())
 }
 
 fn put_counter(into: &mut String, counter: &Counter) -> Result<(), AllocError> {
-    write!(into, " O{}", counter.cell)?;
+    put_number(into, " O", u64::from(counter.cell))?;
     put_part(into, "from", &counter.begin)?;
     put_part(into, "by", &counter.step)?;
     put_part(into, "to", &counter.end)
 }
 
 fn put_put(into: &mut String, put: &Put) -> Result<(), AllocError> {
-    write!(into, "put d{} f{} ", put.device, put.format)?;
+    put_number(into, "put d", u64::from(put.device))?;
+    put_number(into, " f", u64::from(put.format))?;
+    into.push_str(" ")?;
     put_exprs(into, put.values.as_slice())
 }
 
 fn put_get(into: &mut String, get: &Get) -> Result<(), AllocError> {
-    write!(into, "get d{} f{} O{} ", get.device, get.format, get.cell)?;
+    put_number(into, "get d", u64::from(get.device))?;
+    put_number(into, " f", u64::from(get.format))?;
+    put_number(into, " O", u64::from(get.cell))?;
+    into.push_str(" ")?;
     for target in get.targets.as_slice() {
         put_variable(into, target)?;
-        write!(into, ",")?;
+        into.push_str(",")?;
     }
     Ok(())
 }
 
 #[cycle(statement)]
 fn put_repeat(into: &mut String, repeat: &Repeat) -> Result<(), AllocError> {
-    write!(into, "loop")?;
+    into.push_str("loop")?;
     match &repeat.counter {
         Some(counter) => put_counter(into, counter)?,
         None => {}
@@ -112,7 +126,7 @@ fn put_repeat(into: &mut String, repeat: &Repeat) -> Result<(), AllocError> {
 
 #[cycle(statement)]
 fn put_case(into: &mut String, case: &Case) -> Result<(), AllocError> {
-    write!(into, "case ")?;
+    into.push_str("case ")?;
     put_expr(into, &case.selector)?;
     put_branches(into, case.alternatives.as_slice())?;
     put_block(into, case.otherwise.as_slice())
@@ -123,35 +137,37 @@ fn put_branches(into: &mut String, branches: &[Branch]) -> Result<(), AllocError
     for branch in branches {
         put_block(into, branch.statements.as_slice())?;
     }
-    write!(into, " out")
+    into.push_str(" out")
 }
 
 // Statements that have none within them.
 fn put_simple(into: &mut String, stmt: &Stmt) -> Result<(), AllocError> {
     match stmt {
         Stmt::Renew(renewal) => {
-            write!(into, "new O{} ", renewal.cell)?;
+            put_number(into, "new O", u64::from(renewal.cell))?;
+            into.push_str(" ")?;
             put_values(into, &renewal.values)
         }
         Stmt::Assign(assign) => {
             put_variable(into, &assign.target)?;
-            write!(into, ":=")?;
+            into.push_str(":=")?;
             put_expr(into, &assign.value)
         }
         Stmt::Call(call) => put_call(into, call.procedure, call.arguments.as_slice()),
-        Stmt::Exit => write!(into, "exit"),
+        Stmt::Exit => into.push_str("exit"),
         Stmt::Return(part) => {
-            write!(into, "return")?;
+            into.push_str("return")?;
             put_part(into, "with", &part.value)
         }
         Stmt::Put(put) => put_put(into, put),
         Stmt::Get(get) => put_get(into, get),
         Stmt::Send(send) => {
-            write!(into, "send d{}", send.device)?;
+            put_number(into, "send d", u64::from(send.device))?;
             put_after(into, "of", &send.value)
         }
         Stmt::Take(take) => {
-            write!(into, "take d{} ", take.device)?;
+            put_number(into, "take d", u64::from(take.device))?;
+            into.push_str(" ")?;
             put_variable(into, &take.target)
         }
         _ => put_scheduling(into, stmt),
@@ -161,7 +177,7 @@ fn put_simple(into: &mut String, stmt: &Stmt) -> Result<(), AllocError> {
 fn put_scheduling(into: &mut String, stmt: &Stmt) -> Result<(), AllocError> {
     match stmt {
         Stmt::Activate(part) => {
-            write!(into, "activate t{}", part.task)?;
+            put_number(into, "activate t", u64::from(part.task))?;
             match &part.start {
                 Some(start) => put_start(into, start)?,
                 None => {}
@@ -173,14 +189,14 @@ fn put_scheduling(into: &mut String, stmt: &Stmt) -> Result<(), AllocError> {
             put_part(into, "prio", &part.priority)
         }
         Stmt::Continue(part) => {
-            write!(into, "continue t{}", part.task)?;
+            put_number(into, "continue t", u64::from(part.task))?;
             match &part.once {
                 Some(once) => put_once(into, once),
                 None => Ok(()),
             }
         }
         Stmt::Resume(once) => {
-            write!(into, "resume")?;
+            into.push_str("resume")?;
             put_once(into, once)
         }
         Stmt::Suspend(task) => put_on_task(into, "suspend", *task),
@@ -188,9 +204,9 @@ fn put_scheduling(into: &mut String, stmt: &Stmt) -> Result<(), AllocError> {
         Stmt::Prevent(task) => put_on_task(into, "prevent", *task),
         Stmt::Request(semaphores) => put_semaphores(into, "request", semaphores.as_slice()),
         Stmt::Release(semaphores) => put_semaphores(into, "release", semaphores.as_slice()),
-        Stmt::Enable(interrupt) => write!(into, "enable d{interrupt}"),
-        Stmt::Disable(interrupt) => write!(into, "disable d{interrupt}"),
-        Stmt::Trigger(interrupt) => write!(into, "trigger d{interrupt}"),
+        Stmt::Enable(interrupt) => put_number(into, "enable d", u64::from(*interrupt)),
+        Stmt::Disable(interrupt) => put_number(into, "disable d", u64::from(*interrupt)),
+        Stmt::Trigger(interrupt) => put_number(into, "trigger d", u64::from(*interrupt)),
         _ => Ok(()),
     }
 }
@@ -199,10 +215,10 @@ fn put_scheduling(into: &mut String, stmt: &Stmt) -> Result<(), AllocError> {
 fn put_stmt(into: &mut String, stmt: &Stmt) -> Result<(), AllocError> {
     match stmt {
         Stmt::If(part) => {
-            write!(into, "if ")?;
+            into.push_str("if ")?;
             put_expr(into, &part.condition)?;
             put_block(into, part.statements.as_slice())?;
-            write!(into, " else")?;
+            into.push_str(" else")?;
             put_block(into, part.otherwise.as_slice())
         }
         Stmt::Case(case) => put_case(into, case),
@@ -214,10 +230,10 @@ fn put_stmt(into: &mut String, stmt: &Stmt) -> Result<(), AllocError> {
 /// Statements between braces.
 #[cycle(statement)]
 pub fn put_block(into: &mut String, stmts: &[Stmt]) -> Result<(), AllocError> {
-    write!(into, "{{")?;
+    into.push_str("{")?;
     for stmt in stmts {
         put_stmt(into, stmt)?;
-        write!(into, ";")?;
+        into.push_str(";")?;
     }
-    write!(into, "}}")
+    into.push_str("}")
 }
