@@ -6,19 +6,30 @@ use pearl_value::cell::Cell;
 use pearl_value::kind::Kind;
 use std::alloc::{AllocError, Global};
 
+// A word with a number right behind it.
+fn put_number(into: &mut String, word: &str, number: u64) -> Result<(), AllocError> {
+    write!(into, "{word}{number}")
+}
+
+// A range of cells by the number of the first one and how many there are.
+fn put_cells(into: &mut String, word: &str, first: u64, count: u64) -> Result<(), AllocError> {
+    write!(into, "{word}{first}*{count}")
+}
+
 /// A kind by its word and its length: `FIXED31`, `BIT1`, `CHAR3`, `T` for CLOCK and `D` for DURATION.
 fn put_kind(into: &mut String, kind: Kind) -> Result<(), AllocError> {
     match kind {
-        Kind::Fixed(len) => write!(into, "FIXED{len}"),
-        Kind::Bits(len) => write!(into, "BIT{len}"),
-        Kind::Chars(len) => write!(into, "CHAR{len}"),
-        Kind::Clock => write!(into, "T"),
-        Kind::Span => write!(into, "D"),
+        Kind::Fixed(len) => put_number(into, "FIXED", u64::from(len)),
+        Kind::Bits(len) => put_number(into, "BIT", u64::from(len)),
+        Kind::Chars(len) => put_number(into, "CHAR", u64::from(len)),
+        Kind::Clock => into.push_str("T"),
+        Kind::Span => into.push_str("D"),
     }
 }
 
 fn put_of_kind(into: &mut String, word: &str, kind: Kind) -> Result<(), AllocError> {
-    write!(into, "{word} ")?;
+    into.push_str(word)?;
+    into.push_str(" ")?;
     put_kind(into, kind)
 }
 
@@ -34,22 +45,22 @@ fn put_value(into: &mut String, value: &Cell) -> Result<(), AllocError> {
             }
             into.push('\'')
         }
-        Cell::Clock(time) => write!(into, "CLOCK:{time}"),
+        Cell::Clock(time) => put_number(into, "CLOCK:", u64::from(*time)),
         Cell::Span(time) => write!(into, "DURATION:{time}"),
-        Cell::Ref { .. } => write!(into, "a reference"),
+        Cell::Ref { .. } => into.push_str("a reference"),
     }
 }
 
 fn put_numbers(into: &mut String, word: &str, numbers: &[u64]) -> Result<(), AllocError> {
-    write!(into, "{word}")?;
+    into.push_str(word)?;
     for number in numbers {
-        write!(into, " {number}")?;
+        put_number(into, " ", *number)?;
     }
     Ok(())
 }
 
 fn put_bounds(into: &mut String, bounds: &[Bounds]) -> Result<(), AllocError> {
-    write!(into, "index")?;
+    into.push_str("index")?;
     for bound in bounds {
         write!(into, " {}:{}", bound.low, bound.high)?;
     }
@@ -57,20 +68,17 @@ fn put_bounds(into: &mut String, bounds: &[Bounds]) -> Result<(), AllocError> {
 }
 
 fn put_activation(into: &mut String, part: &Activation) -> Result<(), AllocError> {
-    write!(
-        into,
-        "activate {} {:?} {:?}",
-        part.task, part.start, part.repeat
-    )?;
+    put_number(into, "activate ", part.task)?;
+    write!(into, " {:?} {:?}", part.start, part.repeat)?;
     if part.priority {
-        write!(into, " prio")
+        into.push_str(" prio")
     } else {
         Ok(())
     }
 }
 
 fn put_continuation(into: &mut String, part: &Continuation) -> Result<(), AllocError> {
-    write!(into, "continue {}", part.task)?;
+    put_number(into, "continue ", part.task)?;
     match part.once {
         Some(once) => write!(into, " {once:?}"),
         None => Ok(()),
@@ -78,32 +86,30 @@ fn put_continuation(into: &mut String, part: &Continuation) -> Result<(), AllocE
 }
 
 fn put_reading(into: &mut String, part: &Reading) -> Result<(), AllocError> {
-    write!(
-        into,
-        "get {} {} into {}",
-        part.device, part.format, part.first
-    )
+    put_numbers(into, "get", &[part.device, part.format])?;
+    put_number(into, " into ", part.first)
 }
 
 // Values and cells.
 fn put_simple(into: &mut String, instr: &Instr) -> Result<(), AllocError> {
     match instr {
         Instr::Const(value) => put_value(into, value),
-        Instr::Load(cell) => write!(into, "load {cell}"),
-        Instr::Store(cell) => write!(into, "store {cell}"),
+        Instr::Load(cell) => put_number(into, "load ", *cell),
+        Instr::Store(cell) => put_number(into, "store ", *cell),
         Instr::Fill { first, count, kind } => {
-            write!(into, "fill {first}*{count} ")?;
+            put_cells(into, "fill ", *first, *count)?;
+            into.push(' ')?;
             put_kind(into, *kind)
         }
-        Instr::Drop => write!(into, "drop"),
+        Instr::Drop => into.push_str("drop"),
         Instr::Conv(kind) => put_of_kind(into, "conv", *kind),
         Instr::Index(bounds) => put_bounds(into, bounds.as_slice()),
-        Instr::LoadAt { first, count } => write!(into, "loadat {first}*{count}"),
-        Instr::StoreAt { first, count } => write!(into, "storeat {first}*{count}"),
+        Instr::LoadAt { first, count } => put_cells(into, "loadat ", *first, *count),
+        Instr::StoreAt { first, count } => put_cells(into, "storeat ", *first, *count),
         Instr::Monadic(op) => write!(into, "{op:?}"),
         Instr::Dyadic(op) => write!(into, "{op:?}"),
-        Instr::Now => write!(into, "now"),
-        Instr::Try(semaphore) => write!(into, "try {semaphore}"),
+        Instr::Now => into.push_str("now"),
+        Instr::Try(semaphore) => put_number(into, "try ", *semaphore),
         _ => put_access(into, instr),
     }
 }
@@ -111,16 +117,16 @@ fn put_simple(into: &mut String, instr: &Instr) -> Result<(), AllocError> {
 // Leaves and references.
 fn put_access(into: &mut String, instr: &Instr) -> Result<(), AllocError> {
     match instr {
-        Instr::Read(leaf) => write!(into, "read {leaf}"),
-        Instr::Write(leaf) => write!(into, "write {leaf}"),
-        Instr::ReadAt(leaf) => write!(into, "readat {leaf}"),
-        Instr::WriteAt(leaf) => write!(into, "writeat {leaf}"),
-        Instr::RefSlot(leaf) => write!(into, "refslot {leaf}"),
-        Instr::RefSlotAt(leaf) => write!(into, "refslotat {leaf}"),
-        Instr::RefCell(cell) => write!(into, "refcell {cell}"),
-        Instr::RefCellAt { first, count } => write!(into, "refcellat {first}*{count}"),
-        Instr::ReadRef => write!(into, "readref"),
-        Instr::WriteRef => write!(into, "writeref"),
+        Instr::Read(leaf) => put_number(into, "read ", *leaf),
+        Instr::Write(leaf) => put_number(into, "write ", *leaf),
+        Instr::ReadAt(leaf) => put_number(into, "readat ", *leaf),
+        Instr::WriteAt(leaf) => put_number(into, "writeat ", *leaf),
+        Instr::RefSlot(leaf) => put_number(into, "refslot ", *leaf),
+        Instr::RefSlotAt(leaf) => put_number(into, "refslotat ", *leaf),
+        Instr::RefCell(cell) => put_number(into, "refcell ", *cell),
+        Instr::RefCellAt { first, count } => put_cells(into, "refcellat ", *first, *count),
+        Instr::ReadRef => into.push_str("readref"),
+        Instr::WriteRef => into.push_str("writeref"),
         _ => put_flow(into, instr),
     }
 }
@@ -128,30 +134,30 @@ fn put_access(into: &mut String, instr: &Instr) -> Result<(), AllocError> {
 // What goes elsewhere.
 fn put_flow(into: &mut String, instr: &Instr) -> Result<(), AllocError> {
     match instr {
-        Instr::Jump(to) => write!(into, "jump {to}"),
-        Instr::JumpZero(to) => write!(into, "jumpzero {to}"),
+        Instr::Jump(to) => put_number(into, "jump ", *to),
+        Instr::JumpZero(to) => put_number(into, "jumpzero ", *to),
         Instr::Case(list) => put_numbers(into, "case", list.as_slice()),
-        Instr::Turn => write!(into, "turn"),
-        Instr::Call(procedure) => write!(into, "call {procedure}"),
-        Instr::Return => write!(into, "return"),
-        Instr::End => write!(into, "end"),
+        Instr::Turn => into.push_str("turn"),
+        Instr::Call(procedure) => put_number(into, "call ", *procedure),
+        Instr::Return => into.push_str("return"),
+        Instr::End => into.push_str("end"),
         Instr::Trap(trap) => write!(into, "{trap:?}"),
-        Instr::Within(first) => write!(into, "within {first}"),
+        Instr::Within(first) => put_number(into, "within ", *first),
         Instr::Advance { first, past } => write!(into, "advance {first} past {past}"),
-        Instr::NonZero => write!(into, "nonzero"),
+        Instr::NonZero => into.push_str("nonzero"),
         _ => put_transfer(into, instr),
     }
 }
 
 fn put_transfer(into: &mut String, instr: &Instr) -> Result<(), AllocError> {
     match instr {
-        Instr::Put { device, format } => write!(into, "put {device} {format}"),
+        Instr::Put { device, format } => put_numbers(into, "put", &[*device, *format]),
         Instr::Get(reading) => put_reading(into, reading),
-        Instr::Take(device) => write!(into, "take {device}"),
-        Instr::Send(device) => write!(into, "send {device}"),
-        Instr::Enable(device) => write!(into, "enable {device}"),
-        Instr::Disable(device) => write!(into, "disable {device}"),
-        Instr::Trigger(device) => write!(into, "trigger {device}"),
+        Instr::Take(device) => put_number(into, "take ", *device),
+        Instr::Send(device) => put_number(into, "send ", *device),
+        Instr::Enable(device) => put_number(into, "enable ", *device),
+        Instr::Disable(device) => put_number(into, "disable ", *device),
+        Instr::Trigger(device) => put_number(into, "trigger ", *device),
         Instr::Request(list) => put_numbers(into, "request", list.as_slice()),
         Instr::Release(list) => put_numbers(into, "release", list.as_slice()),
         _ => put_tasking(into, instr),
@@ -163,20 +169,20 @@ fn put_tasking(into: &mut String, instr: &Instr) -> Result<(), AllocError> {
         Instr::Activate(activation) => put_activation(into, activation),
         Instr::Continue(continuation) => put_continuation(into, continuation),
         Instr::Resume(once) => write!(into, "resume {once:?}"),
-        Instr::Suspend(task) => write!(into, "suspend {task}"),
-        Instr::Terminate(task) => write!(into, "terminate {task}"),
-        Instr::Prevent(task) => write!(into, "prevent {task}"),
-        Instr::SuspendOwn => write!(into, "suspend"),
-        Instr::TerminateOwn => write!(into, "terminate"),
-        Instr::PreventOwn => write!(into, "prevent"),
-        _ => write!(into, "?"),
+        Instr::Suspend(task) => put_number(into, "suspend ", *task),
+        Instr::Terminate(task) => put_number(into, "terminate ", *task),
+        Instr::Prevent(task) => put_number(into, "prevent ", *task),
+        Instr::SuspendOwn => into.push_str("suspend"),
+        Instr::TerminateOwn => into.push_str("terminate"),
+        Instr::PreventOwn => into.push_str("prevent"),
+        _ => into.push_str("?"),
     }
 }
 
 fn put_code(into: &mut String, code: &Code) -> Result<(), AllocError> {
     for instr in code.instructions.as_slice() {
         put_simple(into, instr)?;
-        write!(into, ";")?;
+        into.push_str(";")?;
     }
     Ok(())
 }
@@ -186,11 +192,11 @@ pub fn code_text(alloc: Global, object: &Object) -> Result<String, AllocError> {
     let mut text = String::new(alloc);
     for procedure in object.procedures.as_slice() {
         put_code(&mut text, &procedure.code)?;
-        write!(text, "|")?;
+        text.push_str("|")?;
     }
     for task in object.tasks.as_slice() {
         put_code(&mut text, &task.code)?;
-        write!(text, "|")?;
+        text.push_str("|")?;
     }
     Ok(text)
 }

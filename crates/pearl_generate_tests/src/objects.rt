@@ -142,7 +142,7 @@ fn each_form_has_valid_code(rt: HostRuntime) -> Result<(), Fail> {
     ];
     for source in sources {
         let found = judged(rt.alloc(), source.as_bytes())?;
-        assert_eq!(rt; found.as_str(), "valid", "{source}");
+        assert!(rt; found.as_str() == "valid", "{found}: {source}");
     }
     Ok(())
 }

@@ -63,12 +63,12 @@ pub fn made_of(alloc: Global, source: &[u8]) -> Result<Made, AllocError> {
 /// How far a source comes.
 pub fn judged(alloc: Global, source: &[u8]) -> Result<String, AllocError> {
     let object = match made_of(alloc, source)? {
-        Made::NoTree => return format!(in alloc; "no tree"),
+        Made::NoTree => return String::from_str(alloc, "no tree"),
         Made::Broken { rule, place } => return format!(in alloc; "S{rule} at {place}"),
         Made::Object(object) => object,
     };
     match judge_object(alloc, &object) {
-        Ok(()) => format!(in alloc; "valid"),
+        Ok(()) => String::from_str(alloc, "valid"),
         Err(
             VerifyFault::Unsound {
                 routine,
