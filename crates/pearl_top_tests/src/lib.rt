@@ -3,16 +3,20 @@
 
 // A table with a case in each line: a source, and what is expected.
 macro_rules! table {
-    ($($source:literal => $wanted:literal;)*) => { &[$(($source, $wanted)),*] };
+    ($($source:expr => $wanted:literal;)*) => { &[$(($source, "", $wanted)),*] };
 }
 
-// A table with a case of a run: what stands between the head and MODEND, a journal, and the whole transcript.
+// A table with a case of a run in each line: a part of a source, a journal, and what is expected.
 macro_rules! runs {
-    ($($body:literal, $journal:literal => $told:literal;)*) => { &[$(($body, $journal, $told)),*] };
+    ($($part:literal, $journal:literal => $told:literal;)*) => { &[$(($part, $journal, $told)),*] };
 }
 
 #[cfg(test)]
+mod case;
+#[cfg(test)]
 mod check;
+#[cfg(test)]
+mod ends;
 #[cfg(test)]
 mod mark;
 #[cfg(test)]

@@ -1,12 +1,7 @@
 // What `print` writes.
 
-use crate::mark::{told, unmarked};
-use crate::run::{Outside, carry_out, carry_out_in};
+use crate::case::{Fault, Long, PRINT, Parts, ROOM, Table};
 use pearl_top::status::Status;
-use std::alloc::{AllocError, Global};
-use std::test::Fail;
-
-const PRINT: &[&str] = &["print", "s"];
 
 // What stands before and behind the statements of a task.
 const HEAD: &str = "MODULE(m);PROBLEM;t:TASK;";
@@ -17,9 +12,14 @@ const PRINTED_HEAD: &str = "MODULE ( m ) ;\nPROBLEM ;\nt : TASK ;\n";
 
 const PRINTED_TAIL: &str = "END ;\nMODEND ;\n";
 
-// Whole sources. The last one is a valve, that of crates/pearl/data/valve.pearl.
-fn modules() -> &'static [(&'static str, &'static str)] {
-    table![
+/// Whole sources. The last but one is a valve, that of crates/pearl/data/valve.pearl.
+pub static MODULES: Table = Table {
+    words: PRINT,
+    around: ("", ""),
+    again: true,
+    status: Status::Done,
+    about: ("", ""),
+    rows: table![
         "MODULE;PROBLEM;MODEND" => "MODULE ;\nPROBLEM ;\nMODEND ;\n";
         "MODULE(pump); PROBLEM; MODEND;" => "MODULE ( pump ) ;\nPROBLEM ;\nMODEND ;\n";
         "MODULE pump; SYSTEM; PROBLEM; MODEND;"
@@ -39,12 +39,19 @@ fn modules() -> &'static [(&'static str, &'static str)] {
                 IF level >= 100 AND NOT open THEN CALL close ( 2 ) ;\n\
                 ELSE AFTER 0 HRS 1 MIN 30.000 SEC RESUME ;\n\
                 FIN ;\nEND ;\nMODEND ;\n";
-    ]
-}
+        "MODULE(m);PROBLEM;t:TASK;IF a EQ 1 THEN FIN;END;MODEND;"
+            => "MODULE ( m ) ;\nPROBLEM ;\nt : TASK ;\nIF a == 1 THEN FIN ;\nEND ;\nMODEND ;\n";
+    ],
+};
 
-// Declarations.
-fn declarations() -> &'static [(&'static str, &'static str)] {
-    table![
+/// Declarations.
+pub static DECLARATIONS: Table = Table {
+    words: PRINT,
+    around: ("MODULE;PROBLEM;", "MODEND"),
+    again: true,
+    status: Status::Done,
+    about: ("MODULE ;\nPROBLEM ;\n", "MODEND ;\n"),
+    rows: table![
         "LENGTH FIXED(15);" => "LENGTH FIXED ( 15 ) ;\n";
         "LENGTH BIT(8);LENGTH CHARACTER(20);" => "LENGTH BIT ( 8 ) ;\nLENGTH CHAR ( 20 ) ;\n";
         "TYPE point STRUCT[(x, y) FIXED];" => "TYPE point STRUCT [ ( x , y ) FIXED ] ;\n";
@@ -92,12 +99,17 @@ fn declarations() -> &'static [(&'static str, &'static str)] {
         "t: TASK; DCL i FIXED; DCL j FIXED INIT(2), k(3) BIT; i := 1; j := i + j; END;"
             => "t : TASK ;\nDCL i FIXED ;\nDCL j FIXED INIT ( 2 ) , k ( 3 ) BIT ;\ni := 1 ;\n\
                 j := i + j ;\nEND ;\n";
-    ]
-}
+    ],
+};
 
-// Statements.
-fn statements() -> &'static [(&'static str, &'static str)] {
-    table![
+/// Statements of a task.
+pub static STATEMENTS: Table = Table {
+    words: PRINT,
+    around: (HEAD, TAIL),
+    again: true,
+    status: Status::Done,
+    about: (PRINTED_HEAD, PRINTED_TAIL),
+    rows: table![
         ";" => ";\n";
         "level(2) := level(1) + 1;" => "level ( 2 ) := level ( 1 ) + 1 ;\n";
         "plant.tank(2, i + 1).level = 3;" => "plant . tank ( 2 , i + 1 ) . level := 3 ;\n";
@@ -151,12 +163,20 @@ fn statements() -> &'static [(&'static str, &'static str)] {
                 c ( 1 ) FROM tty BY A , A ;\n";
         "SEND 'FF'B4 TO valve;TAKE n FROM sensor;"
             => "SEND '11111111'B TO valve ;\nTAKE n FROM sensor ;\n";
-    ]
-}
+    ],
+};
 
-// Expressions.
-fn expressions() -> &'static [(&'static str, &'static str)] {
-    table![
+/// Values that a task puts into a variable.
+pub static EXPRESSIONS: Table = Table {
+    words: PRINT,
+    around: ("MODULE(m);PROBLEM;t:TASK;x:=", ";END;MODEND;"),
+    again: true,
+    status: Status::Done,
+    about: (
+        "MODULE ( m ) ;\nPROBLEM ;\nt : TASK ;\nx := ",
+        " ;\nEND ;\nMODEND ;\n",
+    ),
+    rows: table![
         "a + b * c ** 2" => "a + b * c ** 2";
         "a ** b // c REM d >< e CAT f" => "a ** b // c REM d >< e >< f";
         "a - b <> c CSHIFT d SHIFT e" => "a - b <> c <> d SHIFT e";
@@ -168,12 +188,22 @@ fn expressions() -> &'static [(&'static str, &'static str)] {
         "LWB table(1).b + UPB t - TRY key" => "LWB table ( 1 ) . b + UPB t - TRY key";
         "f(a, (b))(c).d(1 SEC)" => "f ( a , ( b ) ) ( c ) . d ( 0 HRS 0 MIN 1.000 SEC )";
         "007 == '01'B AND 'x' == 1:02:03" => "7 == '01'B AND 'x' == 01:02:03";
-    ]
+    ],
+};
+
+// Sources without tokens or a tree.
+macro_rules! refused {
+    ($($source:literal,)*) => { &[$(($source, "", "error syntax ^\n")),*] };
 }
 
-// Sources that are refused, each with a mark before the refused byte or token.
-fn refused() -> &'static [&'static str] {
-    &[
+/// Sources that are refused, each with a mark before the refused byte or token.
+pub static REFUSED: Table = Table {
+    words: PRINT,
+    around: ("", ""),
+    again: false,
+    status: Status::Refused,
+    about: ("", ""),
+    rows: refused![
         "^",
         " ! nothing\n^",
         "MODULE(m);PROBLEM;t:TASK;x:=^25:00:00;END;MODEND;",
@@ -190,292 +220,147 @@ fn refused() -> &'static [&'static str] {
         "MODULE;PROBLEM;t:TASK;a ^EQ 1;END;MODEND;",
         "MODULE;PROBLEM;t:TASK;IF a THEN ^END;",
         "MODULE;PROBLEM;t:TASK;^BOLT;END;MODEND;",
-    ]
+    ],
+};
+
+/// Words that are no command.
+pub static OTHER_WORDS: [&[&str]; 5] = [
+    &["print"],
+    &["print", "s", "j"],
+    &["prints", "s"],
+    &["PRINT", "s"],
+    &["run", "s"],
+];
+
+// Prints of a source where something outside fails.
+macro_rules! faults {
+    ($($source:literal $fetches:tt $puts:tt $most:expr => $status:ident $text:literal;)*) => {
+        [$(Fault {
+            words: PRINT,
+            source: $source,
+            journal: "",
+            fetches: &$fetches,
+            puts: &$puts,
+            most: $most,
+            status: Status::$status,
+            text: $text,
+        }),*]
+    };
 }
 
-// What opens a level of statements and what closes it, and how the latter is printed.
-fn levels() -> &'static [(&'static str, &'static str, &'static str)] {
-    &[
-        ("IF a THEN ", "FIN;", "FIN ;\n"),
-        ("IF a THEN ELSE ", "FIN;", "FIN ;\n"),
-        ("CASE a ALT ", "FIN;", "FIN ;\n"),
-        ("CASE a ALT OUT ", "FIN;", "FIN ;\n"),
-        ("REPEAT ", "END;", "END ;\n"),
-        ("FOR i TO a REPEAT ", "END;", "END ;\n"),
-        ("BEGIN ", "END;", "END ;\n"),
-    ]
+pub static FAULTS: [Fault; 8] = faults![
+    "MODULE;PROBLEM;MODEND" [] [] 1 => Done "MODULE ;\nPROBLEM ;\nMODEND ;\n";
+    "MODULE;PROBLEM;MODEND" [1] [] usize::MAX => ReadFault "error read\n";
+    "MODULE;PROBLEM;MODEND" [9] [] 1 => ReadFault "error read\n";
+    "MODULE;PROBLEM;MODEND" [] [1] usize::MAX => WriteFault "";
+    "MODULE;PROBLEM;MODEND" [] [4] 1 => WriteFault "MOD";
+    "MODULE;PROBLEM;MODEND" [1] [1] usize::MAX => WriteFault "";
+    "" [] [1] usize::MAX => WriteFault "";
+    "%" [] [7] 1 => WriteFault "error ";
+];
+
+// Long sources with their texts, each of which is printed as itself.
+macro_rules! printed {
+    ($($source:tt => $text:tt;)*) => {
+        [$(Long {
+            words: PRINT,
+            source: &$source,
+            journal: &[],
+            room: 2_097_152,
+            again: true,
+            status: Status::Done,
+            text: &$text,
+        }),*]
+    };
 }
 
-// What this source is printed to, and how that ends.
-fn printed(alloc: Global, source: &[u8]) -> Result<(Status, Vec<u8>), AllocError> {
-    carry_out(alloc, PRINT, source, b"", 65_536)
+// Long sources that are refused at their marks.
+macro_rules! refused_long {
+    ($($source:tt;)*) => {
+        [$(Long {
+            words: PRINT,
+            source: &$source,
+            journal: &[],
+            room: ROOM,
+            again: false,
+            status: Status::Refused,
+            text: &[("error syntax ^\n", 1)],
+        }),*]
+    };
 }
 
-// Whether the source is printed to this text, and the text to itself.
-fn prints(alloc: Global, source: &str, text: &str) -> Result<bool, AllocError> {
-    let (status, once) = printed(alloc, source.as_bytes())?;
-    let (again, twice) = printed(alloc, once.as_slice())?;
-    Ok(
-        status == Status::Done
-            && again == Status::Done
-            && once.as_slice() == text.as_bytes()
-            && twice.as_slice() == text.as_bytes(),
-    )
-}
-
-// Whether the source is refused at the mark.
-fn refuses(alloc: Global, case: &str) -> Result<bool, AllocError> {
-    let (source, place) = unmarked(alloc, case)?;
-    let line = told(alloc, "error syntax ^\n", place)?;
-    let (status, text) = printed(alloc, source.as_slice())?;
-    Ok(status == Status::Refused && text.as_slice() == line.as_bytes())
-}
-
-// These parts, each so many times.
-fn joined(alloc: Global, parts: &[(&str, usize)]) -> Result<String, AllocError> {
-    let mut whole = String::new(alloc);
-    for &(part, times) in parts {
-        for _ in 0..times {
-            whole.push_str(part)?;
-        }
-    }
-    Ok(whole)
-}
-
-#[test]
-fn a_source_is_written_in_its_canonical_layout(rt: HostRuntime) -> Result<(), Fail> {
-    let source: &[u8] = b"MODULE(m);PROBLEM;t:TASK;IF a EQ 1 THEN FIN;END;MODEND;";
-    let text: &[u8] =
-        b"MODULE ( m ) ;\nPROBLEM ;\nt : TASK ;\nIF a == 1 THEN FIN ;\nEND ;\nMODEND ;\n";
-    let (status, written) = printed(rt.alloc(), source)?;
-    assert_eq!(rt; written.as_slice(), text);
-    assert_eq!(rt; status, Status::Done);
-    Ok(())
-}
-
-#[test]
-fn every_form_is_printed_and_its_print_prints_itself(rt: HostRuntime) -> Result<(), Fail> {
-    let alloc = rt.alloc();
-    for &(source, text) in modules() {
-        assert!(rt; prints(alloc, source, text)?, "{source}");
-    }
-    for &(part, text) in declarations() {
-        let source = format!(in alloc; "MODULE;PROBLEM;{part}MODEND")?;
-        let whole = format!(in alloc; "MODULE ;\nPROBLEM ;\n{text}MODEND ;\n")?;
-        assert!(rt; prints(alloc, source.as_str(), whole.as_str())?, "{part}");
-    }
-    for &(part, text) in statements() {
-        let source = format!(in alloc; "{HEAD}{part}{TAIL}")?;
-        let whole = format!(in alloc; "{PRINTED_HEAD}{text}{PRINTED_TAIL}")?;
-        assert!(rt; prints(alloc, source.as_str(), whole.as_str())?, "{part}");
-    }
-    for &(part, text) in expressions() {
-        let source = format!(in alloc; "{HEAD}x:={part};{TAIL}")?;
-        let whole = format!(in alloc; "{PRINTED_HEAD}x := {text} ;\n{PRINTED_TAIL}")?;
-        assert!(rt; prints(alloc, source.as_str(), whole.as_str())?, "{part}");
-    }
-    Ok(())
-}
-
-#[test]
-fn a_source_without_tokens_or_tree_is_refused(rt: HostRuntime) -> Result<(), Fail> {
-    for &case in refused() {
-        assert!(rt; refuses(rt.alloc(), case)?, "{case}");
-    }
-    Ok(())
-}
-
-#[test]
-fn statements_nest_32_deep(rt: HostRuntime) -> Result<(), Fail> {
-    let alloc = rt.alloc();
-    for &(open, close, closed) in levels() {
-        let deep = joined(alloc, &[(HEAD, 1), (open, 32), (close, 32), (TAIL, 1)])?;
-        let text = joined(
-            alloc,
-            &[
-                (PRINTED_HEAD, 1),
-                (open, 32),
-                (closed, 32),
-                (PRINTED_TAIL, 1),
-            ],
-        )?;
-        assert!(rt; prints(alloc, deep.as_str(), text.as_str())?, "{open}");
-        let deeper = joined(
-            alloc,
-            &[
-                (HEAD, 1),
-                (open, 32),
-                ("^", 1),
-                (open, 1),
-                (close, 33),
-                (TAIL, 1),
-            ],
-        )?;
-        assert!(rt; refuses(alloc, deeper.as_str())?, "{open}");
-    }
-    Ok(())
-}
-
-#[test]
-fn all_that_nests_is_counted_together(rt: HostRuntime) -> Result<(), Fail> {
-    let alloc = rt.alloc();
-    let open = "IF a THEN CASE a ALT REPEAT BEGIN ";
-    let close = "END;END;FIN;FIN;";
-    let closed = "END ;\nEND ;\nFIN ;\nFIN ;\n";
-    let deep = joined(alloc, &[(HEAD, 1), (open, 8), (close, 8), (TAIL, 1)])?;
-    let text = joined(
-        alloc,
-        &[(PRINTED_HEAD, 1), (open, 8), (closed, 8), (PRINTED_TAIL, 1)],
-    )?;
-    assert!(rt; prints(alloc, deep.as_str(), text.as_str())?);
-    let deeper = joined(
-        alloc,
-        &[
-            (HEAD, 1),
-            (open, 8),
-            ("^BEGIN END;", 1),
-            (close, 8),
-            (TAIL, 1),
-        ],
-    )?;
-    assert!(rt; refuses(alloc, deeper.as_str())?);
-    Ok(())
-}
-
-#[test]
-fn an_expression_has_100_operators(rt: HostRuntime) -> Result<(), Fail> {
-    let alloc = rt.alloc();
-    let sum = joined(
-        alloc,
-        &[(HEAD, 1), ("x:=1", 1), ("+1", 100), (";", 1), (TAIL, 1)],
-    )?;
-    let text = joined(
-        alloc,
-        &[
+/// Levels of statements, the operators of an expression, and the bytes of a source, as many as there may be.
+pub static LONGS: [Long; 10] = printed![
+    [(HEAD, 1), ("IF a THEN ", 32), ("FIN;", 32), (TAIL, 1)]
+        => [(PRINTED_HEAD, 1), ("IF a THEN ", 32), ("FIN ;\n", 32), (PRINTED_TAIL, 1)];
+    [(HEAD, 1), ("IF a THEN ELSE ", 32), ("FIN;", 32), (TAIL, 1)]
+        => [(PRINTED_HEAD, 1), ("IF a THEN ELSE ", 32), ("FIN ;\n", 32), (PRINTED_TAIL, 1)];
+    [(HEAD, 1), ("CASE a ALT ", 32), ("FIN;", 32), (TAIL, 1)]
+        => [(PRINTED_HEAD, 1), ("CASE a ALT ", 32), ("FIN ;\n", 32), (PRINTED_TAIL, 1)];
+    [(HEAD, 1), ("CASE a ALT OUT ", 32), ("FIN;", 32), (TAIL, 1)]
+        => [(PRINTED_HEAD, 1), ("CASE a ALT OUT ", 32), ("FIN ;\n", 32), (PRINTED_TAIL, 1)];
+    [(HEAD, 1), ("REPEAT ", 32), ("END;", 32), (TAIL, 1)]
+        => [(PRINTED_HEAD, 1), ("REPEAT ", 32), ("END ;\n", 32), (PRINTED_TAIL, 1)];
+    [(HEAD, 1), ("FOR i TO a REPEAT ", 32), ("END;", 32), (TAIL, 1)]
+        => [(PRINTED_HEAD, 1), ("FOR i TO a REPEAT ", 32), ("END ;\n", 32), (PRINTED_TAIL, 1)];
+    [(HEAD, 1), ("BEGIN ", 32), ("END;", 32), (TAIL, 1)]
+        => [(PRINTED_HEAD, 1), ("BEGIN ", 32), ("END ;\n", 32), (PRINTED_TAIL, 1)];
+    [(HEAD, 1), ("IF a THEN CASE a ALT REPEAT BEGIN ", 8), ("END;END;FIN;FIN;", 8), (TAIL, 1)]
+        => [
             (PRINTED_HEAD, 1),
-            ("x := 1", 1),
-            (" + 1", 100),
-            (" ;\n", 1),
+            ("IF a THEN CASE a ALT REPEAT BEGIN ", 8),
+            ("END ;\nEND ;\nFIN ;\nFIN ;\n", 8),
             (PRINTED_TAIL, 1),
-        ],
-    )?;
-    assert!(rt; prints(alloc, sum.as_str(), text.as_str())?);
-    let longer = joined(
-        alloc,
-        &[(HEAD, 1), ("x:=1", 1), ("+1", 100), ("^+1;", 1), (TAIL, 1)],
-    )?;
-    assert!(rt; refuses(alloc, longer.as_str())?);
-    Ok(())
-}
+        ];
+    [(HEAD, 1), ("x:=1", 1), ("+1", 100), (";", 1), (TAIL, 1)]
+        => [(PRINTED_HEAD, 1), ("x := 1", 1), (" + 1", 100), (" ;\n", 1), (PRINTED_TAIL, 1)];
+    [("MODULE;PROBLEM;MODEND", 1), (" ", 1_048_555)] => [("MODULE ;\nPROBLEM ;\nMODEND ;\n", 1)];
+];
 
-// Words that are no command.
-fn other_words() -> &'static [&'static [&'static str]] {
-    &[
-        &["print"],
-        &["print", "s", "j"],
-        &["prints", "s"],
-        &["PRINT", "s"],
-        &["run", "s"],
-    ]
-}
+/// What passes these limits.
+pub static LONGS_REFUSED: [Long; 9] = refused_long![
+    [(HEAD, 1), ("IF a THEN ", 32), ("^IF a THEN ", 1), ("FIN;", 33), (TAIL, 1)];
+    [(HEAD, 1), ("IF a THEN ELSE ", 32), ("^IF a THEN ELSE ", 1), ("FIN;", 33), (TAIL, 1)];
+    [(HEAD, 1), ("CASE a ALT ", 32), ("^CASE a ALT ", 1), ("FIN;", 33), (TAIL, 1)];
+    [(HEAD, 1), ("CASE a ALT OUT ", 32), ("^CASE a ALT OUT ", 1), ("FIN;", 33), (TAIL, 1)];
+    [(HEAD, 1), ("REPEAT ", 32), ("^REPEAT ", 1), ("END;", 33), (TAIL, 1)];
+    [(HEAD, 1), ("FOR i TO a REPEAT ", 32), ("^FOR i TO a REPEAT ", 1), ("END;", 33), (TAIL, 1)];
+    [(HEAD, 1), ("BEGIN ", 32), ("^BEGIN ", 1), ("END;", 33), (TAIL, 1)];
+    [
+        (HEAD, 1),
+        ("IF a THEN CASE a ALT REPEAT BEGIN ", 8),
+        ("^BEGIN END;", 1),
+        ("END;END;FIN;FIN;", 8),
+        (TAIL, 1)
+    ];
+    [(HEAD, 1), ("x:=1", 1), ("+1", 100), ("^+1;", 1), (TAIL, 1)];
+];
 
-#[test]
-fn print_takes_one_name(rt: HostRuntime) -> Result<(), Fail> {
-    let alloc = rt.alloc();
-    for names in other_words() {
-        let (status, line) = carry_out(alloc, names, b"MODULE;PROBLEM;MODEND", b"", 4096)?;
-        let want: &[u8] = b"error usage\n";
-        assert_eq!(rt; line.as_slice(), want);
-        assert_eq!(rt; status, Status::Usage);
-    }
-    Ok(())
-}
+/// A source of nearly 1,048,576 bytes.
+pub const FULL: Parts = &[(HEAD, 1), ("x:=1;", 209_700), (TAIL, 1)];
 
-// How a print of a source ends where these calls fail, of the shelf and of the sink, each moving so many bytes at
-// most.
-struct Fault {
-    source: &'static [u8],
-    fetches: &'static [u64],
-    puts: &'static [u64],
-    most: usize,
-    status: Status,
-    text: &'static [u8],
-}
-
-fn faults() -> &'static [Fault] {
-    macro_rules! faults {
-        ($($source:literal $fetches:tt $puts:tt $most:expr => $status:ident $text:literal;)*) => {
-            &[$(Fault {
-                source: $source,
-                fetches: &$fetches,
-                puts: &$puts,
-                most: $most,
-                status: Status::$status,
-                text: $text,
-            }),*]
-        };
-    }
-    faults![
-        b"MODULE;PROBLEM;MODEND" [] [] 1 => Done b"MODULE ;\nPROBLEM ;\nMODEND ;\n";
-        b"MODULE;PROBLEM;MODEND" [1] [] usize::MAX => ReadFault b"error read\n";
-        b"MODULE;PROBLEM;MODEND" [9] [] 1 => ReadFault b"error read\n";
-        b"MODULE;PROBLEM;MODEND" [] [1] usize::MAX => WriteFault b"";
-        b"MODULE;PROBLEM;MODEND" [] [4] 1 => WriteFault b"MOD";
-        b"MODULE;PROBLEM;MODEND" [1] [1] usize::MAX => WriteFault b"";
-        b"" [] [1] usize::MAX => WriteFault b"";
-        b"%" [] [7] 1 => WriteFault b"error ";
-    ]
-}
-
-#[test]
-fn faults_outside_end_a_print(rt: HostRuntime) -> Result<(), Fail> {
-    let alloc = rt.alloc();
-    for fault in faults() {
-        let outside = Outside {
-            fetches: fault.fetches,
-            puts: fault.puts,
-            most: fault.most,
-        };
-        let (ended, written) = carry_out_in(alloc, PRINT, fault.source, b"", outside)?;
-        assert_eq!(rt; written.as_slice(), fault.text);
-        assert_eq!(rt; ended, fault.status);
-    }
-    Ok(())
-}
-
-#[test]
-fn a_source_has_at_most_1048576_bytes(rt: HostRuntime) -> Result<(), Fail> {
-    let alloc = rt.alloc();
-    let mut longest = Vec::from_slice(alloc, b"MODULE;PROBLEM;MODEND")?;
-    longest.resize(1_048_576, 32)?;
-    let mut too_long = longest.clone()?;
-    too_long.push(32)?;
-    let (status, written) = printed(alloc, longest.as_slice())?;
-    let text: &[u8] = b"MODULE ;\nPROBLEM ;\nMODEND ;\n";
-    assert_eq!(rt; written.as_slice(), text);
-    assert_eq!(rt; status, Status::Done);
-    let (status, line) = printed(alloc, too_long.as_slice())?;
-    let want: &[u8] = b"error too long 1048577\n";
-    assert_eq!(rt; line.as_slice(), want);
-    assert_eq!(rt; status, Status::TooLong);
-    Ok(())
-}
-
-#[test]
-fn a_source_full_of_statements_is_printed(rt: HostRuntime) -> Result<(), Fail> {
-    let alloc = rt.alloc();
-    let source = joined(alloc, &[(HEAD, 1), ("x:=1;", 209_700), (TAIL, 1)])?;
-    let text = joined(
-        alloc,
-        &[
+/// That source, and one that is too long.
+pub static LONGEST: [Long; 2] = [
+    Long {
+        words: PRINT,
+        source: FULL,
+        journal: &[],
+        room: 2_097_152,
+        again: false,
+        status: Status::Done,
+        text: &[
             (PRINTED_HEAD, 1),
             ("x := 1 ;\n", 209_700),
             (PRINTED_TAIL, 1),
         ],
-    )?;
-    let (status, written) = carry_out(alloc, PRINT, source.as_bytes(), b"", 2_097_152)?;
-    assert!(rt; source.len() > 1_048_500);
-    assert!(rt; written.as_slice() == text.as_bytes());
-    assert_eq!(rt; status, Status::Done);
-    Ok(())
-}
+    },
+    Long {
+        words: PRINT,
+        source: &[("MODULE;PROBLEM;MODEND", 1), (" ", 1_048_556)],
+        journal: &[],
+        room: ROOM,
+        again: false,
+        status: Status::TooLong,
+        text: &[("error too long 1048577\n", 1)],
+    },
+];

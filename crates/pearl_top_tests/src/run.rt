@@ -1,14 +1,9 @@
 // What `run` writes.
 
-use crate::mark::{told, unmarked};
-use pearl_io::{File, MemoryShelf, MemorySink, SureShelf, SureSink};
+use crate::case::{Fault, Long, RUN, Table};
+use crate::typed;
+use crate::whole::{BEGIN, END, HEAD, TAIL};
 use pearl_top::status::Status;
-use pearl_top::top::pearl;
-use std::alloc::{AllocError, Global};
-use std::test::Fail;
-
-/// The words of a run over both files.
-pub const RUN: &[&str] = &["run", "s", "j"];
 
 // A module with this between its head and MODEND.
 macro_rules! module {
@@ -32,77 +27,14 @@ const NARROW: &str = module!("main: TASK MAIN; PUT 1000 TO tty BY F(3); END;");
 const WHOLE: &str =
     "0 start main 255\n0 out 1 '   17\\n'\n0 end main\n0 state main dormant\n0 close\n";
 
-fn words(alloc: Global, words: &[&str]) -> Result<Vec<String>, AllocError> {
-    let mut owned = Vec::new(alloc);
-    for word in words {
-        owned.push(String::from_str(alloc, word)?)?;
-    }
-    Ok(owned)
-}
-
-fn two_files(alloc: Global, source: &[u8], journal: &[u8]) -> Result<Vec<File>, AllocError> {
-    let mut files = Vec::new(alloc);
-    for (name, bytes) in [("s", source), ("j", journal)] {
-        files.push(File {
-            name: String::from_str(alloc, name)?,
-            bytes: Vec::from_slice(alloc, bytes)?,
-        })?;
-    }
-    Ok(files)
-}
-
-/// How a command ends, and what it writes.
-pub type Ending = (Status, Vec<u8>);
-
-/// The command over these two files, s and j, where nothing outside fails and so many bytes are taken.
-pub fn carry_out(
-    alloc: Global,
-    names: &[&str],
-    source: &[u8],
-    journal: &[u8],
-    room: usize,
-) -> Result<Ending, AllocError> {
-    let names = words(alloc, names)?;
-    let mut shelf = SureShelf::new(two_files(alloc, source, journal)?);
-    let mut sink = SureSink::new(alloc, room)?;
-    let status = pearl(alloc, names.as_slice(), &mut shelf, &mut sink);
-    Ok((status, Vec::from_slice(alloc, sink.bytes())?))
-}
-
-/// What fails outside: the numbers of the calls of the shelf and of the sink, each call moving so many bytes at most,
-/// but one at least.
-#[derive(Clone, Copy)]
-pub struct Outside {
-    pub fetches: &'static [u64],
-    pub puts: &'static [u64],
-    pub most: usize,
-}
-
-/// The command over these two files, s and j, where this fails.
-pub fn carry_out_in(
-    alloc: Global,
-    names: &[&str],
-    source: &[u8],
-    journal: &[u8],
-    outside: Outside,
-) -> Result<Ending, AllocError> {
-    let names = words(alloc, names)?;
-    let most = outside.most.max(1);
-    let files = two_files(alloc, source, journal)?;
-    let mut shelf = MemoryShelf::new(files, Vec::from_slice(alloc, outside.fetches)?, most);
-    let mut sink = MemorySink::new(alloc, Vec::from_slice(alloc, outside.puts)?, most);
-    let status = pearl(alloc, names.as_slice(), &mut shelf, &mut sink);
-    Ok((status, Vec::from_slice(alloc, sink.bytes())?))
-}
-
-// Declarations and a task with a journal, and the transcript between the start of the task and the close.
-fn variables() -> &'static [(&'static str, &'static str, &'static str)] {
-    macro_rules! runs {
-        ($($body:literal, $journal:literal => $told:literal;)*) => {
-            &[$((module!($body), $journal, $told)),*]
-        };
-    }
-    runs![
+/// Declarations and a task with a journal, and the transcript between the start of the task and the close.
+pub static VARIABLES: Table = Table {
+    words: RUN,
+    around: (HEAD, TAIL),
+    again: false,
+    status: Status::Done,
+    about: (BEGIN, END),
+    rows: runs![
         "DCL inflow FIXED;\nDCL level FIXED;\nmain: TASK MAIN;\n  inflow := 40;\n  \
             level := level + inflow - 3;\n  PUT level TO tty BY F(5), SKIP;\n  \
             level := 2147483647 + level;\nEND;", "run 6\nrun 10\n"
@@ -125,27 +57,22 @@ fn variables() -> &'static [(&'static str, &'static str, &'static str)] {
         "DCL x FIXED; main: TASK MAIN; x := 5; PUT x TO tty BY F(1); \
             x := 0 - x; PUT x TO tty BY F(1); END;", "run 100"
             => "0 out 1 '5'\n0 trap main Format\n0 state main dormant\n";
-    ]
+    ],
+};
+
+// Refusals of a run.
+macro_rules! refusals {
+    ($($body:literal => $line:literal;)*) => { &[$(($body, "run 10", $line)),*] };
 }
 
-#[test]
-fn variables_hold_what_was_put_into_them(rt: HostRuntime) -> Result<(), Fail> {
-    let alloc = rt.alloc();
-    for &(source, journal, between) in variables() {
-        let text = format!(in alloc; "0 start main 255\n{between}0 close\n")?;
-        let (status, written) = carry_out(alloc, RUN, source.as_bytes(), journal.as_bytes(), 4096)?;
-        assert_eq!(rt; written.as_slice(), text.as_bytes(), "{source}");
-        assert_eq!(rt; status, Status::Done, "{source}");
-    }
-    Ok(())
-}
-
-// Declarations and a task with a mark before the place that is told, and the line.
-fn refused() -> &'static [(&'static str, &'static str)] {
-    macro_rules! refusals {
-        ($($body:literal => $line:literal;)*) => { &[$((module!($body), $line)),*] };
-    }
-    refusals![
+/// Declarations and a task with a mark before the place that is told, and the line.
+pub static REFUSED: Table = Table {
+    words: RUN,
+    around: (HEAD, TAIL),
+    again: false,
+    status: Status::Refused,
+    about: ("", ""),
+    rows: refusals![
         "DCL x FIXED; DCL ^x FIXED; main: TASK MAIN; END;" => "error source ^ S1\n";
         "DCL x FIXED; ^x: TASK MAIN; END;" => "error source ^ S1\n";
         "DCL x FIXED; main: TASK MAIN; x := x + ^y; END;" => "error source ^ S2\n";
@@ -156,159 +83,164 @@ fn refused() -> &'static [(&'static str, &'static str)] {
         "main: TASK MAIN; ^PUT 17 TO tty BY F(1024), SKIP; END;" => "error source ^ S33\n";
         "DCL x FIXED; main: TASK MAIN; x := 1 + ^; END;" => "error syntax ^\n";
         "main: TASK MAIN; PUT ^9223372036854775808 TO tty BY F(5); END;" => "error syntax ^\n";
-    ]
+    ],
+};
+
+// Words, a source and a journal, where each call moves so many bytes at most, and how that ends.
+macro_rules! commands {
+    ($most:expr; $([$($name:literal)*] $source:expr, $journal:literal => $status:ident $text:expr;)*) => {
+        [$(Fault {
+            words: &[$($name),*],
+            source: $source,
+            journal: $journal,
+            fetches: &[],
+            puts: &[],
+            most: $most,
+            status: Status::$status,
+            text: $text,
+        }),*]
+    };
 }
 
-#[test]
-fn a_source_is_refused_where_it_is_wrong(rt: HostRuntime) -> Result<(), Fail> {
-    let alloc = rt.alloc();
-    for &(case, form) in refused() {
-        let (source, place) = unmarked(alloc, case)?;
-        let line = told(alloc, form, place)?;
-        let (status, written) = carry_out(alloc, RUN, source.as_slice(), b"run 10", 4096)?;
-        assert_eq!(rt; written.as_slice(), line.as_bytes(), "{case}");
-        assert_eq!(rt; status, Status::Refused, "{case}");
-    }
-    Ok(())
+// Commands of which all calls move so many bytes at most.
+macro_rules! by {
+    ($most:expr) => {
+        commands![
+            $most;
+            ["run" "s" "j"] FIRST, "run 10\n" => Done WHOLE;
+            ["run" "s" "j"] FIRST, "run 0\nrun 1000000" => Done WHOLE;
+            ["run" "s" "j"] FIRST, "run 9223372036854775807" => Done WHOLE;
+            ["run" "s" "j"] FIRST, "" => Done "0 start main 255\n0 state main running 255\n0 close\n";
+            ["run" "s" "j"] NARROW, "run 10\n"
+                => Done "0 start main 255\n0 trap main Format\n0 state main dormant\n0 close\n";
+            ["run" "s" "j"] FIRST, "run 1\n\nrun x"
+                => BadJournal "0 start main 255\n0 out 1 '   17\\n'\nerror journal 3 1\n";
+            ["run" "s" "j"] FIRST, "run 9223372036854775808\n"
+                => BadJournal "0 start main 255\nerror journal 1 1\n";
+            ["run" "s" "j"] "", "run 10\n" => Refused "error syntax 0\n";
+            ["run" "s"] FIRST, "" => Usage "error usage\n";
+            ["walk" "s" "j"] FIRST, "" => Usage "error usage\n";
+            [] FIRST, "" => Usage "error usage\n";
+        ]
+    };
 }
 
-// Words, a source and a journal, and how that ends.
-struct Command {
-    names: &'static [&'static str],
-    source: &'static str,
-    journal: &'static str,
-    status: Status,
-    text: &'static str,
-}
+/// Status and transcript are due, whether each call moves all bytes that it can or one.
+pub static COMMANDS: [[Fault; 11]; 2] = [by!(usize::MAX), by!(1)];
 
-fn commands() -> &'static [Command] {
-    macro_rules! commands {
-        ($([$($name:literal)*] $source:expr, $journal:literal => $status:ident $text:expr;)*) => {
-            &[$(Command {
-                names: &[$($name),*],
-                source: $source,
-                journal: $journal,
-                status: Status::$status,
-                text: $text,
-            }),*]
-        };
-    }
-    commands![
-        ["run" "s" "j"] FIRST, "run 10\n" => Done WHOLE;
-        ["run" "s" "j"] FIRST, "run 0\nrun 1000000" => Done WHOLE;
-        ["run" "s" "j"] FIRST, "run 9223372036854775807" => Done WHOLE;
-        ["run" "s" "j"] FIRST, "" => Done "0 start main 255\n0 state main running 255\n0 close\n";
-        ["run" "s" "j"] NARROW, "run 10\n"
-            => Done "0 start main 255\n0 trap main Format\n0 state main dormant\n0 close\n";
-        ["run" "s" "j"] FIRST, "run 1\n\nrun x"
-            => BadJournal "0 start main 255\n0 out 1 '   17\\n'\nerror journal 3 1\n";
-        ["run" "s" "j"] FIRST, "run 9223372036854775808\n"
-            => BadJournal "0 start main 255\nerror journal 1 1\n";
-        ["run" "s" "j"] "", "run 10\n" => Refused "error syntax 0\n";
-        ["run" "s"] FIRST, "" => Usage "error usage\n";
-        ["walk" "s" "j"] FIRST, "" => Usage "error usage\n";
-        [] FIRST, "" => Usage "error usage\n";
-    ]
-}
-
-#[test]
-fn status_and_transcript_are_due(rt: HostRuntime) -> Result<(), Fail> {
-    let alloc = rt.alloc();
-    for command in commands() {
-        for most in [usize::MAX, 1] {
-            let outside = Outside {
-                fetches: &[],
-                puts: &[],
-                most,
-            };
-            let source = command.source.as_bytes();
-            let journal = command.journal.as_bytes();
-            let (ended, written) = carry_out_in(alloc, command.names, source, journal, outside)?;
-            assert_eq!(rt; written.as_slice(), command.text.as_bytes(), "by {most}");
-            assert_eq!(rt; ended, command.status, "by {most}");
-        }
-    }
-    Ok(())
-}
-
-// The numbers of the calls that fail, of the shelf and of the sink, and the status and the text.
-fn faults() -> &'static [(&'static [u64], &'static [u64], Status, &'static str)] {
-    macro_rules! faults {
-        ($($fetches:tt $puts:tt => $status:ident $text:literal;)*) => {
-            &[$((&$fetches, &$puts, Status::$status, $text)),*]
-        };
-    }
-    faults![
-        [] [1] => WriteFault "";
-        [] [2] => WriteFault "0 start main 255\n";
-        [1] [] => ReadFault "error read\n";
-        [2] [] => ReadFault "error read\n";
-        [2] [1] => WriteFault "";
-        [4] [] => ReadFault "0 start main 255\n0 out 1 '   17\\n'\nerror read\n";
-    ]
-}
-
-#[test]
-fn faults_outside_end_the_run(rt: HostRuntime) -> Result<(), Fail> {
-    let alloc = rt.alloc();
-    for &(fetches, puts, status, text) in faults() {
-        let outside = Outside {
-            fetches,
-            puts,
+// A run of the first task where something outside fails.
+macro_rules! faults {
+    ($($fetches:tt $puts:tt => $status:ident $text:literal;)*) => {
+        [$(Fault {
+            words: RUN,
+            source: FIRST,
+            journal: "run 1\nrun 10",
+            fetches: &$fetches,
+            puts: &$puts,
             most: usize::MAX,
-        };
-        let source = FIRST.as_bytes();
-        let (ended, written) = carry_out_in(alloc, RUN, source, b"run 1\nrun 10", outside)?;
-        assert_eq!(rt; written.as_slice(), text.as_bytes());
-        assert_eq!(rt; ended, status);
-    }
-    Ok(())
+            status: Status::$status,
+            text: $text,
+        }),*]
+    };
 }
 
-#[test]
-fn nothing_outside_fails(rt: HostRuntime) -> Result<(), Fail> {
-    let alloc = rt.alloc();
-    let mut longest = Vec::from_slice(alloc, FIRST.as_bytes())?;
-    longest.resize(1_048_576, 32)?;
-    let mut too_long = longest.clone()?;
-    too_long.push(32)?;
-    let cases: [(&[u8], usize, Status, &str); 4] = [
-        (FIRST.as_bytes(), 4096, Status::Done, WHOLE),
-        (
-            FIRST.as_bytes(),
-            20,
-            Status::WriteFault,
-            "0 start main 255\n0 o",
-        ),
-        (longest.as_slice(), 4096, Status::Done, WHOLE),
-        (
-            too_long.as_slice(),
-            4096,
-            Status::TooLong,
-            "error too long 1048577\n",
-        ),
-    ];
-    for (source, room, status, text) in cases {
-        let (ended, written) = carry_out(alloc, RUN, source, b"run 10\n", room)?;
-        assert_eq!(rt; written.as_slice(), text.as_bytes(), "in {room}");
-        assert_eq!(rt; ended, status, "in {room}");
-    }
-    Ok(())
+pub static FAULTS: [Fault; 6] = faults![
+    [] [1] => WriteFault "";
+    [] [2] => WriteFault "0 start main 255\n";
+    [1] [] => ReadFault "error read\n";
+    [2] [] => ReadFault "error read\n";
+    [2] [1] => WriteFault "";
+    [4] [] => ReadFault "0 start main 255\n0 out 1 '   17\\n'\nerror read\n";
+];
+
+// Runs with as much room as this.
+macro_rules! longs {
+    ($($source:tt, $journal:tt in $room:literal => $status:ident $text:tt;)*) => {
+        [$(Long {
+            words: RUN,
+            source: &$source,
+            journal: &$journal,
+            room: $room,
+            again: false,
+            status: Status::$status,
+            text: &$text,
+        }),*]
+    };
 }
 
-#[test]
-fn statuses_have_their_codes(rt: HostRuntime) {
-    for (status, code) in [
-        (Status::Done, 0),
-        (Status::Usage, 1),
-        (Status::Refused, 2),
-        (Status::BadObject, 3),
-        (Status::BadJournal, 4),
-        (Status::ReadFault, 5),
-        (Status::WriteFault, 6),
-        (Status::NoMemory, 7),
-        (Status::TooLong, 8),
-    ] {
-        assert_eq!(rt; status.code(), code, "of {status:?}");
-    }
-}
+// 255 letters that come in.
+const LETTERS: &str = "chars 1 '\
+    xxxxxxxxxxxxxxxxxxxxxxxxxxxxxxxxxxxxxxxxxxxxxxxxxxxxxxxxxxxxxxxxxxxxxxxxxxxxxxxxxxxxx\
+    xxxxxxxxxxxxxxxxxxxxxxxxxxxxxxxxxxxxxxxxxxxxxxxxxxxxxxxxxxxxxxxxxxxxxxxxxxxxxxxxxxxxx\
+    xxxxxxxxxxxxxxxxxxxxxxxxxxxxxxxxxxxxxxxxxxxxxxxxxxxxxxxxxxxxxxxxxxxxxxxxxxxxxxxxxxxxx'\n";
+
+/// A room is filled and no more, and a source has at most 1,048,576 bytes. 200 tasks start, a later one more urgent, each
+/// of which writes its number, and calls stand 200 deep. A line of a journal has 1,024 bytes without its end. An input
+/// holds 256 values; a terminal holds 4,096 bytes and drops whole texts.
+pub static LONGS: [Long; 12] = longs![
+    [(FIRST, 1)], [("run 10\n", 1)] in 4096 => Done [(WHOLE, 1)];
+    [(FIRST, 1)], [("run 10\n", 1)] in 20 => WriteFault [("0 start main 255\n0 o", 1)];
+    [(FIRST, 1), (" ", 1048408)], [("run 10\n", 1)] in 4096 => Done [(WHOLE, 1)];
+    [(FIRST, 1), (" ", 1048409)], [("run 10\n", 1)] in 4096 => TooLong [("error too long 1048577\n", 1)];
+    [(HEAD, 1), ("t@: TASK PRIO ~ MAIN; PUT @ TO tty BY F(3); END;\n", 200), ("MODEND;\n", 1)],
+        [("run 1000\n", 1)] in 65536
+        => Done [
+            ("0 start t@ ~\n", 200),
+            ("0 out 1 '$'\n0 end t~\n", 200),
+            ("0 state t@ dormant\n", 200),
+            ("0 close\n", 1),
+        ];
+    [
+        (HEAD, 1),
+        ("p0: PROC RETURNS(FIXED); RETURN(1); END;\n", 1),
+        ("p@: PROC RETURNS(FIXED); RETURN(p& + 1); END;\n", 199),
+        ("main: TASK MAIN; PUT p199 TO tty BY F(5); END;\nMODEND;\n", 1),
+    ], [("run 300\n", 1)] in 4096
+        => Done [("0 start main 255\n0 out 1 '  200'\n0 end main\n0 state main dormant\n0 close\n", 1)];
+    [(HEAD, 1), ("a: TASK MAIN; END;\nMODEND;\n", 1)], [(" ", 1019), ("run 9", 1)] in 4096
+        => Done [("0 start a 255\n0 end a\n0 state a dormant\n0 close\n", 1)];
+    [(HEAD, 1), ("a: TASK MAIN; END;\nMODEND;\n", 1)], [(" ", 1019), ("run 9\r\n", 1)] in 4096
+        => Done [("0 start a 255\n0 end a\n0 state a dormant\n0 close\n", 1)];
+    [(HEAD, 1), ("a: TASK MAIN; END;\nMODEND;\n", 1)], [(" ", 1020), ("run 9", 1)] in 4096
+        => BadJournal [("0 start a 255\nerror journal 1 1\n", 1)];
+    [(HEAD, 1), ("a: TASK MAIN; END;\nMODEND;\n", 1)], [(" ", 1020), ("run 9\n", 1)] in 4096
+        => BadJournal [("0 start a 255\nerror journal 1 1\n", 1)];
+    [
+        (typed::HEAD, 1),
+        (
+            "a: TASK MAIN; DCL n FIXED; AFTER 1 SEC RESUME; TAKE n FROM level; PUT n TO tty BY \
+                F(4); END;",
+            1,
+        ),
+        (TAIL, 1),
+    ],
+        [
+            ("run 9\n", 1),
+            ("value 1 @\n", 258),
+            ("tick 1000\nrun 3\nvalue 1 8\nvalue 1 9\n", 1),
+        ] in 4096
+        => Done [(
+            "0 start a 255\n0 lost input 1\n0 lost input 1\n1000 out 1 '   1'\n1000 end a\n\
+                1000 lost input 1\n1000 state a dormant\n1000 close\n",
+            1,
+        )];
+    [
+        (typed::HEAD, 1),
+        (
+            "a: TASK MAIN; DCL s CHAR(6); TO 16 REPEAT GET FROM tty BY X(255); END;\nGET s FROM tty \
+                BY X(10), A; PUT s TO tty BY A; END;",
+            1,
+        ),
+        (TAIL, 1),
+    ],
+        [
+            (LETTERS, 16),
+            ("chars 1 'xxxxxxxxxx'\n", 1),
+            ("chars 1 'abcdefg'\nchars 1 'abcdef'\nline 1 ''\nrun 99\nline 1 'abc'\nrun 9\n", 1),
+        ] in 4096
+        => Done [(
+            "0 start a 255\n0 lost terminal 1\n0 lost terminal 1\n0 out 1 'abcdef'\n0 end a\n\
+                0 state a dormant\n0 close\n",
+            1,
+        )];
+];

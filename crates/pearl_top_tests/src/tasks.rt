@@ -1,17 +1,17 @@
 // What `run` writes of several tasks: who acts next, starts, ends and suspensions, semaphores, and whose turn it is.
 
-use crate::run::{Outside, RUN, carry_out, carry_out_in};
-use crate::whole::HEAD;
+use crate::case::{RUN, Table};
+use crate::whole::{HEAD, TAIL};
 use pearl_top::status::Status;
-use std::alloc::{AllocError, Global};
-use std::process::Abort;
-use std::test::Fail;
 
 /// What stands between the head and MODEND, a journal, and the whole transcript.
-pub type Case = (&'static str, &'static str, &'static str);
-
-fn plants() -> &'static [Case] {
-    runs![
+pub static PLANTS: Table = Table {
+    words: RUN,
+    around: (HEAD, TAIL),
+    again: false,
+    status: Status::Done,
+    about: ("", ""),
+    rows: runs![
         "DCL x FIXED(63) INIT(9223372036854775807); a: TASK PRIO 1 MAIN; x := x + 1; END; b: TASK PRIO 2 \
             MAIN; PUT 1 TO tty BY F(1); END;",
             "run 10" =>
@@ -150,89 +150,34 @@ fn plants() -> &'static [Case] {
             "run 1" =>
                 "0 start a 2\n0 start b 3\n0 out 1 '1'\n0 state a running 2\n\
                 0 state b runnable 3\n0 close\n";
-    ]
-}
+    ],
+};
 
-fn refused() -> &'static [Case] {
-    runs![
+/// Only a declared task has its turn.
+pub static REFUSED: Table = Table {
+    words: RUN,
+    around: (HEAD, TAIL),
+    again: false,
+    status: Status::BadJournal,
+    about: ("", ""),
+    rows: runs![
         "a: TASK MAIN; END;",
             "run 1\n\nturn b\nrun 1" =>
                 "0 start a 255\n0 end a\nerror journal 3 2\n";
         "DCL s SEMA; a: TASK MAIN; END;",
             "turn s" =>
                 "0 start a 255\nerror journal 1 2\n";
-    ]
-}
+    ],
+};
 
-/// Carries out each case between this head and MODEND, which must end with this status.
-pub fn all_end_so(
-    rt: &impl Abort,
-    alloc: Global,
-    head: &str,
-    cases: &[Case],
-    wanted: Status,
-) -> Result<(), Fail> {
-    for &(body, journal, text) in cases {
-        let source = format!(in alloc; "{head}{body}\nMODEND;\n")?;
-        let (status, written) = carry_out(alloc, RUN, source.as_bytes(), journal.as_bytes(), 4096)?;
-        assert_eq!(rt; written.as_slice(), text.as_bytes(), "of {body}");
-        assert_eq!(rt; status, wanted, "of {body}");
-    }
-    Ok(())
-}
-
-#[test]
-fn tasks_act_by_the_rules(rt: HostRuntime) -> Result<(), Fail> {
-    let alloc = rt.alloc();
-    all_end_so(&rt, alloc, HEAD, plants(), Status::Done)
-}
-
-#[test]
-fn only_a_declared_task_has_its_turn(rt: HostRuntime) -> Result<(), Fail> {
-    let alloc = rt.alloc();
-    all_end_so(&rt, alloc, HEAD, refused(), Status::BadJournal)
-}
-
-// So many tasks, a later one more urgent, each of which writes its number.
-fn many(alloc: Global, count: usize) -> Result<(String, String), AllocError> {
-    let mut source = String::from_str(alloc, HEAD)?;
-    let mut text = String::new(alloc);
-    for number in 0..count {
-        let priority = count - number;
-        write!(
-            source,
-            "t{number}: TASK PRIO {priority} MAIN; PUT {number} TO tty BY F(3); END;\n"
-        )?;
-        write!(text, "0 start t{number} {priority}\n")?;
-    }
-    for back in 0..count {
-        let number = count - 1 - back;
-        write!(text, "0 out 1 '{number:>3}'\n0 end t{number}\n")?;
-    }
-    for number in 0..count {
-        write!(text, "0 state t{number} dormant\n")?;
-    }
-    source.push_str("MODEND;\n")?;
-    text.push_str("0 close\n")?;
-    Ok((source, text))
-}
-
-#[test]
-fn there_are_200_tasks(rt: HostRuntime) -> Result<(), Fail> {
-    let alloc = rt.alloc();
-    let (source, text) = many(alloc, 200)?;
-    let (status, written) = carry_out(alloc, RUN, source.as_bytes(), b"run 1000\n", 65536)?;
-    assert_eq!(rt; written.as_slice(), text.as_bytes());
-    assert_eq!(rt; status, Status::Done);
-    Ok(())
-}
-
-const WATCHED: &str = "MODULE(m); SYSTEM; tty: TERMINAL(1);\nPROBLEM; SPC tty DATION OUT ALPHIC;\n\
+/// A module of whose transcript each line may fail to be written.
+pub const WATCHED: &str =
+    "MODULE(m); SYSTEM; tty: TERMINAL(1);\nPROBLEM; SPC tty DATION OUT ALPHIC;\n\
     DCL s SEMA;\n\
     a: TASK PRIO 1 MAIN; ACTIVATE b; REQUEST s; PUT 'a' TO tty BY A; TERMINATE b; END;\n\
     b: TASK PRIO 2; PUT 'b' TO tty BY A; RELEASE s; REPEAT END; END;\nMODEND;\n";
 
-const WATCHED_LINES: [&str; 11] = [
+pub const WATCHED_LINES: [&str; 11] = [
     "0 start a 1\n",
     "0 start b 2\n",
     "0 out 1 'b'\n",
@@ -245,25 +190,3 @@ const WATCHED_LINES: [&str; 11] = [
     "0 state b dormant\n",
     "0 close\n",
 ];
-
-/// The numbers of the first calls of the output.
-pub const CALLS: [u64; 15] = [1, 2, 3, 4, 5, 6, 7, 8, 9, 10, 11, 12, 13, 14, 15];
-
-#[test]
-fn a_write_may_fail_at_each_line(rt: HostRuntime) -> Result<(), Fail> {
-    let alloc = rt.alloc();
-    let mut before = String::new(alloc);
-    for (place, line) in WATCHED_LINES.iter().enumerate() {
-        let outside = Outside {
-            fetches: &[],
-            puts: &CALLS[place..place + 1],
-            most: usize::MAX,
-        };
-        let journal: &[u8] = b"run 2\nstate\nrun 20";
-        let (status, written) = carry_out_in(alloc, RUN, WATCHED.as_bytes(), journal, outside)?;
-        assert_eq!(rt; written.as_slice(), before.as_bytes(), "before {line}");
-        assert_eq!(rt; status, Status::WriteFault, "before {line}");
-        before.push_str(line)?;
-    }
-    Ok(())
-}

@@ -1,14 +1,18 @@
-// What `run` writes of time: schedules, suspensions that end, interrupts, and the lines of a journal that bring them.
+// What `run` writes of time and interrupts: plans, series, clocks, and a journal's lines that move time.
 
-use crate::run::{Outside, RUN, carry_out, carry_out_in};
-use crate::tasks::{CALLS, Case, all_end_so};
-use crate::whole::HEAD;
+use crate::case::{Case, RUN, Table, ends_so};
+use crate::whole::{HEAD, TAIL};
 use pearl_top::status::Status;
 use std::alloc::{AllocError, Global};
-use std::test::Fail;
 
-fn plants() -> &'static [Case] {
-    runs![
+/// What stands between the head and MODEND, a journal, and the whole transcript.
+pub static PLANTS: Table = Table {
+    words: RUN,
+    around: (HEAD, TAIL),
+    again: false,
+    status: Status::Done,
+    about: ("", ""),
+    rows: runs![
         "a: TASK PRIO 1 MAIN; ALL 1 SEC DURING 3 SEC ACTIVATE b; END; b: TASK PRIO 2; PUT 'x' TO tty BY \
             A; END;",
             "run 10\ntick 3000\nrun 10\ntick 2000\nrun 10" =>
@@ -99,6 +103,17 @@ fn plants() -> &'static [Case] {
             "run 9\npass 5000 9" =>
                 "0 start a 1\n0 start b 2\n0 end a\n2000 out 1 '00:00:02'\n2000 end b\n\
                 5000 state a dormant\n5000 state b dormant\n5000 close\n";
+    ],
+};
+
+/// Likewise, of interrupts: what stands between the head and MODEND, a journal, and the whole transcript.
+pub static INTERRUPTS: Table = Table {
+    words: RUN,
+    around: (HEAD, TAIL),
+    again: false,
+    status: Status::Done,
+    about: ("", ""),
+    rows: runs![
         "DCL (p, q) FIXED; a: TASK PRIO 9 MAIN; ENABLE irq; WHEN irq ACTIVATE b; PUT p + q TO tty BY \
             F(3); END; b: TASK PRIO 1; p := 10; q := 5; END;",
             "run 3\nirpt 3\nrun 10" =>
@@ -192,11 +207,17 @@ fn plants() -> &'static [Case] {
         "a: TASK MAIN; END;",
             "pass 1099511627775 1\ntick 1" =>
                 "0 start a 255\n1 end a\n1099511627776 state a dormant\n1099511627776 close\n";
-    ]
-}
+    ],
+};
 
-fn refused() -> &'static [Case] {
-    runs![
+/// A line of a journal is refused by its code.
+pub static REFUSED: Table = Table {
+    words: RUN,
+    around: (HEAD, TAIL),
+    again: false,
+    status: Status::BadJournal,
+    about: ("", ""),
+    rows: runs![
         "main: TASK MAIN; PUT 17 TO tty BY F(5), SKIP; END;",
             "run 1\r\n# x\n\nrun x" =>
                 "0 start main 255\n0 out 1 '   17\\n'\nerror journal 4 1\n";
@@ -245,20 +266,8 @@ fn refused() -> &'static [Case] {
         "a: TASK MAIN; END;",
             "tick 1 # x" =>
                 "0 start a 255\nerror journal 1 1\n";
-    ]
-}
-
-#[test]
-fn time_and_interrupts_go_by_the_rules(rt: HostRuntime) -> Result<(), Fail> {
-    let alloc = rt.alloc();
-    all_end_so(&rt, alloc, HEAD, plants(), Status::Done)
-}
-
-#[test]
-fn a_line_of_a_journal_is_refused_by_its_code(rt: HostRuntime) -> Result<(), Fail> {
-    let alloc = rt.alloc();
-    all_end_so(&rt, alloc, HEAD, refused(), Status::BadJournal)
-}
+    ],
+};
 
 const MINUTES: &str =
     "DCL n FIXED; a: TASK PRIO 1 MAIN; AFTER 1 MIN ALL 1 MIN ACTIVATE b; END; b: TASK PRIO 2; n := n + 1; END;";
@@ -278,63 +287,29 @@ fn minutes(alloc: Global, times: u64, last: u64) -> Result<String, AllocError> {
     Ok(text)
 }
 
-#[test]
-fn a_day_is_one_line(rt: HostRuntime) -> Result<(), Fail> {
-    let alloc = rt.alloc();
-    let source = format!(in alloc; "{HEAD}{MINUTES}\nMODEND;\n")?;
-    for (journal, times, last) in [
-        ("pass 3600000 1000", 59, 3_600_000),
-        ("pass 86400000 1000", 1439, 86_400_000),
-    ] {
-        let text = minutes(alloc, times, last)?;
-        let (status, written) = carry_out(
-            alloc,
-            RUN,
-            source.as_bytes(),
-            journal.as_bytes(),
-            131_072,
-        )?;
-        assert_eq!(rt; written.as_slice(), text.as_bytes());
-        assert_eq!(rt; status, Status::Done);
-    }
-    Ok(())
+/// Whether a run of so many milliseconds, in which b is started so often, writes its transcript.
+pub fn passes(alloc: Global, journal: &str, times: u64, last: u64) -> Result<bool, AllocError> {
+    let source = format!(in alloc; "{HEAD}{MINUTES}{TAIL}")?;
+    let text = minutes(alloc, times, last)?;
+    let case = Case {
+        words: RUN,
+        source: source.as_str(),
+        journal,
+        room: 131_072,
+        again: false,
+        status: Status::Done,
+        text: text.as_str(),
+    };
+    ends_so(alloc, &case)
 }
 
-// A line of so many bytes, blanks before `run 9`, with what ends it.
-fn padded(alloc: Global, length: usize, ending: &str) -> Result<String, AllocError> {
-    let mut line = String::new(alloc);
-    for _ in 5..length {
-        line.push(' ')?;
-    }
-    write!(line, "run 9{ending}")?;
-    Ok(line)
-}
-
-#[test]
-fn a_line_has_1024_bytes_without_its_end(rt: HostRuntime) -> Result<(), Fail> {
-    let alloc = rt.alloc();
-    let source = format!(in alloc; "{HEAD}a: TASK MAIN; END;\nMODEND;\n")?;
-    let done = "0 start a 255\n0 end a\n0 state a dormant\n0 close\n";
-    for (length, ending, text) in [
-        (1024, "", done),
-        (1024, "\r\n", done),
-        (1025, "", "0 start a 255\nerror journal 1 1\n"),
-        (1025, "\n", "0 start a 255\nerror journal 1 1\n"),
-    ] {
-        let journal = padded(alloc, length, ending)?;
-        let (_, written) = carry_out(alloc, RUN, source.as_bytes(), journal.as_bytes(), 4096)?;
-        assert_eq!(rt; written.as_slice(), text.as_bytes(), "of {length} bytes");
-    }
-    Ok(())
-}
-
-// One millisecond and one interrupt with several lines each.
-const MARKS: &str = "MODULE(m); SYSTEM; irq: INTERRUPT(3);\nPROBLEM; SPC irq INTERRUPT;\n\
+/// One millisecond and one interrupt with several lines each.
+pub const MARKS: &str = "MODULE(m); SYSTEM; irq: INTERRUPT(3);\nPROBLEM; SPC irq INTERRUPT;\n\
     a: TASK PRIO 1 MAIN; AFTER 1 SEC ACTIVATE b; AFTER 1 SEC ACTIVATE c; AFTER 1 SEC ACTIVATE d; ENABLE irq;\n\
     WHEN irq ACTIVATE a; AFTER 1 SEC RESUME; WHEN irq ACTIVATE b; WHEN irq ACTIVATE d; SUSPEND; END;\n\
     b: TASK PRIO 2; END;\nc: TASK PRIO 3; END;\nd: TASK PRIO 4; SUSPEND; END;\nMODEND;\n";
 
-const MARKS_LINES: [&str; 15] = [
+pub const MARKS_LINES: [&str; 15] = [
     "0 start a 1\n",
     "1000 start b 2\n",
     "1000 start c 3\n",
@@ -351,22 +326,3 @@ const MARKS_LINES: [&str; 15] = [
     "1000 state d suspended 4\n",
     "1000 close\n",
 ];
-
-#[test]
-fn a_write_may_fail_at_each_line_of_a_mark(rt: HostRuntime) -> Result<(), Fail> {
-    let alloc = rt.alloc();
-    let mut before = String::new(alloc);
-    for (place, line) in MARKS_LINES.iter().enumerate() {
-        let outside = Outside {
-            fetches: &[],
-            puts: &CALLS[place..place + 1],
-            most: usize::MAX,
-        };
-        let journal: &[u8] = b"run 20\ntick 1000\nrun 20\nirpt 3\nrun 9\n";
-        let (status, written) = carry_out_in(alloc, RUN, MARKS.as_bytes(), journal, outside)?;
-        assert_eq!(rt; written.as_slice(), before.as_bytes(), "before {line}");
-        assert_eq!(rt; status, Status::WriteFault, "before {line}");
-        before.push_str(line)?;
-    }
-    Ok(())
-}

@@ -1,13 +1,12 @@
 // What `run` writes of inputs and outputs with a kind: GET, TAKE, SEND, and the lines of a journal that bring inputs.
 
-use crate::run::{RUN, carry_out};
-use crate::tasks::{Case, all_end_so};
+use crate::case::{RUN, Table};
+use crate::whole::TAIL;
 use pearl_top::status::Status;
-use std::alloc::{AllocError, Global};
-use std::process::Abort;
-use std::test::Fail;
 
-const HEAD: &str = "MODULE(m); SYSTEM; tty: TERMINAL(1); dial: TERMINAL(2); lamp: TERMINAL(3);\n\
+/// What stands before the declarations of a module with devices of all kinds.
+pub const HEAD: &str =
+    "MODULE(m); SYSTEM; tty: TERMINAL(1); dial: TERMINAL(2); lamp: TERMINAL(3);\n\
     level: INPUT(1); door: INPUT(2); code: INPUT(3); hour: INPUT(4); span: INPUT(5);\n\
     pump: OUTPUT(1); gate: OUTPUT(2); sign: OUTPUT(3); bell: OUTPUT(4); wait: OUTPUT(5);\n\
     PROBLEM; SPC tty DATION INOUT ALPHIC, dial DATION IN ALPHIC, lamp DATION OUT ALPHIC;\n\
@@ -16,9 +15,14 @@ const HEAD: &str = "MODULE(m); SYSTEM; tty: TERMINAL(1); dial: TERMINAL(2); lamp
     SPC gate DATION OUT BASIC BIT(4), sign DATION OUT BASIC CHAR(3), bell DATION OUT BASIC CLOCK;\n\
     SPC wait DATION OUT BASIC DURATION;\n";
 
-// Texts that come in at terminals.
-fn texts() -> &'static [Case] {
-    runs![
+/// Texts that come in at terminals.
+pub static TEXTS: Table = Table {
+    words: RUN,
+    around: (HEAD, TAIL),
+    again: false,
+    status: Status::Done,
+    about: ("", ""),
+    rows: runs![
         "a: TASK MAIN; DCL n FIXED; REPEAT GET n FROM tty BY F(3); PUT n + 1 TO tty BY F(4), SKIP; END; \
             END;",
             "run 10\nchars 1 '12'\nrun 10\nstate\nchars 1 '3'\nrun 10\nchars 1 '1x2'\nrun 10" =>
@@ -106,12 +110,17 @@ fn texts() -> &'static [Case] {
             BY A, A, SKIP; END;",
             "chars 1 'x'\nrun 9\nchars 2 'y'\nrun 9" =>
                 "0 start a 255\n0 out 3 'yx\\n'\n0 end a\n0 state a dormant\n0 close\n";
-    ]
-}
+    ],
+};
 
-// Values that come in, and those that are sent.
-fn values() -> &'static [Case] {
-    runs![
+/// Values that are taken and sent.
+pub static VALUES: Table = Table {
+    words: RUN,
+    around: (HEAD, TAIL),
+    again: false,
+    status: Status::Done,
+    about: ("", ""),
+    rows: runs![
         "a: TASK MAIN; DCL n FIXED; TO 3 REPEAT TAKE n FROM level; PUT n TO tty BY F(7); END; END;",
             "value 1 7\nvalue 1 -32768\nrun 20\nstate\nvalue 1 - 7\nrun 9" =>
                 "0 start a 255\n0 out 1 '      7'\n0 out 1 ' -32768'\n0 state a blocked 255\n\
@@ -157,11 +166,17 @@ fn values() -> &'static [Case] {
                 "0 start a 2\n0 start c 3\n0 end c\n1 send 1 50\n1 send 1 25\n1000 start b 1\n\
                 1000 send 1 0\n1000 end b\n1500 send 1 3\n2000 start b 1\n2000 send 1 0\n2000 end b\n\
                 2500 state a blocked 2\n2500 state b dormant\n2500 state c dormant\n2500 close\n";
-    ]
-}
+    ],
+};
 
-fn refused() -> &'static [Case] {
-    runs![
+/// An input that is none is refused.
+pub static REFUSED: Table = Table {
+    words: RUN,
+    around: (HEAD, TAIL),
+    again: false,
+    status: Status::BadJournal,
+    about: ("", ""),
+    rows: runs![
         "a: TASK; END;",
             "value 9 1" =>
                 "error journal 1 2\n";
@@ -249,87 +264,5 @@ fn refused() -> &'static [Case] {
         "a: TASK MAIN; DCL n FIXED; TAKE n FROM level; PUT n TO tty BY F(3); END;",
             "value 1 5\nrun 9\nvalue 1 32768\nrun 9" =>
                 "0 start a 255\n0 out 1 '  5'\n0 end a\nerror journal 3 4\n";
-    ]
-}
-
-#[test]
-fn texts_are_scanned_by_their_items(rt: HostRuntime) -> Result<(), Fail> {
-    let alloc = rt.alloc();
-    all_end_so(&rt, alloc, HEAD, texts(), Status::Done)
-}
-
-#[test]
-fn values_are_taken_and_sent(rt: HostRuntime) -> Result<(), Fail> {
-    let alloc = rt.alloc();
-    all_end_so(&rt, alloc, HEAD, values(), Status::Done)
-}
-
-#[test]
-fn an_input_that_is_none_is_refused(rt: HostRuntime) -> Result<(), Fail> {
-    let alloc = rt.alloc();
-    all_end_so(&rt, alloc, HEAD, refused(), Status::BadJournal)
-}
-
-fn runs_so(
-    rt: &impl Abort,
-    alloc: Global,
-    body: &str,
-    journal: &str,
-    text: &str,
-) -> Result<(), Fail> {
-    let source = format!(in alloc; "{HEAD}{body}\nMODEND;\n")?;
-    let (status, written) = carry_out(alloc, RUN, source.as_bytes(), journal.as_bytes(), 4096)?;
-    assert_eq!(rt; written.as_slice(), text.as_bytes());
-    assert_eq!(rt; status, Status::Done);
-    Ok(())
-}
-
-// Lines that bring so many values.
-fn numbers(alloc: Global, count: u64) -> Result<String, AllocError> {
-    let mut lines = String::new(alloc);
-    for number in 0..count {
-        write!(lines, "value 1 {}\n", number.saturating_add(1))?;
-    }
-    Ok(lines)
-}
-
-#[test]
-fn an_input_holds_256_values(rt: HostRuntime) -> Result<(), Fail> {
-    let alloc = rt.alloc();
-    let numbers = numbers(alloc, 258)?;
-    let journal = format!(in alloc; "run 9\n{numbers}tick 1000\nrun 3\nvalue 1 8\nvalue 1 9\n")?;
-    let body = "a: TASK MAIN; DCL n FIXED; AFTER 1 SEC RESUME; TAKE n FROM level; PUT n TO tty BY \
-        F(4); END;";
-    let text = "0 start a 255\n0 lost input 1\n0 lost input 1\n1000 out 1 '   1'\n1000 end a\n\
-        1000 lost input 1\n1000 state a dormant\n1000 close\n";
-    runs_so(&rt, alloc, body, journal.as_str(), text)
-}
-
-// A line that brings so many letters.
-fn letters(alloc: Global, count: u64) -> Result<String, AllocError> {
-    let mut line = String::from_str(alloc, "chars 1 '")?;
-    for _ in 0..count {
-        line.push('x')?;
-    }
-    line.push_str("'\n")?;
-    Ok(line)
-}
-
-#[test]
-fn a_terminal_holds_4096_bytes_and_drops_whole_texts(rt: HostRuntime) -> Result<(), Fail> {
-    let alloc = rt.alloc();
-    let mut journal = String::new(alloc);
-    for _ in 0..16u8 {
-        journal.push_str(letters(alloc, 255)?.as_str())?;
-    }
-    journal.push_str(letters(alloc, 10)?.as_str())?;
-    journal.push_str(
-        "chars 1 'abcdefg'\nchars 1 'abcdef'\nline 1 ''\nrun 99\nline 1 'abc'\nrun 9\n",
-    )?;
-    let body =
-        "a: TASK MAIN; DCL s CHAR(6); TO 16 REPEAT GET FROM tty BY X(255); END;\nGET s FROM tty \
-        BY X(10), A; PUT s TO tty BY A; END;";
-    let text = "0 start a 255\n0 lost terminal 1\n0 lost terminal 1\n0 out 1 'abcdef'\n0 end a\n\
-        0 state a dormant\n0 close\n";
-    runs_so(&rt, alloc, body, journal.as_str(), text)
-}
+    ],
+};

@@ -1,21 +1,29 @@
 // What `run` writes of one task with all kinds of statements, expressions, procedures, arrays and structures.
 
-use crate::run::{RUN, carry_out};
+use crate::case::{RUN, Table};
 use pearl_top::status::Status;
-use std::alloc::{AllocError, Global};
-use std::test::Fail;
 
+/// What stands before the declarations of a module with a terminal and an interrupt.
 pub const HEAD: &str = "MODULE(m); SYSTEM; tty: TERMINAL(1); irq: INTERRUPT(3);\n\
     PROBLEM; SPC tty DATION INOUT ALPHIC, irq INTERRUPT;\n";
 
-// What stands between the head and MODEND with a journal, and the transcript between the start of `main` and the close.
-fn bodies() -> &'static [(&'static str, &'static str, &'static str)] {
-    macro_rules! runs {
-        ($($body:literal, $journal:literal => $told:literal;)*) => {
-            &[$(($body, $journal, $told)),*]
-        };
-    }
-    runs![
+/// What stands behind the declarations of a module.
+pub const TAIL: &str = "\nMODEND;\n";
+
+/// How the transcript of the task `main` begins.
+pub const BEGIN: &str = "0 start main 255\n";
+
+/// How a transcript ends in the first millisecond.
+pub const END: &str = "0 close\n";
+
+/// What stands between the head and MODEND with a journal, and the transcript between the start of `main` and the close.
+pub static BODIES: Table = Table {
+    words: RUN,
+    around: (HEAD, TAIL),
+    again: false,
+    status: Status::Done,
+    about: (BEGIN, END),
+    rows: runs![
         "main: TASK MAIN; FOR i FROM 2147483646 TO 2147483647 REPEAT PUT i TO tty BY \
             F(10); END; END;",
             "run 10" => "0 out 1 '2147483646'\n0 out 1 '2147483647'\n0 end main\n0 state main dormant\n";
@@ -109,53 +117,5 @@ fn bodies() -> &'static [(&'static str, &'static str, &'static str)] {
         "f: PROC RETURNS(FIXED); PUT 'f' TO tty BY A; RETURN(1); END; main: TASK MAIN; \
             CALL f; f; END;",
             "run 20" => "0 out 1 'f'\n0 out 1 'f'\n0 end main\n0 state main dormant\n";
-    ]
-}
-
-fn module(alloc: Global, body: &str) -> Result<String, AllocError> {
-    format!(in alloc; "{HEAD}{body}\nMODEND;\n")
-}
-
-#[test]
-fn a_task_does_what_it_says(rt: HostRuntime) -> Result<(), Fail> {
-    let alloc = rt.alloc();
-    for &(body, journal, between) in bodies() {
-        let source = module(alloc, body)?;
-        let text = format!(in alloc; "0 start main 255\n{between}0 close\n")?;
-        let (status, written) = carry_out(alloc, RUN, source.as_bytes(), journal.as_bytes(), 4096)?;
-        assert_eq!(rt; written.as_slice(), text.as_bytes(), "of {body}");
-        assert_eq!(rt; status, Status::Done, "of {body}");
-    }
-    Ok(())
-}
-
-// Procedures each of which calls the one before it.
-fn chain(alloc: Global, count: usize) -> Result<String, AllocError> {
-    let mut source = String::from_str(alloc, HEAD)?;
-    source.push_str("p0: PROC RETURNS(FIXED); RETURN(1); END;\n")?;
-    let mut last = 0;
-    for number in 1..count {
-        write!(
-            source,
-            "p{number}: PROC RETURNS(FIXED); RETURN(p{last} + 1); END;\n"
-        )?;
-        last = number;
-    }
-    write!(
-        source,
-        "main: TASK MAIN; PUT p{last} TO tty BY F(5); END;\nMODEND;\n"
-    )?;
-    Ok(source)
-}
-
-#[test]
-fn calls_stand_200_deep(rt: HostRuntime) -> Result<(), Fail> {
-    let alloc = rt.alloc();
-    let source = chain(alloc, 200)?;
-    let (status, written) = carry_out(alloc, RUN, source.as_bytes(), b"run 300\n", 4096)?;
-    let text: &[u8] =
-        b"0 start main 255\n0 out 1 '  200'\n0 end main\n0 state main dormant\n0 close\n";
-    assert_eq!(rt; written.as_slice(), text);
-    assert_eq!(rt; status, Status::Done);
-    Ok(())
-}
+    ],
+};

@@ -1,0 +1,174 @@
+// Commands over two files, s and j, and how they end.
+
+use crate::mark::{joined, told, unmarked};
+use pearl_io::{File, MemoryShelf, MemorySink, SureShelf, SureSink};
+use pearl_top::status::Status;
+use pearl_top::top::pearl;
+use std::alloc::{AllocError, Global};
+
+/// The words of a check of s.
+pub const CHECK: &[&str] = &["check", "s"];
+
+/// The words of a print of s.
+pub const PRINT: &[&str] = &["print", "s"];
+
+/// The words of a run of s over j.
+pub const RUN: &[&str] = &["run", "s", "j"];
+
+/// As many bytes as most cases may write.
+pub const ROOM: usize = 65_536;
+
+/// A command where nothing outside fails, and how it ends.
+#[derive(Clone, Copy)]
+pub struct Case<'a> {
+    pub words: &'a [&'a str],
+    /// A mark stands before the place that is told.
+    pub source: &'a str,
+    pub journal: &'a str,
+    /// How many bytes are taken.
+    pub room: usize,
+    /// Whether what is written is itself a source of which the same is written.
+    pub again: bool,
+    pub status: Status,
+    /// A mark stands for the place.
+    pub text: &'a str,
+}
+
+/// A command where these calls fail, of the shelf and of the sink, each moving so many bytes at most, but one at least,
+/// and how it ends.
+#[derive(Clone, Copy)]
+pub struct Fault<'a> {
+    pub words: &'a [&'a str],
+    pub source: &'a str,
+    pub journal: &'a str,
+    pub fetches: &'a [u64],
+    pub puts: &'a [u64],
+    pub most: usize,
+    pub status: Status,
+    pub text: &'a str,
+}
+
+/// A part of a source, a journal, and a part of what is written.
+pub type Row = (&'static str, &'static str, &'static str);
+
+/// Cases that differ in what their rows tell.
+pub struct Table {
+    pub words: &'static [&'static str],
+    /// What stands before and behind the part of the source.
+    pub around: (&'static str, &'static str),
+    pub again: bool,
+    pub status: Status,
+    /// What stands before and behind the part of what is written.
+    pub about: (&'static str, &'static str),
+    pub rows: &'static [Row],
+}
+
+/// Parts of a text, each so many times.
+pub type Parts = &'static [(&'static str, usize)];
+
+/// A case whose texts are made of parts.
+pub struct Long {
+    pub words: &'static [&'static str],
+    pub source: Parts,
+    pub journal: Parts,
+    pub room: usize,
+    pub again: bool,
+    pub status: Status,
+    pub text: Parts,
+}
+
+fn owned(alloc: Global, words: &[&str]) -> Result<Vec<String>, AllocError> {
+    let mut owned = Vec::new(alloc);
+    for word in words {
+        owned.push(String::from_str(alloc, word)?)?;
+    }
+    Ok(owned)
+}
+
+fn file(alloc: Global, name: &str, bytes: &[u8]) -> Result<File, AllocError> {
+    Ok(File {
+        name: String::from_str(alloc, name)?,
+        bytes: Vec::from_slice(alloc, bytes)?,
+    })
+}
+
+fn two_files(alloc: Global, source: &[u8], journal: &[u8]) -> Result<Vec<File>, AllocError> {
+    let mut files = Vec::new(alloc);
+    for (name, bytes) in [("s", source), ("j", journal)] {
+        files.push(file(alloc, name, bytes)?)?;
+    }
+    Ok(files)
+}
+
+// Whether the case's command over this source writes this.
+fn writes(alloc: Global, case: &Case, source: &[u8], text: &[u8]) -> Result<bool, AllocError> {
+    let words = owned(alloc, case.words)?;
+    let mut shelf = SureShelf::new(two_files(alloc, source, case.journal.as_bytes())?);
+    let mut sink = SureSink::new(alloc, case.room)?;
+    let status = pearl(alloc, words.as_slice(), &mut shelf, &mut sink);
+    Ok(status == case.status && sink.bytes() == text)
+}
+
+/// Whether the case ends so.
+pub fn ends_so(alloc: Global, case: &Case) -> Result<bool, AllocError> {
+    let (source, place) = unmarked(alloc, case.source)?;
+    let text = told(alloc, case.text, place)?;
+    if case.again && !writes(alloc, case, text.as_bytes(), text.as_bytes())? {
+        return Ok(false);
+    }
+    writes(alloc, case, source.as_slice(), text.as_bytes())
+}
+
+/// Whether the command ends so.
+pub fn fails_so(alloc: Global, fault: &Fault) -> Result<bool, AllocError> {
+    let words = owned(alloc, fault.words)?;
+    let files = two_files(alloc, fault.source.as_bytes(), fault.journal.as_bytes())?;
+    let most = fault.most.max(1);
+    let mut shelf = MemoryShelf::new(files, Vec::from_slice(alloc, fault.fetches)?, most);
+    let mut sink = MemorySink::new(alloc, Vec::from_slice(alloc, fault.puts)?, most);
+    let status = pearl(alloc, words.as_slice(), &mut shelf, &mut sink);
+    Ok(status == fault.status && sink.bytes() == fault.text.as_bytes())
+}
+
+fn row_ends_so(alloc: Global, table: &Table, row: Row) -> Result<bool, AllocError> {
+    let (part, journal, told) = row;
+    let source = format!(in alloc; "{}{part}{}", table.around.0, table.around.1)?;
+    let text = format!(in alloc; "{}{told}{}", table.about.0, table.about.1)?;
+    let case = Case {
+        words: table.words,
+        source: source.as_str(),
+        journal,
+        room: ROOM,
+        again: table.again,
+        status: table.status,
+        text: text.as_str(),
+    };
+    ends_so(alloc, &case)
+}
+
+/// The number of the first row that ends otherwise.
+pub fn first_other(alloc: Global, table: &Table) -> Result<Option<usize>, AllocError> {
+    for (number, row) in table.rows.iter().enumerate() {
+        if !row_ends_so(alloc, table, *row)? {
+            return Ok(Some(number));
+        }
+    }
+    Ok(None)
+}
+
+/// Whether the case ends so.
+pub fn long_ends_so(alloc: Global, long: &Long) -> Result<bool, AllocError> {
+    let source = joined(alloc, long.source)?;
+    let journal = joined(alloc, long.journal)?;
+    let text = joined(alloc, long.text)?;
+    let case = Case {
+        words: long.words,
+        source: source.as_str(),
+        journal: journal.as_str(),
+        room: long.room,
+        again: long.again,
+        status: long.status,
+        text: text.as_str(),
+    };
+    ends_so(alloc, &case)
+}
