@@ -88,6 +88,7 @@ fn told() -> &'static [(&'static str, u32)] {
         "MODULE(m);PROBLEM;t:TASK;IF a THEN END;MODEND;" => 35;
         "MODULE(m);PROBLEM;t:TASK;x(1 2):=3;END;MODEND;" => 29;
         "MODULE(m);PROBLEM;t:TASK;x := a + * b;END;MODEND;" => 34;
+        "MODULE(m);PROBLEM;t:TASK;x((((((((((((((((((((((((((((((((((1)))))))))))))))))))))))))))))))))):=3;END;MODEND;" => 59;
     ]
 }
 
