@@ -1,0 +1,54 @@
+-- Which digits are a number.
+use Rattle.std.proofs.Common.{◌≡◌, ◌^◌, ℕ, List, [], ◌∷◌, Bool, true, false, ◌&&◌, nat_le, nat_lt, refl, ap, ◌∙◌, le-leb}
+use Rattle.std.proofs.lemmas.Bool.{lt-ltb, leb-true, ltb-true, false≢true}
+use Rattle.std.specs.Prelude.{Some, None, if◌then◌else◌}
+use Rattle.std.specs.Char.{is_ascii_digit}
+use Rattle.std.specs.List.{AllByRecursion}
+use Rattle.std.specs.Str.{all_ascii_digits}
+use Rattle.std.specs.Str.Parse.{digits_value}
+use Rattle.pearl_journal.specs.Words.{limited, number}
+use Rattle.pearl_journal_laws.specs.Says.{IsDigit, IsNoNumber, IsNumber}
+
+digits_are : (digits : List ℕ) → AllByRecursion IsDigit digits → all_ascii_digits digits ≡ true
+digits_are [] are = refl
+digits_are (byte ∷ digits) are = rw (le-leb 48 byte are.0.0, le-leb byte 57 are.0.1) (digits_are digits are.1)
+
+pub number_is : (digits : List ℕ) (n : ℕ) → IsNumber digits n → number digits ≡ Some n
+number_is [] n is = absurd (is.some refl)
+number_is (byte ∷ bytes) n is =
+    ap (λ b. if b then limited (digits_value 10 (byte ∷ bytes)) else None) (digits_are (byte ∷ bytes) is.are_digits)
+    ∙ ap limited is.value ∙ ap (λ b. if b then Some n else None) (lt-ltb n (2 ^ 63) is.small)
+
+digit_is : (byte : ℕ) (later : Bool) → is_ascii_digit byte && later ≡ true → IsDigit byte × (later ≡ true)
+digit_is byte later e = by (nat_le 48 byte) (nat_le byte 57) later refl refl e
+  where
+    by : (low high rest : Bool) → nat_le 48 byte ≡ low → nat_le byte 57 ≡ high → low && high && rest ≡ true →
+        IsDigit byte × (rest ≡ true)
+    by true true rest l h e = ((leb-true 48 byte l, leb-true byte 57 h), e)
+    by true false rest l h e = absurd (false≢true e)
+    by false high rest l h e = absurd (false≢true e)
+
+are_digits : (digits : List ℕ) → all_ascii_digits digits ≡ true → AllByRecursion IsDigit digits
+are_digits [] e = tt
+are_digits (byte ∷ digits) e =
+    let h = digit_is byte (all_ascii_digits digits) e in
+    (h.0, are_digits digits h.1)
+
+pub no_number : (text : List ℕ) → IsNoNumber text → number text ≡ None
+no_number [] none = refl
+no_number (byte ∷ bytes) none = by (all_ascii_digits (byte ∷ bytes)) (nat_lt n (2 ^ 63)) refl refl
+  where
+    n : ℕ
+    n = digits_value 10 (byte ∷ bytes)
+
+    by : (are small : Bool) → all_ascii_digits (byte ∷ bytes) ≡ are → nat_lt n (2 ^ 63) ≡ small →
+        (if are then (if small then Some n else None) else None) ≡ None
+    by false small a s = refl
+    by true false a s = refl
+    by true true a s =
+        absurd (none n (record {
+          some = λ e. cc;
+          are_digits = are_digits (byte ∷ bytes) a;
+          value = refl;
+          small = ltb-true n (2 ^ 63) s;
+        }))

@@ -1,0 +1,6 @@
+-- what a line says: its words, numbers and texts
+pub mod Says
+-- which device a number names, and which task a name
+pub mod Named
+-- which value a literal spells
+pub mod Literals
