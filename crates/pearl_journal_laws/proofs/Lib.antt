@@ -1,3 +1,4 @@
+pub mod Writing
 pub mod Saying
 pub mod Numbers
 pub mod Finding
@@ -7,3 +8,4 @@ pub mod Literals
 pub mod Values
 pub mod StepLaws
 pub mod ArrivalLaws
+mod Examples

@@ -1,5 +1,5 @@
 -- Which digits are a number.
-use Rattle.std.proofs.Common.{◌≡◌, ◌^◌, ℕ, List, [], ◌∷◌, Bool, true, false, ◌&&◌, nat_le, nat_lt, refl, ap, ◌∙◌, le-leb}
+use Rattle.std.proofs.Common.{◌≡◌, ◌<◌, ◌^◌, ℕ, List, [], ◌∷◌, Bool, true, false, ◌&&◌, nat_le, nat_lt, refl, ap, sym, subst, ◌∙◌, le-leb}
 use Rattle.std.proofs.lemmas.Bool.{lt-ltb, leb-true, ltb-true, false≢true}
 use Rattle.std.specs.Prelude.{Some, None, if◌then◌else◌}
 use Rattle.std.specs.Char.{is_ascii_digit}
@@ -52,3 +52,30 @@ no_number (byte ∷ bytes) none = by (all_ascii_digits (byte ∷ bytes)) (nat_lt
           value = refl;
           small = ltb-true n (2 ^ 63) s;
         }))
+
+pub was_number : (digits : List ℕ) (n : ℕ) → number digits ≡ Some n → IsNumber digits n
+was_number digits n e = by digits (all_ascii_digits digits) refl e
+  where
+    below : (bytes : List ℕ) (small : Bool) → nat_lt (digits_value 10 bytes) (2 ^ 63) ≡ small →
+        (if small then Some (digits_value 10 bytes) else None) ≡ Some n →
+        (digits_value 10 bytes ≡ n) × (digits_value 10 bytes < 2 ^ 63)
+    below bytes true s e = (cc, ltb-true (digits_value 10 bytes) (2 ^ 63) s)
+    below bytes false s e = let no : ⊥ = cc in absurd no
+
+    by : (bytes : List ℕ) (are : Bool) → all_ascii_digits bytes ≡ are → number bytes ≡ Some n → IsNumber bytes n
+    by [] are a e = let no : ⊥ = cc in absurd no
+    by (byte ∷ bytes) true a e =
+        let all : number (byte ∷ bytes) ≡ limited (digits_value 10 (byte ∷ bytes)) =
+        ap (λ b. if b then limited (digits_value 10 (byte ∷ bytes)) else None) a in
+        let h = below (byte ∷ bytes) (nat_lt (digits_value 10 (byte ∷ bytes)) (2 ^ 63)) refl (sym all ∙ e) in
+        record {
+          some = λ e. cc;
+          are_digits = are_digits (byte ∷ bytes) a;
+          value = h.0;
+          small = subst (λ m. m < 2 ^ 63) h.0 h.1
+        }
+    by (byte ∷ bytes) false a e =
+        let none : number (byte ∷ bytes) ≡ None =
+        ap (λ b. if b then limited (digits_value 10 (byte ∷ bytes)) else None) a in
+        let no : ⊥ = cc in
+        absurd no

@@ -16,7 +16,7 @@ some_text (byte ∷ text) some = refl
 pub literal_is : (spelled text : List ℕ) → IsText spelled text → text ≢ [] → text_literal spelled ≡ Some text
 literal_is spelled text is some = ap if_some (text_is spelled text is) ∙ some_text text some
 
-was_text : (spelled text : List ℕ) → quoted spelled ≡ Some text → IsText spelled text
+pub was_text : (spelled text : List ℕ) → quoted spelled ≡ Some text → IsText spelled text
 was_text spelled text e =
     let short : IsShort text = subst (λ o. IfSome o IsShort) e (quoted-short spelled) in
     record { written = quoted_only spelled text e; printed = short.printed; short = short.short }

@@ -1,7 +1,6 @@
 // Laws of the lines that tell of what comes in. Each function's contract is one theorem; none does anything.
 
-ghost use Rattle.std.specs.Prelude.{◌≡◌, ◌≢◌, ◌^◌, ◌≤◌, ℕ, List, [], false, Some, slice_get, codes};
-ghost use Rattle.std.specs.List.{AllByRecursion};
+ghost use Rattle.std.specs.Prelude.{◌≡◌, ◌≢◌, ◌^◌, ◌≤◌, ℕ, List, [], Some, slice_get, codes};
 ghost use Rattle.pearl_value.specs.declared.cell.Cell.{Cell};
 ghost use Rattle.pearl_value.specs.declared.kind.Kind.{Kind};
 ghost use Rattle.pearl_rules.specs.declared.entry.Entry.TheVariants.{Irpt, Chars, Line, Value};
@@ -9,10 +8,8 @@ ghost use Rattle.pearl_rules.specs.declared.setup.Device.TheVariants.{Input};
 ghost use Rattle.pearl_rules.specs.declared.setup.Setup.{Setup};
 ghost use Rattle.pearl_rules.specs.Entries.{Becomes};
 ghost use Rattle.pearl_journal.specs.declared.reading.Line.TheVariants.{Item, Wrong};
-ghost use Rattle.pearl_journal.specs.Laws.{TakesTwoParts};
 ghost use Rattle.pearl_journal.specs.Meaning.{meaning};
 ghost use Rattle.pearl_journal.specs.Readings.{Reading};
-ghost use Rattle.pearl_journal.specs.Words.{is_blank};
 ghost use Rattle.pearl_journal_laws.specs.Literals.{IsLiteral, Spells, SpellsTooMuch};
 ghost use Rattle.pearl_journal_laws.specs.Named.{IsFirst, IsInput, IsInterrupt, IsNowhere, IsReadable};
 ghost use Rattle.pearl_journal_laws.specs.Says.{IsNoNumber, IsNumber, IsText, Says, SaysMore};
@@ -86,10 +83,4 @@ pub fn values_come_in()
         SaysMore line (codes "value") digits spelled → (IsLiteral spelled → ⊥) → meaning setup reading line ≡ Wrong 1 }
     ensures number { (setup : Setup) (reading : Reading) (line text spelled : List ℕ) →
         SaysMore line (codes "value") text spelled → IsNoNumber text → meaning setup reading line ≡ Wrong 1 }
-{}
-
-/// A line of `pass`, `chars`, `line` or `value` with one word behind it, or none, is refused with 1.
-pub fn no_part_may_be_missing()
-    ensures { (setup : Setup) (reading : Reading) (line word second : List ℕ) → TakesTwoParts word → Says line word second →
-        AllByRecursion (λ byte. is_blank byte ≡ false) second → meaning setup reading line ≡ Wrong 1 }
 {}

@@ -2,4 +2,5 @@
 #![tactic(auto)]
 
 pub mod arrivals;
+pub mod lines;
 pub mod steps;

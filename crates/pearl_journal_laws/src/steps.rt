@@ -6,11 +6,10 @@ ghost use Rattle.pearl_rules.specs.declared.setup.Setup.{Setup};
 ghost use Rattle.pearl_rules.specs.Literals.{clock_literal};
 ghost use Rattle.pearl_rules.specs.Tables.{is_id};
 ghost use Rattle.pearl_journal.specs.declared.reading.Line.TheVariants.{Item, Wrong};
-ghost use Rattle.pearl_journal.specs.Entries.{after};
 ghost use Rattle.pearl_journal.specs.Meaning.{meaning};
 ghost use Rattle.pearl_journal.specs.Readings.{Reading};
 ghost use Rattle.pearl_journal_laws.specs.Named.{IsFirst, IsNamed, IsNowhere};
-ghost use Rattle.pearl_journal_laws.specs.Says.{IsNoNumber, IsNumber, IsOther, Says, SaysMore};
+ghost use Rattle.pearl_journal_laws.specs.Says.{IsNoNumber, IsNumber, Says, SaysMore};
 
 /// `clock C` says the time of day at the start, as the first entry alone: behind an entry it is refused with 1, whatever
 /// stands behind the word, and so is one whose C is no time of day.
@@ -76,16 +75,4 @@ pub fn states_stand_alone()
         reading.moment ≤ 2 ^ 40 → meaning setup reading line ≡ Item State }
     ensures form { (setup : Setup) (reading : Reading) (line text : List ℕ) → Says line (codes "state") text →
         text ≢ [] → meaning setup reading line ≡ Wrong 1 }
-{}
-
-/// A line that begins with none of the ten words is refused with 1.
-pub fn other_words_begin_no_entry()
-    ensures { (setup : Setup) (reading : Reading) (line word text : List ℕ) → Says line word text → IsOther word →
-        meaning setup reading line ≡ Wrong 1 }
-{}
-
-/// No moment is past 2^40: where a line is read at a moment up to that, so is the next one.
-pub fn moments_stay_within_the_last()
-    ensures { (setup : Setup) (reading : Reading) (line : List ℕ) → reading.moment ≤ 2 ^ 40 →
-        (after reading (meaning setup reading line)).moment ≤ 2 ^ 40 }
 {}
