@@ -46,7 +46,8 @@ module _ (setup : Setup) (reading : Reading) (line text : List ℕ) (says : Says
       accepted setup reading line (codes "irpt") text says (entry.Irpt d)
       (irpt_form k (Some d) is (first_found _ _ (interrupt_decides k) setup.devices d first)) within
 
-  pub irpt_none : (k : ℕ) → IsNumber text k → IsNowhere (IsInterrupt k) setup.devices → meaning setup reading line ≡ Wrong 2
+  pub irpt_none : (k : ℕ) → IsNumber text k → IsNowhere (IsInterrupt k) setup.devices →
+      meaning setup reading line ≡ Wrong 2
   irpt_none k is none =
       refused setup reading line (codes "irpt") text says 2
       (irpt_form k None is (none_found _ _ (interrupt_decides k) setup.devices none))
@@ -60,7 +61,8 @@ module _ (setup : Setup) (reading : Reading) (line text : List ℕ) (says : Says
 -- TERMINALS
 
 module _ (setup : Setup) (form : ℕ → List ℕ → Entry) where
-  terminal_form : (word : List ℕ) (o : Option (List ℕ)) (k : ℕ) (text : List ℕ) (place : Option ℕ) → number word ≡ Some k →
+  terminal_form : (word : List ℕ) (o : Option (List ℕ)) (k : ℕ) (text : List ℕ) (place : Option ℕ) →
+      number word ≡ Some k →
       o ≡ Some text → position (is_readable k) setup.devices ≡ place →
       terminal_entry setup word o form ≡ needing 2 place (λ d. Ok (form d text))
   terminal_form word o k text place is said found =
@@ -72,33 +74,43 @@ module _ (setup : Setup) (form : ℕ → List ℕ → Entry) where
   terminal_no_text word o none =
       ap (λ t. terminal_entry setup word t form) none ∙ need_either (number word) 1 _ (λ k. refl)
 
-  terminal_no_number : (word : List ℕ) (o : Option (List ℕ)) → number word ≡ None → terminal_entry setup word o form ≡ Err 1
+  terminal_no_number : (word : List ℕ) (o : Option (List ℕ)) → number word ≡ None →
+      terminal_entry setup word o form ≡ Err 1
   terminal_no_number word o none =
       ap (λ n. needing 1 n (λ k. needing 1 o (λ text.
       needing 2 (position (is_readable k) setup.devices) (λ d. Ok (form d text))))) none
 
-module _ (setup : Setup) (reading : Reading) (line digits spelled : List ℕ) (says : SaysMore line (codes "chars") digits spelled) where
+abbrev chars_at : ℕ → List ℕ → Entry
+chars_at d text = entry.Chars d (record { items = text })
+
+abbrev line_at : ℕ → List ℕ → Entry
+line_at d text = entry.Line d (record { items = text })
+
+module _ (setup : Setup) (reading : Reading) (line digits spelled : List ℕ)
+    (says : SaysMore line (codes "chars") digits spelled) where
   chars_form : (form : Result Entry ℕ) →
-      terminal_entry setup digits (text_literal spelled) (λ d text. entry.Chars d (record { items = text })) ≡ form →
+      terminal_entry setup digits (text_literal spelled) chars_at ≡ form →
       form_of setup reading.is_first (codes "chars") (rest_of says) ≡ form
   chars_form form is =
-      ap₂ (λ a b. terminal_entry setup a (text_literal b) (λ d text. entry.Chars d (record { items = text })))
+      ap₂ (λ a b. terminal_entry setup a (text_literal b) chars_at)
       (first_of says) (behind_of says) ∙ is
 
-  pub chars_is : (text : List ℕ) (k d : ℕ) → reading.moment ≤ 2 ^ 40 → IsNumber digits k → IsText spelled text → text ≢ [] →
-      IsFirst (IsReadable k) setup.devices d → meaning setup reading line ≡ Item (entry.Chars d (record { items = text }))
+  pub chars_is : (text : List ℕ) (k d : ℕ) → reading.moment ≤ 2 ^ 40 → IsNumber digits k → IsText spelled text →
+      text ≢ [] → IsFirst (IsReadable k) setup.devices d → meaning setup reading line ≡ Item (chars_at d text)
   chars_is text k d within is said some first =
-      accepted setup reading line (codes "chars") (rest_of says) (as_text says) (entry.Chars d (record { items = text }))
-      (chars_form _ (terminal_form setup (λ d text. entry.Chars d (record { items = text })) digits (text_literal spelled) k text (Some d)
-      (number_is digits k is) (literal_is spelled text said some)
+      accepted setup reading line (codes "chars") (rest_of says) (as_text says) (chars_at d text)
+      (chars_form _
+      (terminal_form setup chars_at digits (text_literal spelled) k text (Some d) (number_is digits k is)
+      (literal_is spelled text said some)
       (first_found _ _ (readable_decides k) setup.devices d first))) within
 
   pub chars_none : (text : List ℕ) (k : ℕ) → IsNumber digits k → IsText spelled text → text ≢ [] →
       IsNowhere (IsReadable k) setup.devices → meaning setup reading line ≡ Wrong 2
   chars_none text k is said some none =
       refused setup reading line (codes "chars") (rest_of says) (as_text says) 2
-      (chars_form _ (terminal_form setup (λ d text. entry.Chars d (record { items = text })) digits (text_literal spelled) k text None
-      (number_is digits k is) (literal_is spelled text said some) (none_found _ _ (readable_decides k) setup.devices none)))
+      (chars_form _ (terminal_form setup chars_at digits (text_literal spelled) k text None
+      (number_is digits k is) (literal_is spelled text said some)
+      (none_found _ _ (readable_decides k) setup.devices none)))
 
   pub chars_no_text : ((text : List ℕ) → IsText spelled text → text ≡ []) → meaning setup reading line ≡ Wrong 1
   chars_no_text empty =
@@ -110,19 +122,20 @@ module _ (setup : Setup) (reading : Reading) (line digits spelled : List ℕ) (s
       refused setup reading line (codes "chars") (rest_of says) (as_text says) 1
       (chars_form _ (terminal_no_number setup _ digits (text_literal spelled) (no_number digits none)))
 
-module _ (setup : Setup) (reading : Reading) (line digits spelled : List ℕ) (says : SaysMore line (codes "line") digits spelled) where
+module _ (setup : Setup) (reading : Reading) (line digits spelled : List ℕ)
+    (says : SaysMore line (codes "line") digits spelled) where
   line_form : (form : Result Entry ℕ) →
-      terminal_entry setup digits (quoted spelled) (λ d text. entry.Line d (record { items = text })) ≡ form →
+      terminal_entry setup digits (quoted spelled) line_at ≡ form →
       form_of setup reading.is_first (codes "line") (rest_of says) ≡ form
   line_form form is =
-      ap₂ (λ a b. terminal_entry setup a (quoted b) (λ d text. entry.Line d (record { items = text })))
+      ap₂ (λ a b. terminal_entry setup a (quoted b) line_at)
       (first_of says) (behind_of says) ∙ is
 
   pub line_is : (text : List ℕ) (k d : ℕ) → reading.moment ≤ 2 ^ 40 → IsNumber digits k → IsText spelled text →
-      IsFirst (IsReadable k) setup.devices d → meaning setup reading line ≡ Item (entry.Line d (record { items = text }))
+      IsFirst (IsReadable k) setup.devices d → meaning setup reading line ≡ Item (line_at d text)
   line_is text k d within is said first =
-      accepted setup reading line (codes "line") (rest_of says) (as_text says) (entry.Line d (record { items = text }))
-      (line_form _ (terminal_form setup (λ d text. entry.Line d (record { items = text })) digits (quoted spelled) k text (Some d)
+      accepted setup reading line (codes "line") (rest_of says) (as_text says) (line_at d text)
+      (line_form _ (terminal_form setup line_at digits (quoted spelled) k text (Some d)
       (number_is digits k is) (text_is spelled text said)
       (first_found _ _ (readable_decides k) setup.devices d first))) within
 
@@ -130,7 +143,7 @@ module _ (setup : Setup) (reading : Reading) (line digits spelled : List ℕ) (s
       IsNowhere (IsReadable k) setup.devices → meaning setup reading line ≡ Wrong 2
   line_none text k is said none =
       refused setup reading line (codes "line") (rest_of says) (as_text says) 2
-      (line_form _ (terminal_form setup (λ d text. entry.Line d (record { items = text })) digits (quoted spelled) k text None
+      (line_form _ (terminal_form setup line_at digits (quoted spelled) k text None
       (number_is digits k is) (text_is spelled text said) (none_found _ _ (readable_decides k) setup.devices none)))
 
   pub line_no_text : ((text : List ℕ) → IsText spelled text → ⊥) → meaning setup reading line ≡ Wrong 1
@@ -170,14 +183,16 @@ module _ (setup : Setup) where
   placed_at : (d k : ℕ) (of : Kind) (bytes : List ℕ) → slice_get setup.devices d ≡ Some (device.Input k of) →
       placed (Some d) bytes ≡ value_at d of bytes
   placed_at d k of bytes at =
-      ap (λ o. needing 1 (literal bytes) (λ said. needing 4 (coming_in (input_kind o) said) (λ x. Ok (entry.Value d x)))) at
+      ap (λ o. needing 1 (literal bytes) (λ said.
+      needing 4 (coming_in (input_kind o) said) (λ x. Ok (entry.Value d x)))) at
 
 -- where something is there, what comes of it is all the same
 need_there : {X : Type 0} (o : Option X) (form : Result Entry ℕ) → (o ≡ None → ⊥) → needing 1 o (λ x. form) ≡ form
 need_there None form there = absurd (there refl)
 need_there (Some x) form there = refl
 
-module _ (setup : Setup) (reading : Reading) (line digits spelled : List ℕ) (says : SaysMore line (codes "value") digits spelled) where
+module _ (setup : Setup) (reading : Reading) (line digits spelled : List ℕ)
+    (says : SaysMore line (codes "value") digits spelled) where
   value_form : (n : Option ℕ) → number digits ≡ n →
       form_of setup reading.is_first (codes "value") (rest_of says) ≡ numbered setup n spelled
   value_form n is = ap₂ (numbered setup) (ap number (first_of says) ∙ is) (behind_of says)
@@ -192,7 +207,8 @@ module _ (setup : Setup) (reading : Reading) (line digits spelled : List ℕ) (s
       ∙ placed_at setup d k of spelled at
 
   value_comes : (k d : ℕ) (of : Kind) (x : Cell) (may : Bool) → IsNumber digits k → Spells spelled x →
-      IsFirst (IsInput k) setup.devices d → slice_get setup.devices d ≡ Some (device.Input k of) → may_come_in of x ≡ may →
+      IsFirst (IsInput k) setup.devices d → slice_get setup.devices d ≡ Some (device.Input k of) →
+      may_come_in of x ≡ may →
       form_of setup reading.is_first (codes "value") (rest_of says)
       ≡ needing 4 (if may then Some x else None) (λ x. Ok (entry.Value d x))
   value_comes k d of x may is spells first at comes =
@@ -217,7 +233,8 @@ module _ (setup : Setup) (reading : Reading) (line digits spelled : List ℕ) (s
   pub value_long : (k d : ℕ) → IsNumber digits k → SpellsTooMuch spelled → IsFirst (IsInput k) setup.devices d →
       meaning setup reading line ≡ Wrong 4
   value_long k d is spells first =
-      let at : slice_get setup.devices d ≡ Some (device.Input k first.wanted.0) = first.stands ∙ ap Some first.wanted.1 in
+      let at : slice_get setup.devices d ≡ Some (device.Input k first.wanted.0) = first.stands
+      ∙ ap Some first.wanted.1 in
       refused setup reading line (codes "value") (rest_of says) (as_text says) 4
       (value_found k d first.wanted.0 is first at ∙ stays_at spelled d first.wanted.0 spells)
 
@@ -263,7 +280,8 @@ no_second setup is_first word rest takes nothing = by_word takes
     by_word (inr (inr (inr is))) = alike (codes "value")
         (numbered_none setup (number (first_word rest)) (behind_word rest) (ap literal nothing ∙ nothing_is_literal)) is
 
-pub part_missing : (setup : Setup) (reading : Reading) (line word second : List ℕ) → TakesTwoParts word → Says line word second →
+pub part_missing : (setup : Setup) (reading : Reading) (line word second : List ℕ) → TakesTwoParts word →
+    Says line word second →
     IsSolid second → meaning setup reading line ≡ Wrong 1
 part_missing setup reading line word second takes says solid =
     refused setup reading line word second says 1

@@ -1,70 +1,18 @@
 -- A time of day is no number and no length of time, and a number is no length of time.
-use Rattle.std.proofs.Common.{◌≡◌, ◌≤◌, ◌<◌, ◌+◌, ℕ, ◌*◌, ◌-◌, ◌^◌, ℤ, pos, List, [], ◌∷◌, ◌++◌, ◌⊎◌, inl, inr, Bool, true, false, cond, ◌&&◌, ◌==◌, nat_le, drop, codes, Option, Some, None, option_map, refl, ap, sym, ◌∙◌, subst, arith, add-one}
+use Rattle.std.proofs.Common.{◌≡◌, ◌≢◌, ◌≤◌, ◌<◌, ◌+◌, ℕ, ◌*◌, ◌-◌, ◌^◌, ℤ, pos, List, [], ◌∷◌, ◌++◌, ◌⊎◌, inl, inr, Bool, true, false, cond, ◌&&◌, ◌==◌, nat_le, drop, codes, Option, Some, None, option_map, refl, ap, sym, ◌∙◌, subst, arith, add-one}
 use Rattle.std.proofs.lemmas.Bool.{eqb-true, ne_eqb, leb-true, false≢true}
 use Rattle.std.specs.Prelude.{slice_index, if◌then◌else◌}
 use Rattle.std.specs.Char.{is_ascii_digit}
-use Rattle.std.specs.List.{onto_first, prefix_len, slice_split}
+use Rattle.std.specs.List.{AllByRecursion, prefix_len}
 use Rattle.std.specs.Str.{all_ascii_digits}
 use Rattle.std.specs.Str.Parse.{digits_value}
-use Rattle.pearl_rules.specs.Literals.{at_most, behind_blanks, behind_digits, clock_literal, clock_of, clock_value, fixed_literal, front_digits, from_amount, from_hours, from_minutes, from_seconds, minus, number_literal, number_up_to, seconds_amount, span_literal, thousandths, with_colons, with_point, worded}
+use Rattle.pearl_rules.specs.Literals.{at_most, behind_blanks, behind_digits, fixed_literal, front_digits, from_amount, from_hours, from_minutes, from_seconds, minus, number_literal, seconds_amount, span_literal, worded}
 use Rattle.pearl_journal.specs.Words.{is_blank}
+use Rattle.pearl_journal_laws.specs.Says.{IsDigit}
+use Rattle.pearl_journal_laws.specs.Times.{IsTimeOfDay}
+use Rattle.pearl_journal_laws.proofs.Numbers.{digits_are}
 
 -- COLONS
-
-abbrev is_colon : ℕ → Bool
-is_colon byte = byte == 58
-
--- the first part, and what stands behind its colon
-record Cut (bytes : List ℕ) : Type 0 where
-  first : List ℕ
-  others : List (List ℕ)
-  parts : slice_split is_colon bytes ≡ first ∷ others
-  whole : (others ≡ []) ⊎ ((rest : List ℕ) × (bytes ≡ first ++ 58 ∷ rest))
-
-cut : (bytes : List ℕ) → Cut bytes
-cut [] = record { first = []; others = []; parts = refl; whole = inl refl }
-cut (byte ∷ bytes) = by (is_colon byte) refl (cut bytes)
-  where
-    longer : (c : Cut bytes) → (c.others ≡ []) ⊎ ((rest : List ℕ) × (bytes ≡ c.first ++ 58 ∷ rest)) →
-        (c.others ≡ []) ⊎ ((rest : List ℕ) × (byte ∷ bytes ≡ byte ∷ c.first ++ 58 ∷ rest))
-    longer c (inl none) = inl none
-    longer c (inr more) = inr (more.0, ap (λ b. byte ∷ b) more.1)
-
-    by : (is : Bool) → is_colon byte ≡ is → Cut bytes → Cut (byte ∷ bytes)
-    by true e c =
-        record {
-          first = [];
-          others = slice_split is_colon bytes;
-          parts = ap (λ b. cond b ([] ∷ slice_split is_colon bytes) (onto_first byte (slice_split is_colon bytes))) e;
-          whole = inr (bytes, ap (λ b. b ∷ bytes) (eqb-true byte 58 e));
-        }
-    by false e c =
-        record {
-          first = byte ∷ c.first;
-          others = c.others;
-          parts = ap (λ b. cond b ([] ∷ slice_split is_colon bytes) (onto_first byte (slice_split is_colon bytes))) e
-              ∙ ap (onto_first byte) c.parts;
-          whole = longer c c.whole;
-        }
-
-no_hours_of : (minutes seconds hours : List ℕ) (o : Option ℕ) → number_up_to 23 hours ≡ None →
-    clock_of hours minutes seconds o ≡ None
-no_hours_of minutes seconds hours o none =
-    ap (λ h. clock_value h (number_up_to 59 minutes) (number_up_to 59 seconds) o) none
-
-no_point_of : (hours minutes : List ℕ) (parts : List (List ℕ)) → number_up_to 23 hours ≡ None →
-    with_point hours minutes parts ≡ None
-no_point_of hours minutes [] none = refl
-no_point_of hours minutes (seconds ∷ []) none = no_hours_of minutes seconds hours (Some 0) none
-no_point_of hours minutes (seconds ∷ digits ∷ []) none = no_hours_of minutes seconds hours (thousandths digits) none
-no_point_of hours minutes (seconds ∷ digits ∷ more ∷ parts) none = refl
-
-no_clock_of : (hours : List ℕ) (others : List (List ℕ)) → number_up_to 23 hours ≡ None → with_colons (hours ∷ others) ≡ None
-no_clock_of hours [] none = refl
-no_clock_of hours (minutes ∷ []) none = refl
-no_clock_of hours (minutes ∷ seconds ∷ []) none =
-    no_point_of hours minutes (slice_split (λ byte. byte == 46) seconds) none
-no_clock_of hours (minutes ∷ seconds ∷ more ∷ others) none = refl
 
 -- digits, and a colon behind them
 pub record IsColoned (bytes : List ℕ) : Type 0 where
@@ -77,42 +25,22 @@ pub record IsColoned (bytes : List ℕ) : Type 0 where
 none-some : {X : Type 0} (x : X) → None ≡ Some x → ⊥
 none-some x e = cc
 
-digits_or : (hours : List ℕ) → (number_up_to 23 hours ≡ None) ⊎ ((first : ℕ) × (digits : List ℕ) × (hours ≡ first ∷ digits)
-    × (all_ascii_digits (first ∷ digits) ≡ true))
-digits_or [] = inl refl
-digits_or (byte ∷ bytes) = by (all_ascii_digits (byte ∷ bytes)) refl
+pub coloned : (bytes : List ℕ) (time : ℕ) → IsTimeOfDay bytes time → IsColoned bytes
+coloned bytes time is = by is.hour_digits is.hours_are.0.some is.hours_are.0.are_digits is.spelled
   where
-    by : (are : Bool) → all_ascii_digits (byte ∷ bytes) ≡ are →
-        (number_up_to 23 (byte ∷ bytes) ≡ None) ⊎ ((first : ℕ) × (digits : List ℕ) × (byte ∷ bytes ≡ first ∷ digits)
-        × (all_ascii_digits (first ∷ digits) ≡ true))
-    by true e = inr (byte, bytes, refl, e)
-    by false e = inl (ap (λ b. at_most 23 (if b then Some (digits_value 10 (byte ∷ bytes)) else None)) e)
+    rest : List ℕ
+    rest = is.minute_digits ++ 58 ∷ (is.second_digits ++ is.fraction)
 
-pub coloned : (bytes : List ℕ) (time : ℕ) → clock_literal bytes ≡ Some time → IsColoned bytes
-unfolding clock_literal
-coloned bytes time is = by (cut bytes)
-  where
-    by : Cut bytes → IsColoned bytes
-    by c = elim c.whole [
-      | inl none ↦
-          let no_colon : with_colons (slice_split is_colon bytes) ≡ None =
-          ap with_colons c.parts ∙ ap (λ o. with_colons (c.first ∷ o)) none in
-          absurd (none-some time (sym no_colon ∙ is))
-      | inr cut ↦ elim (digits_or c.first) [
-        | inl none ↦
-            let no_hours : with_colons (slice_split is_colon bytes) ≡ None =
-            ap with_colons c.parts ∙ no_clock_of c.first c.others none in
-            absurd (none-some time (sym no_hours ∙ is))
-        | inr d ↦
-            record {
-              first = d.0;
-              digits = d.1;
-              rest = cut.0;
-              spelled = cut.1 ∙ ap (λ b. b ++ 58 ∷ cut.0) d.2;
-              are_digits = d.3;
-            }
-      ]
-    ]
+    by : (hours : List ℕ) → hours ≢ [] → AllByRecursion IsDigit hours → bytes ≡ hours ++ 58 ∷ rest → IsColoned bytes
+    by [] some are spelled = absurd (some refl)
+    by (byte ∷ digits) some are spelled =
+        record {
+          first = byte;
+          digits = digits;
+          rest = rest;
+          spelled = spelled;
+          are_digits = digits_are (byte ∷ digits) are;
+        }
 
 -- FIRST BYTES
 
@@ -148,14 +76,17 @@ no_point _ (Colon rest) = refl
 no_seconds : (text : List ℕ) → IsNoUnit (behind_digits text) → seconds_amount is_blank text ≡ None
 no_seconds text is =
     rw (no_point (behind_digits text) is)
-    (no_unit 83 (codes "EC") (behind_digits text) (option_map (λ n. n * 1000) (number_literal (front_digits text))) refl is)
+    (no_unit 83 (codes "EC") (behind_digits text) (option_map (λ n. n * 1000)
+    (number_literal (front_digits text))) refl is)
 
 no_hours : (text : List ℕ) → IsNoUnit (behind_digits text) → from_hours is_blank text ≡ None
 no_hours text is =
     ap (from_amount is_blank (from_minutes is_blank) text)
-    (no_unit 72 (codes "RS") (behind_digits text) (option_map (λ n. n * 3600000) (number_literal (front_digits text))) refl is)
+    (no_unit 72 (codes "RS") (behind_digits text) (option_map (λ n. n * 3600000)
+    (number_literal (front_digits text))) refl is)
     ∙ ap (from_amount is_blank (from_seconds is_blank) text)
-    (no_unit 77 (codes "IN") (behind_digits text) (option_map (λ n. n * 60000) (number_literal (front_digits text))) refl is)
+    (no_unit 77 (codes "IN") (behind_digits text) (option_map (λ n. n * 60000)
+    (number_literal (front_digits text))) refl is)
     ∙ ap (from_amount is_blank (λ rest. None) text) (no_seconds text is)
 
 drop-more : (n byte : ℕ) (bytes : List ℕ) → drop (1 + n) (byte ∷ bytes) ≡ drop n bytes
@@ -182,7 +113,8 @@ not_all : (digits rest : List ℕ) → all_ascii_digits (digits ++ 58 ∷ rest) 
 not_all [] rest = refl
 not_all (byte ∷ digits) rest = by (is_ascii_digit byte) (not_all digits rest)
   where
-    by : (is : Bool) → all_ascii_digits (digits ++ 58 ∷ rest) ≡ false → is && all_ascii_digits (digits ++ 58 ∷ rest) ≡ false
+    by : (is : Bool) → all_ascii_digits (digits ++ 58 ∷ rest) ≡ false →
+        is && all_ascii_digits (digits ++ 58 ∷ rest) ≡ false
     by true later = later
     by false later = refl
 
@@ -191,7 +123,8 @@ not_all (byte ∷ digits) rest = by (is_ascii_digit byte) (not_all digits rest)
 first_digit : (bytes : List ℕ) (is : IsColoned bytes) → is_ascii_digit is.first ≡ true
 first_digit bytes is = (and_first (is_ascii_digit is.first) (all_ascii_digits is.digits) is.are_digits).0
 
-pub coloned_begins : (bytes : List ℕ) (other : ℕ) → IsColoned bytes → other < 48 → (slice_index bytes 0 == other) ≡ false
+pub coloned_begins : (bytes : List ℕ) (other : ℕ) → IsColoned bytes → other < 48 →
+    (slice_index bytes 0 == other) ≡ false
 coloned_begins bytes other is low =
     ap (λ b. slice_index b 0 == other) is.spelled ∙ not_below is.first other (first_digit bytes is) low
 
@@ -200,7 +133,8 @@ coloned_number bytes is =
     let none : number_literal (is.first ∷ (is.digits ++ 58 ∷ is.rest)) ≡ None =
     ap (λ b. at_most (2 ^ 63 - 1) (if b then Some (digits_value 10 (is.first ∷ (is.digits ++ 58 ∷ is.rest))) else None))
     (not_all (is.first ∷ is.digits) is.rest) in
-    rw (coloned_begins bytes 45 is (omega arith)) (ap (λ b. option_map pos (number_literal b)) is.spelled ∙ ap (option_map pos) none)
+    rw (coloned_begins bytes 45 is (omega arith)) (ap (λ b. option_map pos (number_literal b)) is.spelled
+    ∙ ap (option_map pos) none)
 
 pub coloned_span : (bytes : List ℕ) → IsColoned bytes → span_literal is_blank bytes ≡ None
 unfolding span_literal
@@ -227,7 +161,8 @@ signed_or : (sign : ℕ → ℤ) (o p : Option ℕ) (time : ℤ) → (o ≡ None
 signed_or sign o p time (inl none) is = ap (option_map sign) none
 signed_or sign o p time (inr none) is = absurd (none-some time (sym (ap (option_map sign) none) ∙ is))
 
-pub span_number : (bytes : List ℕ) (time : ℤ) → span_literal is_blank bytes ≡ Some time → fixed_literal is_blank bytes ≡ None
+pub span_number : (bytes : List ℕ) (time : ℤ) → span_literal is_blank bytes ≡ Some time →
+    fixed_literal is_blank bytes ≡ None
 unfolding span_literal
 span_number bytes time is = by (slice_index bytes 0 == 45) is
   where
@@ -235,7 +170,8 @@ span_number bytes time is = by (slice_index bytes 0 == 45) is
     behind = behind_blanks is_blank (drop 1 bytes)
 
     by : (negative : Bool) →
-        (if negative then option_map minus (from_hours is_blank behind) else option_map pos (from_hours is_blank bytes)) ≡ Some time →
+        (if negative then option_map minus (from_hours is_blank behind)
+        else option_map pos (from_hours is_blank bytes)) ≡ Some time →
         (if negative then option_map minus (number_literal behind) else option_map pos (number_literal bytes)) ≡ None
     by true = signed_or minus (number_literal behind) (from_hours is_blank behind) time (number_or_time behind)
     by false = signed_or pos (number_literal bytes) (from_hours is_blank bytes) time (number_or_time bytes)
@@ -260,8 +196,10 @@ begins_without {X} read none (byte ∷ rest) x is = by (byte == 39) refl
         absurd (none-some x (sym (none rest) ∙ ap (λ b. read (b ∷ rest)) (sym (eqb-true byte 39 e)) ∙ is))
     by false e = refl
 
-pub number_begins : (bytes : List ℕ) (n : ℤ) → fixed_literal is_blank bytes ≡ Some n → (slice_index bytes 0 == 39) ≡ false
+pub number_begins : (bytes : List ℕ) (n : ℤ) → fixed_literal is_blank bytes ≡ Some n →
+    (slice_index bytes 0 == 39) ≡ false
 number_begins = begins_without (fixed_literal is_blank) quote_number
 
-pub span_begins : (bytes : List ℕ) (time : ℤ) → span_literal is_blank bytes ≡ Some time → (slice_index bytes 0 == 39) ≡ false
+pub span_begins : (bytes : List ℕ) (time : ℤ) → span_literal is_blank bytes ≡ Some time →
+    (slice_index bytes 0 == 39) ≡ false
 span_begins = begins_without (span_literal is_blank) quote_span

@@ -1,13 +1,12 @@
 -- Lines that have all that the laws ask, and what comes of them.
-use Rattle.std.proofs.Common.{◌≡◌, ◌≢◌, ◌≤◌, ◌<◌, ◌^◌, ℕ, zero, suc, List, [], ◌∷◌, ◌++◌, Bool, true, false, not, ◌&&◌, ◌==◌, slice_get, Some, None, codes, length, refl, ap, sym, ◌∙◌, subst, arith, pos, lit<}
+use Rattle.std.proofs.Common.{◌≡◌, ◌≢◌, ◌≤◌, ◌<◌, ℕ, zero, suc, List, [], ◌∷◌, ◌++◌, inl, Bool, true, false, not, ◌&&◌, ◌==◌, slice_get, Some, codes, length, refl, ap, sym, ◌∙◌, subst, arith, pos, lit<}
 use Rattle.std.proofs.lemmas.Bool.{false≢true}
 use Rattle.std.proofs.lemmas.List.{append-nil}
 use Rattle.std.specs.Bool.{Decides}
 use Rattle.std.specs.List.{list_all}
-use Rattle.pearl_value.specs.declared.cell.Cell.TheVariants.{Fixed, Bits, Chars, Clock, Span}
+use Rattle.pearl_value.specs.declared.cell.Cell.TheVariants.{Fixed, Bits}
 use Rattle.pearl_value.specs.declared.kind.Kind.TheVariants as kind
 use Rattle.pearl_rules.specs.declared.entry.Entry.TheVariants as entry
-use Rattle.pearl_rules.specs.declared.setup.Device.{Device}
 use Rattle.pearl_rules.specs.declared.setup.Device.TheVariants as device
 use Rattle.pearl_rules.specs.declared.setup.Direction.TheVariants as direction
 use Rattle.pearl_rules.specs.declared.setup.Setup.{Setup}
@@ -19,13 +18,15 @@ use Rattle.pearl_journal.specs.Meaning.{meaning}
 use Rattle.pearl_journal.specs.Readings.{Reading, start}
 use Rattle.pearl_journal.specs.Words.{is_blank}
 use Rattle.pearl_journal.proofs.BlankLaws.{IsSolid, solid_begins, solid_last}
-use Rattle.pearl_journal_laws.specs.Named.{IsFirst, IsInput, IsInterrupt, IsNamed, IsNowhere, IsReadable}
-use Rattle.pearl_journal_laws.specs.Says.{IsNumber, IsText, Says, SaysMore}
-use Rattle.pearl_journal_laws.proofs.ArrivalLaws.{chars_is, chars_no_text, chars_none, irpt_is, irpt_none, line_is, value_is, value_unfit}
+use Rattle.pearl_journal_laws.specs.Literals.{AreBits}
+use Rattle.pearl_journal_laws.specs.Named.{IsFirst, IsInput, IsNowhere, IsReadable}
+use Rattle.pearl_journal_laws.specs.Says.{Says, SaysMore}
+use Rattle.pearl_journal_laws.proofs.ArrivalLaws.{chars_is, chars_none, irpt_is, irpt_none, line_is, value_is, value_unfit}
 use Rattle.pearl_journal_laws.proofs.Finding.{input_decides, interrupt_decides, named_decides, readable_decides}
 use Rattle.pearl_journal_laws.proofs.Numbers.{was_number}
 use Rattle.pearl_journal_laws.proofs.StepLaws.{clock_first, clock_later, pass_is, pass_late, run_is, state_is, turn_is, turn_none}
 use Rattle.pearl_journal_laws.proofs.Texts.{was_text}
+use Rattle.pearl_journal_laws.proofs.TimesOfDay.{was_time}
 use Rattle.pearl_journal_laws.proofs.Writing.{says_text, says_three, says_word}
 
 -- A PLANT
@@ -41,8 +42,8 @@ plant =
       slots = [];
       semaphores = [];
       devices = device.Interrupt 4 ∷ device.Terminal 1 direction.Out ∷ device.Terminal 2 direction.InOut
-      ∷ device.Input 2 (kind.Fixed 7) ∷ [];
-      formats = []
+          ∷ device.Input 2 (kind.Fixed 7) ∷ [];
+      formats = [];
     }
 
 -- the last millisecond but one
@@ -66,11 +67,12 @@ bare_by text some e =
     let solid = solid_by text e in
     record {
       begins = λ byte rest e. solid_begins text [] solid some byte rest (append-nil text ∙ e);
-      ends = λ front byte e. solid_last front byte (subst IsSolid e solid)
+      ends = λ front byte e. solid_last front byte (subst IsSolid e solid);
     }
 
 no_return_by : (text : List ℕ) → list_all (λ byte. not (byte == 13)) text ≡ true → EndsInNoReturn text
-no_return_by text all [] e = let same = subst (λ t. list_all (λ byte. not (byte == 13)) t ≡ true) e all in false≢true same
+no_return_by text all [] e =
+    let same = subst (λ t. list_all (λ byte. not (byte == 13)) t ≡ true) e all in false≢true same
 no_return_by [] all (b ∷ front) e = cc
 no_return_by (byte ∷ text) all (b ∷ front) e =
     let others : text ≡ front ++ 13 ∷ [] = cc in
@@ -78,7 +80,8 @@ no_return_by (byte ∷ text) all (b ∷ front) e =
 
 -- a word, a blank and a text without blanks
 two : (word text : List ℕ) → IsWord word → text ≢ [] → list_all (λ byte. not (is_blank byte)) text ≡ true →
-    list_all (λ byte. not (byte == 13)) text ≡ true → length (word ++ 32 ∷ text) ≤ 1024 → Says (word ++ 32 ∷ text) word text
+    list_all (λ byte. not (byte == 13)) text ≡ true → length (word ++ 32 ∷ text) ≤ 1024 →
+    Says (word ++ 32 ∷ text) word text
 two word text is some solid no_return short =
     says_text word text is (bare_by text some solid) some (no_return_by text no_return) short
 
@@ -88,21 +91,24 @@ three : (word second text : List ℕ) → IsWord word → second ≢ [] → text
     list_all (λ byte. not (byte == 13)) text ≡ true → length (word ++ 32 ∷ (second ++ 32 ∷ text)) ≤ 1024 →
     SaysMore (word ++ 32 ∷ (second ++ 32 ∷ text)) word second text
 three word second text is some more first solid no_return short =
-    says_three word second text is some (solid_by second first) (bare_by text more solid) more (no_return_by text no_return)
+    says_three word second text is some (solid_by second first) (bare_by text more solid) more
+    (no_return_by text no_return)
     short
 
-word_by : (byte : ℕ) (word : List ℕ) → list_all (λ byte. not (is_blank byte)) (byte ∷ word) ≡ true → (byte == 35) ≡ false →
+word_by : (byte : ℕ) (word : List ℕ) → list_all (λ byte. not (is_blank byte)) (byte ∷ word) ≡ true →
+    (byte == 35) ≡ false →
     IsWord (byte ∷ word)
 word_by byte word solid other =
     record {
       some = λ e. cc;
       solid = solid_by (byte ∷ word) solid;
-      no_comment = λ rest e. let same : byte ≡ 35 = cc in false≢true (sym other ∙ ap (λ b. b == 35) same)
+      no_comment = λ rest e. let same : byte ≡ 35 = cc in false≢true (sym other ∙ ap (λ b. b == 35) same);
     }
 
 -- PLACES
 
-module _ {X : Type 0} (test : X → Bool) (IsWanted : X → Type 0) (decides : (x : X) → Decides (test x) (IsWanted x)) where
+module _ {X : Type 0} (test : X → Bool) (IsWanted : X → Type 0)
+    (decides : (x : X) → Decides (test x) (IsWanted x)) where
   none_by : (all : List X) → list_all (λ x. not (test x)) all ≡ true → IsNowhere IsWanted all
   none_by [] e place other at wanted = cc
   none_by (x ∷ all) e zero other at wanted =
@@ -129,7 +135,7 @@ module _ {X : Type 0} (test : X → Bool) (IsWanted : X → Type 0) (decides : (
         found = x;
         stands = at_end before x after;
         wanted = wanted;
-        first = λ place other less at. none_by before e place other (sym (within before x after place less) ∙ at)
+        first = λ place other less at. none_by before e place other (sym (within before x after place less) ∙ at);
       }
 
 -- LINES OF TIME AND OF TASKS
@@ -137,9 +143,14 @@ module _ {X : Type 0} (test : X → Bool) (IsWanted : X → Type 0) (decides : (
 noon : Says (codes "clock 12:00:00") (codes "clock") (codes "12:00:00")
 noon = two (codes "clock") (codes "12:00:00") (word_by 99 (codes "lock") refl refl) (λ e. cc) refl refl (omega arith)
 
-a_first_clock : meaning plant start (codes "clock 12:00:00") ≡ Item (entry.Clock 43200000)
+noon_is_read : clock_literal (codes "12:00:00") ≡ Some 43200000
 unfolding clock_literal
-a_first_clock = clock_first plant start _ (codes "12:00:00") 43200000 noon refl (omega arith) refl
+noon_is_read = refl
+
+a_first_clock : meaning plant start (codes "clock 12:00:00") ≡ Item (entry.Clock 43200000)
+a_first_clock =
+    clock_first plant start _ (codes "12:00:00") 43200000 noon refl (omega arith)
+    (was_time (codes "12:00:00") 43200000 noon_is_read)
 
 a_later_clock : meaning plant late (codes "clock 12:00:00") ≡ Wrong 1
 a_later_clock = clock_later plant late _ (codes "12:00:00") noon refl
@@ -147,27 +158,32 @@ a_later_clock = clock_later plant late _ (codes "12:00:00") noon refl
 a_run : meaning plant late (codes "run 100") ≡ Item (entry.Run 100)
 a_run =
     run_is plant late _ (codes "100") 100
-    (two (codes "run") (codes "100") (word_by 114 (codes "un") refl refl) (λ e. cc) refl refl (omega arith)) (omega arith)
+    (two (codes "run") (codes "100") (word_by 114 (codes "un") refl refl) (λ e. cc) refl refl (omega arith))
+    (omega arith)
     (was_number (codes "100") 100 refl)
 
 a_pass_to_the_last_moment : meaning plant late (codes "pass 1 20") ≡ Item (entry.Pass 1 20)
 a_pass_to_the_last_moment =
     pass_is plant late _ (codes "1") (codes "20")
-    (three (codes "pass") (codes "1") (codes "20") (word_by 112 (codes "ass") refl refl) (λ e. cc) (λ e. cc) refl refl refl
+    (three (codes "pass") (codes "1") (codes "20") (word_by 112 (codes "ass") refl refl) (λ e. cc)
+    (λ e. cc) refl refl refl
     (omega arith)) 1 20 (was_number (codes "1") 1 refl) (was_number (codes "20") 20 refl) (omega arith)
 
 a_pass_too_far : meaning plant late (codes "pass 2 20") ≡ Wrong 3
 a_pass_too_far =
     pass_late plant late _ (codes "2") (codes "20")
-    (three (codes "pass") (codes "2") (codes "20") (word_by 112 (codes "ass") refl refl) (λ e. cc) (λ e. cc) refl refl refl
+    (three (codes "pass") (codes "2") (codes "20") (word_by 112 (codes "ass") refl refl) (λ e. cc)
+    (λ e. cc) refl refl refl
     (omega arith)) 2 20 (was_number (codes "2") 2 refl) (was_number (codes "20") 20 refl) (omega arith)
 
 a_turn_of_two : meaning plant start (codes "turn Fill") ≡ Item (entry.Turn 1)
 a_turn_of_two =
     turn_is plant start _ (codes "Fill") 1
-    (two (codes "turn") (codes "Fill") (word_by 116 (codes "urn") refl refl) (λ e. cc) refl refl (omega arith)) (omega arith)
+    (two (codes "turn") (codes "Fill") (word_by 116 (codes "urn") refl refl) (λ e. cc) refl refl (omega arith))
+    (omega arith)
     refl
-    (first_by _ _ (named_decides (codes "Fill")) (task (codes "Drain") ∷ []) (task (codes "Fill")) (task (codes "Fill") ∷ [])
+    (first_by _ _ (named_decides (codes "Fill")) (task (codes "Drain") ∷ []) (task (codes "Fill"))
+    (task (codes "Fill") ∷ [])
     refl refl)
 
 a_turn_of_none : meaning plant start (codes "turn TASK") ≡ Wrong 2
@@ -187,7 +203,8 @@ a_state =
 an_interrupt : meaning plant start (codes "irpt 4") ≡ Item (entry.Irpt 0)
 an_interrupt =
     irpt_is plant start _ (codes "4")
-    (two (codes "irpt") (codes "4") (word_by 105 (codes "rpt") refl refl) (λ e. cc) refl refl (omega arith)) 4 0 (omega arith)
+    (two (codes "irpt") (codes "4") (word_by 105 (codes "rpt") refl refl) (λ e. cc) refl refl (omega arith)) 4 0
+    (omega arith)
     (was_number (codes "4") 4 refl) (first_by _ _ (interrupt_decides 4) [] (device.Interrupt 4) _ refl refl)
 
 no_interrupt : meaning plant start (codes "irpt 2") ≡ Wrong 2
@@ -205,7 +222,8 @@ second_terminal =
 characters : meaning plant start (codes "chars 2 'it''s'") ≡ Item (entry.Chars 2 (record { items = codes "it's" }))
 characters =
     chars_is plant start _ (codes "2") (codes "'it''s'")
-    (three (codes "chars") (codes "2") (codes "'it''s'") (word_by 99 (codes "hars") refl refl) (λ e. cc) (λ e. cc) refl refl
+    (three (codes "chars") (codes "2") (codes "'it''s'") (word_by 99 (codes "hars") refl refl) (λ e. cc)
+    (λ e. cc) refl refl
     refl (omega arith)) (codes "it's") 2 2 (omega arith) (was_number (codes "2") 2 refl)
     (was_text (codes "'it''s'") (codes "it's") refl) (λ e. cc) second_terminal
 
@@ -213,14 +231,16 @@ characters_for_nobody : meaning plant start (codes "chars 1 'x'") ≡ Wrong 2
 characters_for_nobody =
     chars_none plant start _ (codes "1") (codes "'x'")
     (three (codes "chars") (codes "1") (codes "'x'") (word_by 99 (codes "hars") refl refl) (λ e. cc) (λ e. cc) refl refl
-    refl (omega arith)) (codes "x") 1 (was_number (codes "1") 1 refl) (was_text (codes "'x'") (codes "x") refl) (λ e. cc)
+    refl (omega arith)) (codes "x") 1 (was_number (codes "1") 1 refl) (was_text (codes "'x'") (codes "x") refl)
+    (λ e. cc)
     (none_by _ _ (readable_decides 1) plant.devices refl)
 
 an_empty_line : meaning plant start (codes "line 2 ''") ≡ Item (entry.Line 2 (record { items = [] }))
 an_empty_line =
     line_is plant start _ (codes "2") (codes "''")
     (three (codes "line") (codes "2") (codes "''") (word_by 108 (codes "ine") refl refl) (λ e. cc) (λ e. cc) refl refl
-    refl (omega arith)) [] 2 2 (omega arith) (was_number (codes "2") 2 refl) (was_text (codes "''") [] refl) second_terminal
+    refl (omega arith)) [] 2 2 (omega arith) (was_number (codes "2") 2 refl)
+    (was_text (codes "''") [] refl) second_terminal
 
 input : IsFirst (IsInput 2) plant.devices 3
 input =
@@ -237,22 +257,47 @@ says_value text some solid no_return short =
 
 a_value : meaning plant start (codes "value 2 75") ≡ Item (entry.Value 3 (Fixed 31 (pos 75)))
 a_value =
-    value_is plant start _ (codes "2") (codes "75") (says_value (codes "75") (λ e. cc) refl refl (omega arith)) 2 3 (kind.Fixed 7)
-    (Fixed 31 (pos 75)) (omega arith) (was_number (codes "2") 2 refl) (refl, refl) input refl
+    value_is plant start _ (codes "2") (codes "75") (says_value (codes "75") (λ e. cc) refl refl (omega arith)) 2 3
+    (kind.Fixed 7) (Fixed 31 (pos 75)) (omega arith) (was_number (codes "2") 2 refl)
+    (inl (75, was_number (codes "75") 75 refl, refl), refl) input refl
     (record {
       is_value = ((omega arith, omega arith), record { low = omega arith; high = omega arith });
       suits = tt;
       becomes = Fixed 7 (pos 75);
-      converts = refl
+      converts = refl;
     })
 
 a_great_value : meaning plant start (codes "value 2 128") ≡ Wrong 4
 a_great_value =
     value_unfit plant start _ (codes "2") (codes "128") (says_value (codes "128") (λ e. cc) refl refl (omega arith)) 2 3
-    (kind.Fixed 7) (Fixed 31 (pos 128)) (was_number (codes "2") 2 refl) (refl, refl) input refl
+    (kind.Fixed 7) (Fixed 31 (pos 128)) (was_number (codes "2") 2 refl)
+    (inl (128, was_number (codes "128") 128 refl, refl), refl) input refl
     (λ is. let e = is.converts in cc)
+
+five_in_bits : AreBits (codes "'101'B") 3 5
+five_in_bits =
+    record {
+      digits = codes "101";
+      word = codes "B";
+      group = 1;
+      spelled = refl;
+      says_group = inl (refl, refl);
+      some = λ e. cc;
+      are_digits = (
+        (inl (omega arith, omega arith), lit< tt),
+        (
+          (inl (omega arith, omega arith), lit< tt),
+          ((inl (omega arith, omega arith), lit< tt), tt),
+        ),
+      );
+      count = refl;
+      few = omega arith;
+      number = refl;
+    }
 
 bits_for_a_number : meaning plant start (codes "value 2 '101'B") ≡ Wrong 4
 bits_for_a_number =
-    value_unfit plant start _ (codes "2") (codes "'101'B") (says_value (codes "'101'B") (λ e. cc) refl refl (omega arith)) 2 3
-    (kind.Fixed 7) (Bits 3 5) (was_number (codes "2") 2 refl) refl input refl (λ is. is.suits)
+    value_unfit plant start _ (codes "2") (codes "'101'B") (says_value (codes "'101'B") (λ e. cc) refl refl
+    (omega arith)) 2 3
+    (kind.Fixed 7) (Bits 3 5) (was_number (codes "2") 2 refl)
+    five_in_bits input refl (λ is. is.suits)

@@ -15,7 +15,8 @@ use Rattle.pearl_journal_laws.specs.Named.{IsFirst, IsInput, IsInterrupt, IsName
 
 -- PLACES
 
-module _ {X : Type 0} (test : X → Bool) (IsWanted : X → Type 0) (decides : (x : X) → Decides (test x) (IsWanted x)) where
+module _ {X : Type 0} (test : X → Bool) (IsWanted : X → Type 0)
+    (decides : (x : X) → Decides (test x) (IsWanted x)) where
   unwanted : (x : X) → (IsWanted x → ⊥) → test x ≡ false
   unwanted x never = by (test x) refl
     where
@@ -33,7 +34,8 @@ module _ {X : Type 0} (test : X → Bool) (IsWanted : X → Type 0) (decides : (
       ap (λ b. cond (not b) (1 + position_or_len test all) 0) yes
   place_is (x ∷ all) (suc place) found stands wanted first =
       let not_here : test x ≡ false = unwanted x (first 0 x (omega arith) refl) in
-      let later = place_is all place found stands wanted (λ before other less. first (suc before) other (omega (arith, less))) in
+      let later = place_is all place found stands wanted (λ before other less.
+      first (suc before) other (omega (arith, less))) in
       let more : 1 + position_or_len test all ≡ suc place = omega (arith, later) in
       ap (λ b. cond (not b) (1 + position_or_len test all) 0) not_here ∙ more
 

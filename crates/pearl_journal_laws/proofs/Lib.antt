@@ -3,7 +3,10 @@ pub mod Saying
 pub mod Numbers
 pub mod Finding
 pub mod Texts
+pub mod TimesOfDay
 pub mod Clocks
+pub mod Signs
+pub mod BitDigits
 pub mod Literals
 pub mod Values
 pub mod StepLaws

@@ -1,17 +1,17 @@
 -- What is read as a literal is what it spells.
-use Rattle.std.proofs.Common.{◌≡◌, ◌≢◌, ◌+◌, ◌*◌, ℕ, ℤ, List, [], ◌∷◌, ◌++◌, inl, inr, Bool, true, false, ◌==◌, nat_le, length, drop, Option, Some, None, Result, Ok, Err, option_map, refl, ap, sym, ◌∙◌, arith, add-one}
+use Rattle.std.proofs.Common.{◌≡◌, ◌≢◌, ℕ, ℤ, List, [], ◌∷◌, ◌++◌, inl, inr, Bool, true, false, ◌==◌, Option, Some, None, Result, Ok, Err, refl, ap, sym, ◌∙◌, arith}
 use Rattle.std.proofs.lemmas.Bool.{false≢true}
 use Rattle.std.proofs.lemmas.Bool.Decides.{nat_tests}
 use Rattle.std.proofs.lemmas.Int.{ints}
 use Rattle.std.specs.Prelude.{IfSome, option_and_then, slice_index, if◌then◌else◌}
-use Rattle.std.specs.List.{after_first, before_first, position_or_len}
+use Rattle.std.specs.List.{after_first, before_first}
 use Rattle.pearl_value.specs.declared.kind.Kind.{Kind}
 use Rattle.pearl_value.specs.declared.kind.Kind.TheVariants as kind
 use Rattle.pearl_value.specs.declared.cell.Cell.{Cell}
 use Rattle.pearl_value.specs.declared.cell.Cell.TheVariants.{Fixed, Bits, Chars, Clock, Span, Ref}
 use Rattle.pearl_value.specs.Conversions.{fits_fixed}
 use Rattle.pearl_value.specs.WellFormed.{FitsSpan, IsValue}
-use Rattle.pearl_rules.specs.Literals.{bits_number, clock_literal, fixed_literal, span_literal}
+use Rattle.pearl_rules.specs.Literals.{clock_literal, fixed_literal, span_literal}
 use Rattle.pearl_rules.specs.Scan.{fits_span}
 use Rattle.pearl_rules.specs.declared.entry.Entry.{Entry}
 use Rattle.pearl_rules.specs.declared.entry.Entry.TheVariants as entry
@@ -21,9 +21,13 @@ use Rattle.pearl_journal.specs.Texts.{is_apostrophe, text_literal}
 use Rattle.pearl_journal.specs.Values.{bits_literal, bits_of, coming_in, digit_width, literal, may_come_in}
 use Rattle.pearl_journal.specs.Words.{is_blank}
 use Rattle.pearl_journal.proofs.ValueFits.{LiteralIs, literal-is}
-use Rattle.pearl_journal_laws.specs.Literals.{IsLiteral, Spells, SpellsTooMuch}
+use Rattle.pearl_journal_laws.specs.Literals.{AreBits, IsLiteral, Spells, SpellsTooMuch}
 use Rattle.pearl_journal_laws.specs.Says.{IsText}
+use Rattle.pearl_journal_laws.proofs.BitDigits.{after_no, reads_bits, were_bits}
+use Rattle.pearl_journal_laws.proofs.Signs.{reads_signed, was_signed}
 use Rattle.pearl_journal_laws.proofs.Clocks.{coloned, coloned_begins, coloned_number, coloned_span, number_begins, span_begins, span_number}
+use Rattle.pearl_journal_laws.specs.Times.{IsTimeOfDay}
+use Rattle.pearl_journal_laws.proofs.TimesOfDay.{reads_time, was_time}
 use Rattle.pearl_journal_laws.proofs.Texts.{literal_is, no_literal}
 
 -- APOSTROPHES
@@ -35,30 +39,22 @@ no_quote : (bytes : List ℕ) → (slice_index bytes 0 == 39) ≡ false → text
 no_quote [] other = refl
 no_quote (byte ∷ rest) other = rw (other) refl
 
-after_no : (byte : ℕ) (bytes : List ℕ) → is_apostrophe byte ≡ false →
-    after_first is_apostrophe (byte ∷ bytes) ≡ after_first is_apostrophe bytes
-after_no byte bytes other =
-    let n = position_or_len is_apostrophe bytes in
-    let e : 1 + n + 1 ≡ (n + 1) + 1 = omega arith in
-    rw (other) (ap (λ k. drop k (byte ∷ bytes)) e ∙ rw (add-one (n + 1)) refl)
-
-after_yes : (byte : ℕ) (bytes : List ℕ) → is_apostrophe byte ≡ true → after_first is_apostrophe (byte ∷ bytes) ≡ bytes
-after_yes byte bytes is = rw (is) refl
-
 -- no word says behind a text how many bits digits have
 no_width : (text : List ℕ) → digit_width (after_first is_apostrophe (doubled text ++ 39 ∷ [])) ≡ None
 no_width [] = refl
 no_width (byte ∷ text) = by (byte == 39) refl (no_width text)
   where
     by : (is : Bool) → (byte == 39) ≡ is → digit_width (after_first is_apostrophe (doubled text ++ 39 ∷ [])) ≡ None →
-        digit_width (after_first is_apostrophe ((if is then 39 ∷ 39 ∷ doubled text else byte ∷ doubled text) ++ 39 ∷ [])) ≡ None
+        digit_width (after_first is_apostrophe
+        ((if is then 39 ∷ 39 ∷ doubled text else byte ∷ doubled text) ++ 39 ∷ [])) ≡ None
     by true e later = refl
     by false e later = ap digit_width (after_no byte (doubled text ++ 39 ∷ []) e) ∙ later
 
 text_no_bits : (bytes text : List ℕ) → IsText bytes text → bits_literal bytes ≡ None
 text_no_bits bytes text is =
     ap bits_literal is.written
-    ∙ ap (option_and_then (λ group. bits_of group (before_first is_apostrophe (doubled text ++ 39 ∷ [])))) (no_width text)
+    ∙ ap (option_and_then (λ group. bits_of group (before_first is_apostrophe (doubled text ++ 39 ∷ []))))
+    (no_width text)
 
 -- VALUES
 
@@ -91,24 +87,26 @@ record IsRead (bytes : List ℕ) (x : Cell) : Type 0 where
 
 number_read : (bytes : List ℕ) (len : ℕ) (value : ℤ) → Spells bytes (Fixed len value) → IsRead bytes (Fixed len value)
 number_read bytes len value is =
-    let begins = number_begins bytes value is.0 in
+    let said = reads_signed bytes value is.0 in
+    let begins = number_begins bytes value said in
     let bits = no_bits bytes begins in
     let text = no_quote bytes begins in
     let clock = no_clock (clock_literal bytes) refl in
-    let said = is.0 in
-    let value : IfSome (literal bytes) LiteralIs → IsValue (Fixed len value) = rw (bits, text, clock, said, is.1) (λ h. h) in
+    let value : IfSome (literal bytes) LiteralIs → IsValue (Fixed len value) =
+    rw (bits, text, clock, said, is.1) (λ h. h) in
     record { comes = λ d of. rw (bits, text, clock, said, is.1) refl; is_value = value (literal-is bytes) }
   where
     no_clock : (o : Option ℕ) → clock_literal bytes ≡ o → clock_literal bytes ≡ None
     no_clock None e = e
     no_clock (Some time) e =
-        let none = coloned_number bytes (coloned bytes time e) in
-        let said = is.0 in
+        let none = coloned_number bytes (coloned bytes time (was_time bytes time e)) in
+        let said = reads_signed bytes value is.0 in
         let no : ⊥ = cc in
         absurd no
 
-bits_read : (bytes : List ℕ) (len value : ℕ) → bits_literal bytes ≡ Some (Bits len value) → IsRead bytes (Bits len value)
-bits_read bytes len value is =
+bits_read : (bytes : List ℕ) (len value : ℕ) → AreBits bytes len value → IsRead bytes (Bits len value)
+bits_read bytes len value are =
+    let is = reads_bits bytes len value are in
     let value : IfSome (literal bytes) LiteralIs → IsValue (Bits len value) = rw (is) (λ h. h) in
     record { comes = λ d of. rw (is) refl; is_value = value (literal-is bytes) }
 
@@ -116,12 +114,14 @@ text_read : (bytes text : List ℕ) → IsText bytes text → text ≢ [] → Is
 text_read bytes text is some =
     let bits = text_no_bits bytes text is in
     let said = literal_is bytes text is some in
-    let value : IfSome (literal bytes) LiteralIs → IsValue (Chars (record { items = text })) = rw (bits, said) (λ h. h) in
+    let value : IfSome (literal bytes) LiteralIs → IsValue (Chars (record { items = text })) =
+    rw (bits, said) (λ h. h) in
     record { comes = λ d of. rw (bits, said) refl; is_value = value (literal-is bytes) }
 
-clock_read : (bytes : List ℕ) (time : ℕ) → clock_literal bytes ≡ Some time → IsRead bytes (Clock time)
-clock_read bytes time is =
-    let begins = coloned_begins bytes 39 (coloned bytes time is) (omega arith) in
+clock_read : (bytes : List ℕ) (time : ℕ) → IsTimeOfDay bytes time → IsRead bytes (Clock time)
+clock_read bytes time of =
+    let is = reads_time bytes time of in
+    let begins = coloned_begins bytes 39 (coloned bytes time of) (omega arith) in
     let bits = no_bits bytes begins in
     let text = no_quote bytes begins in
     let value : IfSome (literal bytes) LiteralIs → IsValue (Clock time) = rw (bits, text, is) (λ h. h) in
@@ -136,7 +136,7 @@ module _ (bytes : List ℕ) (time : ℤ) (is : span_literal is_blank bytes ≡ S
       no_clock : (o : Option ℕ) → clock_literal bytes ≡ o → clock_literal bytes ≡ None
       no_clock None e = e
       no_clock (Some at) e =
-          let none = coloned_span bytes (coloned bytes at e) in
+          let none = coloned_span bytes (coloned bytes at (was_time bytes at e)) in
           let no : ⊥ = cc in
           absurd no
 
@@ -174,7 +174,8 @@ stays_at bytes d of is = too_long bytes is.0 is.1 d of is.2
 -- LITERALS OR NONE
 
 not_missing : (bytes : List ℕ) → (literal bytes ≡ None → value_at 0 kind.Clock bytes ≡ Err 1)
-not_missing bytes none = ap (λ o. needing 1 o (λ said. needing 4 (coming_in (Some kind.Clock) said) (λ x. Ok (entry.Value 0 x)))) none
+not_missing bytes none =
+    ap (λ o. needing 1 o (λ said. needing 4 (coming_in (Some kind.Clock) said) (λ x. Ok (entry.Value 0 x)))) none
 
 no_one : (o : Option Cell) → needing 4 o (λ x. Ok (entry.Value 0 x)) ≡ Err 1 → ⊥
 no_one None e = cc
@@ -186,42 +187,13 @@ some_literal bytes (inl is) none =
     (sym (comes_at bytes is.0 0 kind.Clock is.1) ∙ not_missing bytes none)
 some_literal bytes (inr is) none = no_one None (sym (stays_at bytes 0 kind.Clock is) ∙ not_missing bytes none)
 
--- a value of BIT
-abbrev IsBits : Cell → Type 0
-IsBits (Bits len value) = Unit {0}
-IsBits other = ⊥
-
-bits_made : (len : ℕ) (o : Option ℕ) → IfSome (option_map (Bits len) o) IsBits
-bits_made len None = tt
-bits_made len (Some value) = tt
-
-bits_if : (few : Bool) (len : ℕ) (o : Option ℕ) → IfSome (if few then option_map (Bits len) o else None) IsBits
-bits_if true len o = bits_made len o
-bits_if false len o = tt
-
-bits_by : (o : Option ℕ) (digits : List ℕ) → IfSome (option_and_then (λ group. bits_of group digits) o) IsBits
-bits_by None digits = tt
-bits_by (Some group) digits = bits_if (nat_le (group * length digits) 64) (group * length digits) (bits_number group digits)
-
-are_bits : (bytes : List ℕ) → IfSome (bits_literal bytes) IsBits
-are_bits bytes = by (is_apostrophe (slice_index bytes 0))
-  where
-    inner : List ℕ
-    inner = drop 1 bytes
-
-    by : (begins : Bool) → IfSome (if begins then option_and_then (λ group. bits_of group (before_first is_apostrophe inner))
-        (digit_width (after_first is_apostrophe inner)) else None) IsBits
-    by true = bits_by (digit_width (after_first is_apostrophe inner)) (before_first is_apostrophe inner)
-    by false = tt
-
 module _ (bytes : List ℕ) (never : IsLiteral bytes → ⊥) where
   never_bits : bits_literal bytes ≡ None
-  never_bits = by (bits_literal bytes) refl (are_bits bytes)
+  never_bits = by (bits_literal bytes) refl
     where
-      by : (o : Option Cell) → bits_literal bytes ≡ o → IfSome o IsBits → o ≡ None
-      by None e is = refl
-      by (Some (Bits len value)) e is = absurd (never (inl (Bits len value, e)))
-      by (Some other) e is = absurd is
+      by : (o : Option Cell) → bits_literal bytes ≡ o → o ≡ None
+      by None e = refl
+      by (Some x) e = let was = were_bits bytes x e in absurd (never (inl (Bits was.len was.value, was.are)))
 
   never_text : (text : List ℕ) → IsText bytes text → text ≡ []
   never_text [] is = refl
@@ -232,14 +204,14 @@ module _ (bytes : List ℕ) (never : IsLiteral bytes → ⊥) where
     where
       by : (o : Option ℕ) → clock_literal bytes ≡ o → o ≡ None
       by None e = refl
-      by (Some time) e = absurd (never (inl (Clock time, e)))
+      by (Some time) e = absurd (never (inl (Clock time, was_time bytes time e)))
 
   never_number : fixed_literal is_blank bytes ≡ None
   never_number = by (fixed_literal is_blank bytes) refl
     where
       by : (o : Option ℤ) → fixed_literal is_blank bytes ≡ o → o ≡ None
       by None e = refl
-      by (Some n) e = absurd (never (inl (Fixed (if fits_fixed 31 n then 31 else 63) n, (e, refl))))
+      by (Some n) e = absurd (never (inl (Fixed (if fits_fixed 31 n then 31 else 63) n, (was_signed bytes n e, refl))))
 
   never_span : span_literal is_blank bytes ≡ None
   never_span = by (span_literal is_blank bytes) refl

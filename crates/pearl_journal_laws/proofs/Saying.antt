@@ -35,12 +35,14 @@ behind_second second (byte ∷ gap) text solid is_gap some bare =
     ap behind_blanks (after_first-word second (byte ∷ gap ++ text) solid (stops_at_gap (byte ∷ gap) text is_gap some))
     ∙ behind_blanks-gap gap text is_gap.1 ∙ behind_blanks-bare text bare.begins
 
-pub first_of : {line word second text : List ℕ} → (more : SaysMore line word second text) → first_word (rest_of more) ≡ second
+pub first_of : {line word second text : List ℕ} → (more : SaysMore line word second text) →
+    first_word (rest_of more) ≡ second
 first_of {line} {word} {second} {text} more =
     before_first-word second (more.parts.gap ++ text) more.parts.solid
     (stops_at_gap more.parts.gap text more.parts.is_gap more.parts.parted)
 
-pub behind_of : {line word second text : List ℕ} → (more : SaysMore line word second text) → behind_word (rest_of more) ≡ text
+pub behind_of : {line word second text : List ℕ} → (more : SaysMore line word second text) →
+    behind_word (rest_of more) ≡ text
 behind_of {line} {word} {second} {text} more =
     behind_second second more.parts.gap text more.parts.solid more.parts.is_gap more.parts.parted more.is_bare
 
@@ -62,16 +64,19 @@ module _ (setup : Setup) (reading : Reading) (line word text : List ℕ) (says :
       blanks_free setup reading line word text says.parts says.ends says.short
       ∙ ap (λ x. line_of (in_time reading.moment x)) is
 
-  pub refused : (code : ℕ) → form_of setup reading.is_first word text ≡ Err code → meaning setup reading line ≡ Wrong code
+  pub refused : (code : ℕ) → form_of setup reading.is_first word text ≡ Err code →
+      meaning setup reading line ≡ Wrong code
   refused code is = means (Err code) is
 
-  pub accepted : (e : Entry) → form_of setup reading.is_first word text ≡ Ok e → moment_after reading.moment e ≤ LAST_MOMENT →
+  pub accepted : (e : Entry) → form_of setup reading.is_first word text ≡ Ok e →
+      moment_after reading.moment e ≤ LAST_MOMENT →
       meaning setup reading line ≡ Item e
   accepted e is within =
       means (Ok e) is
       ∙ ap (λ b. line_of (cond b (Ok e) (Err 3))) (le-leb (moment_after reading.moment e) LAST_MOMENT within)
 
-  pub too_late : (e : Entry) → form_of setup reading.is_first word text ≡ Ok e → LAST_MOMENT < moment_after reading.moment e →
+  pub too_late : (e : Entry) → form_of setup reading.is_first word text ≡ Ok e →
+      LAST_MOMENT < moment_after reading.moment e →
       meaning setup reading line ≡ Wrong 3
   too_late e is late =
       means (Ok e) is

@@ -16,6 +16,8 @@ use Rattle.pearl_journal.specs.Words.{number, task_named}
 use Rattle.pearl_journal.proofs.FitLaws.{meaning-fits, moment_after-late}
 use Rattle.pearl_journal_laws.specs.Named.{IsFirst, IsNamed, IsNowhere}
 use Rattle.pearl_journal_laws.specs.Says.{IsNoNumber, IsNumber, IsOther, Says, SaysMore}
+use Rattle.pearl_journal_laws.specs.Times.{IsTimeOfDay}
+use Rattle.pearl_journal_laws.proofs.TimesOfDay.{reads_time, was_time}
 use Rattle.pearl_journal_laws.proofs.Saying.{accepted, as_text, behind_of, first_of, need_either, refused, rest_of, too_late}
 use Rattle.pearl_journal_laws.proofs.Numbers.{no_number, number_is}
 use Rattle.pearl_journal_laws.proofs.Finding.{first_found, named_decides, none_found}
@@ -28,20 +30,28 @@ module _ (setup : Setup) (reading : Reading) (line text : List ℕ) where
   clock_form is_first o is = ap (λ o. cond is_first (needing 1 o (λ time. Ok (entry.Clock time))) (Err 1)) is
 
   pub clock_first : (time : ℕ) → Says line (codes "clock") text → reading.is_first ≡ true → reading.moment ≤ 2 ^ 40 →
-      clock_literal text ≡ Some time → meaning setup reading line ≡ Item (entry.Clock time)
+      IsTimeOfDay text time → meaning setup reading line ≡ Item (entry.Clock time)
   clock_first time says first within is =
       accepted setup reading line (codes "clock") text says (entry.Clock time)
-      (ap (λ b. clock_entry b text) first ∙ clock_form true (Some time) is) within
+      (ap (λ b. clock_entry b text) first ∙ clock_form true (Some time) (reads_time text time is)) within
 
   pub clock_later : Says line (codes "clock") text → reading.is_first ≡ false → meaning setup reading line ≡ Wrong 1
   clock_later says later =
       refused setup reading line (codes "clock") text says 1 (ap (λ b. clock_entry b text) later)
 
-  pub clock_none : Says line (codes "clock") text → clock_literal text ≡ None → meaning setup reading line ≡ Wrong 1
-  clock_none says none =
+  pub clock_none : Says line (codes "clock") text → ((time : ℕ) → IsTimeOfDay text time → ⊥) →
+      meaning setup reading line ≡ Wrong 1
+  clock_none says never =
       refused setup reading line (codes "clock") text says 1
       (clock_form reading.is_first None none ∙ alike reading.is_first)
     where
+      by : (o : Option ℕ) → clock_literal text ≡ o → o ≡ None
+      by None e = refl
+      by (Some time) e = absurd (never time (was_time text time e))
+
+      none : clock_literal text ≡ None
+      none = by (clock_literal text) refl
+
       alike : (b : Bool) → cond {A = Result Entry ℕ} b (Err 1) (Err 1) ≡ Err 1
       alike true = refl
       alike false = refl
@@ -66,12 +76,14 @@ module _ (setup : Setup) (reading : Reading) (line text : List ℕ) where
   pub tick_is : (n : ℕ) → Says line (codes "tick") text → IsNumber text n → reading.moment + n ≤ 2 ^ 40 →
       meaning setup reading line ≡ Item (entry.Tick n)
   tick_is n says is within =
-      accepted setup reading line (codes "tick") text says (entry.Tick n) (tick_form (Some n) (number_is text n is)) within
+      accepted setup reading line (codes "tick") text says (entry.Tick n)
+      (tick_form (Some n) (number_is text n is)) within
 
   pub tick_late : (n : ℕ) → Says line (codes "tick") text → IsNumber text n → 2 ^ 40 < reading.moment + n →
       meaning setup reading line ≡ Wrong 3
   tick_late n says is late =
-      too_late setup reading line (codes "tick") text says (entry.Tick n) (tick_form (Some n) (number_is text n is)) late
+      too_late setup reading line (codes "tick") text says (entry.Tick n)
+      (tick_form (Some n) (number_is text n is)) late
 
   pub tick_none : Says line (codes "tick") text → IsNoNumber text → meaning setup reading line ≡ Wrong 1
   tick_none says none =
@@ -118,7 +130,8 @@ state_is setup reading line says within =
 
 -- PASS
 
-module _ (setup : Setup) (reading : Reading) (line first second : List ℕ) (says : SaysMore line (codes "pass") first second) where
+module _ (setup : Setup) (reading : Reading) (line first second : List ℕ)
+    (says : SaysMore line (codes "pass") first second) where
   pass_form : (times picks : Option ℕ) → number first ≡ times → number second ≡ picks →
       form_of setup reading.is_first (codes "pass") (rest_of says)
       ≡ needing 1 times (λ d. needing 1 picks (λ n. Ok (entry.Pass d n)))
@@ -157,7 +170,8 @@ differs word other apart = by (bytes_eq word other) refl
     by true e = absurd (apart ((bytes_eq-Decides word other).0 e))
     by false e = refl
 
-no_form : (setup : Setup) (is_first : Bool) (word text : List ℕ) → IsOther word → form_of setup is_first word text ≡ Err 1
+no_form : (setup : Setup) (is_first : Bool) (word text : List ℕ) → IsOther word →
+    form_of setup is_first word text ≡ Err 1
 no_form setup is_first word text is =
     let clock = differs word (codes "clock") is.clock in
     let run = differs word (codes "run") is.run in

@@ -19,7 +19,8 @@ fits_if true x y trap e = refl
 fits_if false x y trap e = cc
 
 pub may_come : (of : Kind) (x : Cell) → Becomes of x → may_come_in of x ≡ true
-may_come (kind.Fixed to) (Fixed len value) is = fits_if (fits_fixed to value) (Fixed to value) is.becomes Overflow is.converts
+may_come (kind.Fixed to) (Fixed len value) is =
+    fits_if (fits_fixed to value) (Fixed to value) is.becomes Overflow is.converts
 may_come (kind.Bits to) (Bits len value) is = le-leb len to is.suits
 may_come (kind.Chars to) (Chars text) is = le-leb (length text.items) to is.suits
 may_come kind.Clock (Clock time) is = refl
@@ -31,7 +32,12 @@ becomes : (of : Kind) (x : Cell) → IsValue x → may_come_in of x ≡ true →
 becomes (kind.Fixed to) (Fixed len value) is may =
     record { is_value = is; suits = tt; becomes = Fixed to value; converts = rw (may) refl }
 becomes (kind.Bits to) (Bits len value) is may =
-    record { is_value = is; suits = leb-true len to may; becomes = Bits to (widened len value to); converts = rw (may) refl }
+    record {
+      is_value = is;
+      suits = leb-true len to may;
+      becomes = Bits to (widened len value to);
+      converts = rw (may) refl;
+    }
 becomes (kind.Chars to) (Chars text) is may =
     record {
       is_value = is;

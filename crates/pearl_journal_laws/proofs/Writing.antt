@@ -1,9 +1,7 @@
 -- Lines that are written with one blank between their parts say these.
-use Rattle.std.proofs.Common.{◌≡◌, ◌≢◌, ◌≤◌, ℕ, List, [], ◌∷◌, ◌++◌, false, true, length, refl, ap, sym, ◌∙◌, subst}
+use Rattle.std.proofs.Common.{◌≡◌, ◌≢◌, ◌≤◌, ℕ, List, [], ◌∷◌, ◌++◌, length, refl, ap, sym, ◌∙◌, subst}
 use Rattle.std.proofs.lemmas.List.{append-nil, append_assoc}
-use Rattle.std.specs.List.{AllByRecursion}
-use Rattle.pearl_journal.specs.Laws.{EndsInNoReturn, IsBare, IsGap, IsWord}
-use Rattle.pearl_journal.specs.Words.{is_blank}
+use Rattle.pearl_journal.specs.Laws.{EndsInNoReturn, IsBare, IsWord}
 use Rattle.pearl_journal.proofs.BlankLaws.{IsSolid, solid_begins}
 use Rattle.pearl_journal_laws.specs.Says.{Says, SaysMore}
 
@@ -29,13 +27,14 @@ ends_behind before text some ends front e =
     let last = last_behind before text front 13 some e in
     ends last.0 last.1
 
-bare_behind : (second text : List ℕ) → second ≢ [] → IsSolid second → IsBare text → text ≢ [] → IsBare (second ++ 32 ∷ text)
+bare_behind : (second text : List ℕ) → second ≢ [] → IsSolid second → IsBare text → text ≢ [] →
+    IsBare (second ++ 32 ∷ text)
 bare_behind second text some solid bare more =
     record {
       begins = solid_begins second (32 ∷ text) solid some;
       ends = λ front byte e.
-      let last = last_behind (second ++ 32 ∷ []) text front byte more (append_assoc second (32 ∷ []) text ∙ e) in
-      bare.ends last.0 byte last.1
+          let last = last_behind (second ++ 32 ∷ []) text front byte more (append_assoc second (32 ∷ []) text ∙ e) in
+          bare.ends last.0 byte last.1;
     }
 
 nothing_is_bare : IsBare []
@@ -60,10 +59,10 @@ says_word word is ends short =
         back_is_gap = tt;
         is_word = is;
         is_bare = nothing_is_bare;
-        parted = λ e. refl
+        parted = λ e. refl;
       };
       ends = ends;
-      short = short
+      short = short;
     }
 
 pub says_text : (word text : List ℕ) → IsWord word → IsBare text → text ≢ [] → EndsInNoReturn text →
@@ -80,10 +79,10 @@ says_text word text is bare some ends short =
         back_is_gap = tt;
         is_word = is;
         is_bare = bare;
-        parted = λ e. cc
+        parted = λ e. cc;
       };
       ends = subst EndsInNoReturn (append_assoc word (32 ∷ []) text) (ends_behind (word ++ 32 ∷ []) text some ends);
-      short = short
+      short = short;
     }
 
 pub says_three : (word second text : List ℕ) → IsWord word → second ≢ [] → IsSolid second → IsBare text → text ≢ [] →
@@ -92,12 +91,13 @@ pub says_three : (word second text : List ℕ) → IsWord word → second ≢ []
 says_three word second text is some solid bare more ends short =
     let inner_ends : EndsInNoReturn (second ++ 32 ∷ text) =
     subst EndsInNoReturn (append_assoc second (32 ∷ []) text) (ends_behind (second ++ 32 ∷ []) text more ends) in
-    let says = says_text word (second ++ 32 ∷ text) is (bare_behind second text some solid bare more) (filled second some) inner_ends short in
+    let says = says_text word (second ++ 32 ∷ text) is (bare_behind second text some solid bare more)
+    (filled second some) inner_ends short in
     record {
       parts = record { gap = 32 ∷ []; says = says.parts; is_gap = (refl, tt); parted = λ e. cc; solid = solid };
       is_bare = bare;
       ends = says.ends;
-      short = short
+      short = short;
     }
   where
     filled : (bytes : List ℕ) → bytes ≢ [] → bytes ++ 32 ∷ text ≢ []

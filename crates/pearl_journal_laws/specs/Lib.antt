@@ -2,5 +2,7 @@
 pub mod Says
 -- which device a number names, and which task a name
 pub mod Named
+-- which texts are times of day
+pub mod Times
 -- which value a literal spells
 pub mod Literals

@@ -14,25 +14,26 @@ ghost use Rattle.pearl_journal_laws.specs.Literals.{IsLiteral, Spells, SpellsToo
 ghost use Rattle.pearl_journal_laws.specs.Named.{IsFirst, IsInput, IsInterrupt, IsNowhere, IsReadable};
 ghost use Rattle.pearl_journal_laws.specs.Says.{IsNoNumber, IsNumber, IsText, Says, SaysMore};
 
-/// `irpt K` makes the interrupt occur that is declared with the number K. Where none is the line is refused with 2, and
-/// with 1 where no number stands behind the word.
+/// `irpt K` makes the interrupt occur that is declared with the number K. Where none is the line is refused with 2,
+/// and with 1 where no number stands behind the word.
 pub fn interrupts_are_declared()
-    ensures entry { (setup : Setup) (reading : Reading) (line digits : List ℕ) (k d : ℕ) → Says line (codes "irpt") digits →
-        reading.moment ≤ 2 ^ 40 → IsNumber digits k → IsFirst (IsInterrupt k) setup.devices d →
-        meaning setup reading line ≡ Item (Irpt d) }
-    ensures none { (setup : Setup) (reading : Reading) (line digits : List ℕ) (k : ℕ) → Says line (codes "irpt") digits →
-        IsNumber digits k → IsNowhere (IsInterrupt k) setup.devices → meaning setup reading line ≡ Wrong 2 }
+    ensures entry { (setup : Setup) (reading : Reading) (line digits : List ℕ) (k d : ℕ) →
+        Says line (codes "irpt") digits → reading.moment ≤ 2 ^ 40 → IsNumber digits k →
+        IsFirst (IsInterrupt k) setup.devices d → meaning setup reading line ≡ Item (Irpt d) }
+    ensures none { (setup : Setup) (reading : Reading) (line digits : List ℕ) (k : ℕ) →
+        Says line (codes "irpt") digits → IsNumber digits k → IsNowhere (IsInterrupt k) setup.devices →
+        meaning setup reading line ≡ Wrong 2 }
     ensures form { (setup : Setup) (reading : Reading) (line text : List ℕ) → Says line (codes "irpt") text →
         IsNoNumber text → meaning setup reading line ≡ Wrong 1 }
 {}
 
-/// `chars K 'TEXT'` lets the text's characters, at least one, come in at the terminal with the number K, where it is of
-/// direction IN or INOUT. Where no such terminal is declared the line is refused with 2. It is refused with 1 where K is no
-/// number, and where no text of one character or more stands between apostrophes.
+/// `chars K 'TEXT'` lets the text's characters, at least one, come in at the terminal with the number K, where it is
+/// of direction IN or INOUT. Where no such terminal is declared the line is refused with 2. It is refused with 1
+/// where K is no number, and where no text of one character or more stands between apostrophes.
 pub fn characters_come_in()
     ensures entry { (setup : Setup) (reading : Reading) (line digits spelled text : List ℕ) (k d : ℕ) →
-        SaysMore line (codes "chars") digits spelled → reading.moment ≤ 2 ^ 40 → IsNumber digits k → IsText spelled text →
-        text ≢ [] → IsFirst (IsReadable k) setup.devices d →
+        SaysMore line (codes "chars") digits spelled → reading.moment ≤ 2 ^ 40 → IsNumber digits k →
+        IsText spelled text → text ≢ [] → IsFirst (IsReadable k) setup.devices d →
         meaning setup reading line ≡ Item (Chars d (record { items = text })) }
     ensures none { (setup : Setup) (reading : Reading) (line digits spelled text : List ℕ) (k : ℕ) →
         SaysMore line (codes "chars") digits spelled → IsNumber digits k → IsText spelled text → text ≢ [] →
@@ -47,8 +48,8 @@ pub fn characters_come_in()
 /// `line K 'TEXT'` does the same with a line's end behind the text, which may be empty here.
 pub fn lines_come_in()
     ensures entry { (setup : Setup) (reading : Reading) (line digits spelled text : List ℕ) (k d : ℕ) →
-        SaysMore line (codes "line") digits spelled → reading.moment ≤ 2 ^ 40 → IsNumber digits k → IsText spelled text →
-        IsFirst (IsReadable k) setup.devices d →
+        SaysMore line (codes "line") digits spelled → reading.moment ≤ 2 ^ 40 → IsNumber digits k →
+        IsText spelled text → IsFirst (IsReadable k) setup.devices d →
         meaning setup reading line ≡ Item (Line d (record { items = text })) }
     ensures none { (setup : Setup) (reading : Reading) (line digits spelled text : List ℕ) (k : ℕ) →
         SaysMore line (codes "line") digits spelled → IsNumber digits k → IsText spelled text →
@@ -60,17 +61,18 @@ pub fn lines_come_in()
         SaysMore line (codes "line") text spelled → IsNoNumber text → meaning setup reading line ≡ Wrong 1 }
 {}
 
-/// `value K V` lets the value that the literal spells come in at the input with the number K, where it becomes one of the
-/// kind of the input's values: its kind suits, and it fits. Where it doesn't the line is refused with 4, as it is where the
-/// literal is a longer time than any DURATION. Where no such input is declared it is refused with 2, and with 1 where K is
-/// no number, or V no literal.
+/// `value K V` lets the value that the literal spells come in at the input with the number K, where it becomes one of
+/// the kind of the input's values: its kind suits, and it fits. Where it doesn't the line is refused with 4, as it is
+/// where the literal is a longer time than any DURATION. Where no such input is declared it is refused with 2, and
+/// with 1 where K is no number, or V no literal.
 pub fn values_come_in()
-    ensures entry { (setup : Setup) (reading : Reading) (line digits spelled : List ℕ) (k d : ℕ) (kind : Kind) (x : Cell) →
-        SaysMore line (codes "value") digits spelled → reading.moment ≤ 2 ^ 40 → IsNumber digits k → Spells spelled x →
-        IsFirst (IsInput k) setup.devices d → slice_get setup.devices d ≡ Some (Input k kind) → Becomes kind x →
+    ensures entry { (setup : Setup) (reading : Reading) (line digits spelled : List ℕ) (k d : ℕ)
+        (kind : Kind) (x : Cell) → SaysMore line (codes "value") digits spelled → reading.moment ≤ 2 ^ 40 →
+        IsNumber digits k → Spells spelled x → IsFirst (IsInput k) setup.devices d →
+        slice_get setup.devices d ≡ Some (Input k kind) → Becomes kind x →
         meaning setup reading line ≡ Item (Value d x) }
-    ensures unfit { (setup : Setup) (reading : Reading) (line digits spelled : List ℕ) (k d : ℕ) (kind : Kind) (x : Cell) →
-        SaysMore line (codes "value") digits spelled → IsNumber digits k → Spells spelled x →
+    ensures unfit { (setup : Setup) (reading : Reading) (line digits spelled : List ℕ) (k d : ℕ)
+        (kind : Kind) (x : Cell) → SaysMore line (codes "value") digits spelled → IsNumber digits k → Spells spelled x →
         IsFirst (IsInput k) setup.devices d → slice_get setup.devices d ≡ Some (Input k kind) → (Becomes kind x → ⊥) →
         meaning setup reading line ≡ Wrong 4 }
     ensures long { (setup : Setup) (reading : Reading) (line digits spelled : List ℕ) (k d : ℕ) →
@@ -80,7 +82,8 @@ pub fn values_come_in()
         SaysMore line (codes "value") digits spelled → IsNumber digits k → IsLiteral spelled →
         IsNowhere (IsInput k) setup.devices → meaning setup reading line ≡ Wrong 2 }
     ensures form { (setup : Setup) (reading : Reading) (line digits spelled : List ℕ) →
-        SaysMore line (codes "value") digits spelled → (IsLiteral spelled → ⊥) → meaning setup reading line ≡ Wrong 1 }
+        SaysMore line (codes "value") digits spelled → (IsLiteral spelled → ⊥) →
+        meaning setup reading line ≡ Wrong 1 }
     ensures number { (setup : Setup) (reading : Reading) (line text spelled : List ℕ) →
         SaysMore line (codes "value") text spelled → IsNoNumber text → meaning setup reading line ≡ Wrong 1 }
 {}

@@ -13,8 +13,8 @@ ghost use Rattle.pearl_journal.specs.Readings.{Reading, start};
 ghost use Rattle.pearl_journal.specs.Words.{is_blank};
 ghost use Rattle.pearl_journal_laws.specs.Says.{IsOther, Says, SaysMore};
 
-/// A line that is a word, or a word, a blank and a text, says these; and one that is a word, a blank, a second word, a
-/// blank and a text says these three, where it has at most 1,024 bytes and no byte 13 at its end.
+/// A line that is a word, or a word, a blank and a text, says these; and one that is a word, a blank, a second word,
+/// a blank and a text says these three, where it has at most 1,024 bytes and no byte 13 at its end.
 pub fn lines_say_their_parts()
     ensures word { (word : List ℕ) → IsWord word → EndsInNoReturn word → length word ≤ 1024 → Says word word [] }
     ensures text { (word text : List ℕ) → IsWord word → IsBare text → text ≢ [] → EndsInNoReturn text →
@@ -25,8 +25,8 @@ pub fn lines_say_their_parts()
         SaysMore (word ++ 32 ∷ (second ++ 32 ∷ text)) word second text }
 {}
 
-/// A journal begins before all entries, at moment 0. A line that is skipped changes neither; behind an entry no other is
-/// the first. No moment is past 2^40: where a line is read at a moment up to that, so is the next one.
+/// A journal begins before all entries, at moment 0. A line that is skipped changes neither; behind an entry no other
+/// is the first. No moment is past 2^40: where a line is read at a moment up to that, so is the next one.
 pub fn reading_goes_on()
     ensures begins { (start.is_first ≡ true) × (start.moment ≡ 0) }
     ensures skipped { (reading : Reading) →
