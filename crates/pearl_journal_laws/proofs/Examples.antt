@@ -1,5 +1,5 @@
 -- Lines that have all that the laws ask, and what comes of them.
-use Rattle.std.proofs.Common.{◌≡◌, ◌≢◌, ◌≤◌, ◌<◌, ℕ, zero, suc, List, [], ◌∷◌, ◌++◌, inl, Bool, true, false, not, ◌&&◌, ◌==◌, slice_get, Some, codes, length, refl, ap, sym, ◌∙◌, subst, arith, pos, lit<}
+use Rattle.std.proofs.Common.{◌≡◌, ◌≢◌, ◌≤◌, ◌<◌, ℕ, zero, suc, List, [], ◌∷◌, ◌++◌, inl, Bool, true, false, not, ◌&&◌, ◌==◌, slice_get, Some, None, codes, length, refl, ap, sym, ◌∙◌, subst, arith, pos, lit<}
 use Rattle.std.proofs.lemmas.Bool.{false≢true}
 use Rattle.std.proofs.lemmas.List.{append-nil}
 use Rattle.std.specs.Bool.{Decides}
@@ -11,22 +11,24 @@ use Rattle.pearl_rules.specs.declared.setup.Device.TheVariants as device
 use Rattle.pearl_rules.specs.declared.setup.Direction.TheVariants as direction
 use Rattle.pearl_rules.specs.declared.setup.Setup.{Setup}
 use Rattle.pearl_rules.specs.declared.setup.TaskEntry.{TaskEntry}
-use Rattle.pearl_rules.specs.Literals.{clock_literal}
+use Rattle.pearl_rules.specs.Literals.{clock_literal, span_literal}
 use Rattle.pearl_journal.specs.declared.reading.Line.TheVariants.{Item, Wrong}
 use Rattle.pearl_journal.specs.Laws.{EndsInNoReturn, IsBare, IsWord}
 use Rattle.pearl_journal.specs.Meaning.{meaning}
 use Rattle.pearl_journal.specs.Readings.{Reading, start}
-use Rattle.pearl_journal.specs.Words.{is_blank}
+use Rattle.pearl_journal.specs.Words.{is_blank, number}
+use Rattle.pearl_journal.specs.Values.{literal}
 use Rattle.pearl_journal.proofs.BlankLaws.{IsSolid, solid_begins, solid_last}
 use Rattle.pearl_journal_laws.specs.Literals.{AreBits}
 use Rattle.pearl_journal_laws.specs.Named.{IsFirst, IsInput, IsNowhere, IsReadable}
-use Rattle.pearl_journal_laws.specs.Says.{Says, SaysMore}
-use Rattle.pearl_journal_laws.proofs.ArrivalLaws.{chars_is, chars_none, irpt_is, irpt_none, line_is, value_is, value_unfit}
+use Rattle.pearl_journal_laws.specs.Says.{IsNoNumber, IsText, Says, SaysMore}
+use Rattle.pearl_journal_laws.proofs.ArrivalLaws.{chars_is, chars_no_text, chars_none, irpt_is, irpt_none, line_is, value_is, value_long, value_no_literal, value_none, value_unfit}
 use Rattle.pearl_journal_laws.proofs.Finding.{input_decides, interrupt_decides, named_decides, readable_decides}
-use Rattle.pearl_journal_laws.proofs.Numbers.{was_number}
-use Rattle.pearl_journal_laws.proofs.StepLaws.{clock_first, clock_later, pass_is, pass_late, run_is, state_is, turn_is, turn_none}
-use Rattle.pearl_journal_laws.proofs.Texts.{was_text}
-use Rattle.pearl_journal_laws.proofs.TimesOfDay.{was_time}
+use Rattle.pearl_journal_laws.proofs.Numbers.{number_is, was_number}
+use Rattle.pearl_journal_laws.proofs.StepLaws.{clock_first, clock_later, clock_none, pass_is, pass_late, run_is, run_none, state_is, turn_is, turn_none}
+use Rattle.pearl_journal_laws.proofs.Texts.{text_is, was_text}
+use Rattle.pearl_journal_laws.proofs.Literals.{some_literal}
+use Rattle.pearl_journal_laws.proofs.TimesOfDay.{reads_time, was_time}
 use Rattle.pearl_journal_laws.proofs.Writing.{says_text, says_three, says_word}
 
 -- A PLANT
@@ -301,3 +303,62 @@ bits_for_a_number =
     (omega arith)) 2 3
     (kind.Fixed 7) (Bits 3 5) (was_number (codes "2") 2 refl)
     five_in_bits input refl (λ is. is.suits)
+
+-- what is read as no number is none
+no_number_by : (text : List ℕ) → number text ≡ None → IsNoNumber text
+no_number_by text none n is = let some = number_is text n is in let no : ⊥ = cc in no
+
+a_run_of_nothing : meaning plant start (codes "run x") ≡ Wrong 1
+a_run_of_nothing =
+    run_none plant start _ (codes "x")
+    (two (codes "run") (codes "x") (word_by 114 (codes "un") refl refl) (λ e. cc) refl refl (omega arith))
+    (no_number_by (codes "x") refl)
+
+tomorrow_is_not_read : clock_literal (codes "24:00:00") ≡ None
+unfolding clock_literal
+tomorrow_is_not_read = refl
+
+a_clock_of_tomorrow : meaning plant start (codes "clock 24:00:00") ≡ Wrong 1
+a_clock_of_tomorrow =
+    clock_none plant start _ (codes "24:00:00")
+    (two (codes "clock") (codes "24:00:00") (word_by 99 (codes "lock") refl refl) (λ e. cc) refl refl (omega arith))
+    (λ time is.
+    let none = tomorrow_is_not_read in let some = reads_time (codes "24:00:00") time is in let no : ⊥ = cc in no)
+
+-- 400,000 hours are more than 2^40 milliseconds
+hours_are_read : span_literal is_blank (codes "400000HRS") ≡ Some (pos 1440000000000)
+unfolding span_literal
+hours_are_read = refl
+
+a_long_time : meaning plant start (codes "value 2 400000HRS") ≡ Wrong 4
+a_long_time =
+    value_long plant start _ (codes "2") (codes "400000HRS")
+    (says_value (codes "400000HRS") (λ e. cc) refl refl (omega arith)) 2 3 (was_number (codes "2") 2 refl)
+    (pos 1440000000000, hours_are_read, λ fits. let high = fits.high in omega (arith, high)) input
+
+no_such_input : meaning plant start (codes "value 3 75") ≡ Wrong 2
+no_such_input =
+    value_none plant start (codes "value 3 75") (codes "3") (codes "75")
+    (three (codes "value") (codes "3") (codes "75") (word_by 118 (codes "alue") refl refl) (λ e. cc) (λ e. cc) refl refl
+    refl (omega arith)) 3 (was_number (codes "3") 3 refl)
+    (inl (Fixed 31 (pos 75), (inl (75, was_number (codes "75") 75 refl, refl), refl)))
+    (none_by _ _ (input_decides 3) plant.devices refl)
+
+nothing_is_read : literal (codes "x") ≡ None
+unfolding clock_literal span_literal
+nothing_is_read = refl
+
+a_value_of_nothing : meaning plant start (codes "value 2 x") ≡ Wrong 1
+a_value_of_nothing =
+    value_no_literal plant start _ (codes "2") (codes "x") (says_value (codes "x") (λ e. cc) refl refl (omega arith))
+    (λ is. some_literal (codes "x") is nothing_is_read)
+
+-- apostrophes with nothing between them are no characters
+nothing_between : (text : List ℕ) → IsText (codes "''") text → text ≡ []
+nothing_between text is = let read = text_is (codes "''") text is in let same : [] ≡ text = cc in sym same
+
+no_characters : meaning plant start (codes "chars 2 ''") ≡ Wrong 1
+no_characters =
+    chars_no_text plant start _ (codes "2") (codes "''")
+    (three (codes "chars") (codes "2") (codes "''") (word_by 99 (codes "hars") refl refl) (λ e. cc) (λ e. cc) refl refl
+    refl (omega arith)) nothing_between
