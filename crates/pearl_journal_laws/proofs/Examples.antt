@@ -23,6 +23,7 @@ use Rattle.pearl_journal_laws.specs.Literals.{AreBits}
 use Rattle.pearl_journal_laws.specs.Named.{IsFirst, IsInput, IsNowhere, IsReadable}
 use Rattle.pearl_journal_laws.specs.Says.{IsNoNumber, IsText, Says, SaysMore}
 use Rattle.pearl_journal_laws.proofs.ArrivalLaws.{chars_is, chars_no_text, chars_none, irpt_is, irpt_none, line_is, value_is, value_long, value_no_literal, value_none, value_unfit}
+use Rattle.pearl_journal_laws.proofs.Durations.{was_length}
 use Rattle.pearl_journal_laws.proofs.Finding.{input_decides, interrupt_decides, named_decides, readable_decides}
 use Rattle.pearl_journal_laws.proofs.Numbers.{number_is, was_number}
 use Rattle.pearl_journal_laws.proofs.StepLaws.{clock_first, clock_later, clock_none, pass_is, pass_late, run_is, run_none, state_is, turn_is, turn_none}
@@ -333,8 +334,11 @@ hours_are_read = refl
 a_long_time : meaning plant start (codes "value 2 400000HRS") ≡ Wrong 4
 a_long_time =
     value_long plant start _ (codes "2") (codes "400000HRS")
-    (says_value (codes "400000HRS") (λ e. cc) refl refl (omega arith)) 2 3 (was_number (codes "2") 2 refl)
-    (pos 1440000000000, hours_are_read, λ fits. let high = fits.high in omega (arith, high)) input
+    (says_value (codes "400000HRS") (λ e. cc) refl refl (omega arith)) 2 3 (was_number (codes "2") 2 refl) (
+      pos 1440000000000,
+      was_length (codes "400000HRS") (pos 1440000000000) hours_are_read,
+      λ fits. let high = fits.high in omega (arith, high),
+    ) input
 
 no_such_input : meaning plant start (codes "value 3 75") ≡ Wrong 2
 no_such_input =

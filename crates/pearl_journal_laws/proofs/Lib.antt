@@ -7,6 +7,8 @@ pub mod TimesOfDay
 pub mod Clocks
 pub mod Signs
 pub mod BitDigits
+pub mod Amounts
+pub mod Durations
 pub mod Literals
 pub mod Values
 pub mod StepLaws

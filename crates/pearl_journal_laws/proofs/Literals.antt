@@ -25,6 +25,7 @@ use Rattle.pearl_journal_laws.specs.Literals.{AreBits, IsLiteral, Spells, Spells
 use Rattle.pearl_journal_laws.specs.Says.{IsText}
 use Rattle.pearl_journal_laws.proofs.BitDigits.{after_no, reads_bits, were_bits}
 use Rattle.pearl_journal_laws.proofs.Signs.{reads_signed, was_signed}
+use Rattle.pearl_journal_laws.proofs.Durations.{reads_length, was_length}
 use Rattle.pearl_journal_laws.proofs.Clocks.{coloned, coloned_begins, coloned_number, coloned_span, number_begins, span_begins, span_number}
 use Rattle.pearl_journal_laws.specs.Times.{IsTimeOfDay}
 use Rattle.pearl_journal_laws.proofs.TimesOfDay.{reads_time, was_time}
@@ -159,7 +160,7 @@ spelled_read bytes (Fixed len value) is = number_read bytes len value is
 spelled_read bytes (Bits len value) is = bits_read bytes len value is
 spelled_read bytes (Chars text) is = text_read bytes text.items is.0 is.1
 spelled_read bytes (Clock time) is = clock_read bytes time is
-spelled_read bytes (Span time) is = span_read bytes time is.0 is.1
+spelled_read bytes (Span time) is = span_read bytes time (reads_length bytes time is.0) is.1
 spelled_read bytes (Ref of place) is = absurd is
 
 pub comes_at : (bytes : List ℕ) (x : Cell) (d : ℕ) (of : Kind) → Spells bytes x → value_at d of bytes ≡ coming_at d of x
@@ -169,7 +170,7 @@ pub spells_value : (bytes : List ℕ) (x : Cell) → Spells bytes x → IsValue 
 spells_value bytes x is = (spelled_read bytes x is).is_value
 
 pub stays_at : (bytes : List ℕ) (d : ℕ) (of : Kind) → SpellsTooMuch bytes → value_at d of bytes ≡ Err 4
-stays_at bytes d of is = too_long bytes is.0 is.1 d of is.2
+stays_at bytes d of is = too_long bytes is.0 (reads_length bytes is.0 is.1) d of is.2
 
 -- LITERALS OR NONE
 
@@ -217,8 +218,9 @@ module _ (bytes : List ℕ) (never : IsLiteral bytes → ⊥) where
   never_span = by (span_literal is_blank bytes) refl
     where
       by_fit : (time : ℤ) (fits : Bool) → fits_span time ≡ fits → span_literal is_blank bytes ≡ Some time → ⊥
-      by_fit time true fit e = never (inl (Span time, (e, is_fit time fit)))
-      by_fit time false fit e = never (inr (time, e, λ fits. false≢true (sym fit ∙ fits_is time fits)))
+      by_fit time true fit e = never (inl (Span time, (was_length bytes time e, is_fit time fit)))
+      by_fit time false fit e =
+          never (inr (time, was_length bytes time e, λ fits. false≢true (sym fit ∙ fits_is time fits)))
 
       by : (o : Option ℤ) → span_literal is_blank bytes ≡ o → o ≡ None
       by None e = refl

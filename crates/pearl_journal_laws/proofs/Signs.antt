@@ -11,7 +11,7 @@ use Rattle.pearl_journal_laws.specs.Literals.{IsSigned}
 use Rattle.pearl_journal_laws.specs.Says.{IsNumber}
 use Rattle.pearl_journal_laws.proofs.Numbers.{limit_is, was_limit}
 
-read_number : (digits : List ℕ) (n : ℕ) → IsNumber digits n → number_literal digits ≡ Some n
+pub read_number : (digits : List ℕ) (n : ℕ) → IsNumber digits n → number_literal digits ≡ Some n
 read_number digits n is = limit_is (2 ^ 63 - 1) digits n is (let small = is.small in omega (arith, small))
 
 -- the first byte of a number is no byte below the digits
@@ -42,7 +42,7 @@ reads_signed bytes value (inr is) =
     ∙ ap (option_map minus) (read_number is.1.digits is.0 is.1.is_number) ∙ ap Some (sym is.2)
 
 -- blanks and tabs, and what is behind them
-parted : (text : List ℕ) → (gap : List ℕ) × IsGap gap × (text ≡ gap ++ behind_blanks text)
+pub parted : (text : List ℕ) → (gap : List ℕ) × IsGap gap × (text ≡ gap ++ behind_blanks text)
 parted [] = ([], tt, refl)
 parted (byte ∷ text) = by (is_blank byte) refl (parted text)
   where
@@ -59,7 +59,7 @@ parted (byte ∷ text) = by (is_blank byte) refl (parted text)
     by false e p =
         ([], tt, sym (ap (λ b. drop (cond b (1 + prefix_len is_blank text) 0) (byte ∷ text)) e))
 
-was_some : (sign : ℕ → ℤ) (o : Option ℕ) (value : ℤ) → option_map sign o ≡ Some value →
+pub was_some : (sign : ℕ → ℤ) (o : Option ℕ) (value : ℤ) → option_map sign o ≡ Some value →
     (n : ℕ) × (o ≡ Some n) × (value ≡ sign n)
 was_some sign None value e = let no : ⊥ = cc in absurd no
 was_some sign (Some n) value e = (n, refl, cc)

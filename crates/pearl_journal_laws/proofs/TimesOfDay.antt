@@ -14,14 +14,14 @@ use Rattle.pearl_journal_laws.proofs.Numbers.{decimal_is, limit_is, was_decimal,
 
 -- NUMBERS
 
-thousandths_are : (digits : List ℕ) (n : ℕ) → AreThousandths digits n → thousandths digits ≡ Some n
+pub thousandths_are : (digits : List ℕ) (n : ℕ) → AreThousandths digits n → thousandths digits ≡ Some n
 thousandths_are [] n are = absurd (are.some refl)
 thousandths_are (byte ∷ bytes) n are =
     ap (λ b. if b then decimal_number (byte ∷ bytes ++ replicate (3 - length (byte ∷ bytes)) 48) else None)
     (le-leb (length (byte ∷ bytes)) 3 are.few)
     ∙ decimal_is (byte ∷ bytes ++ replicate (3 - length (byte ∷ bytes)) 48) n are.filled
 
-were_thousandths : (digits : List ℕ) (n : ℕ) → thousandths digits ≡ Some n → AreThousandths digits n
+pub were_thousandths : (digits : List ℕ) (n : ℕ) → thousandths digits ≡ Some n → AreThousandths digits n
 were_thousandths [] n e = let no : ⊥ = cc in absurd no
 were_thousandths (byte ∷ bytes) n e = by (nat_le (length (byte ∷ bytes)) 3) refl e
   where
@@ -93,7 +93,7 @@ plain mark other [] are = tt
 plain mark other (byte ∷ digits) are =
     (ne_eqb byte mark (λ e. other (subst IsDigit e are.0)), plain mark other digits are.1)
 
-front_all : (P : ℕ → Type 0) (a b : List ℕ) → AllByRecursion P (a ++ b) → AllByRecursion P a
+pub front_all : (P : ℕ → Type 0) (a b : List ℕ) → AllByRecursion P (a ++ b) → AllByRecursion P a
 front_all P [] b all = tt
 front_all P (x ∷ a) b all = (all.0, front_all P a b all.1)
 

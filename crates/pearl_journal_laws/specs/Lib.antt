@@ -4,5 +4,7 @@ pub mod Says
 pub mod Named
 -- which texts are times of day
 pub mod Times
+-- which texts are lengths of time
+pub mod Durations
 -- which value a literal spells
 pub mod Literals

@@ -1,5 +1,5 @@
 -- Which value a literal in a line spells.
-use Rattle.std.specs.Prelude.{◌≡◌, ◌≢◌, ◌⊎◌, ℕ, ◌*◌, ◌^◌, ◌<◌, ◌≤◌, ℤ, pos, neg_ℤ, List, [], ◌∷◌, ◌++◌, Some, codes, length, if◌then◌else◌}
+use Rattle.std.specs.Prelude.{◌≡◌, ◌≢◌, ◌⊎◌, ℕ, ◌*◌, ◌^◌, ◌<◌, ◌≤◌, ℤ, pos, neg_ℤ, List, [], ◌∷◌, ◌++◌, codes, length, if◌then◌else◌}
 use Rattle.std.specs.Char.{digit_value}
 use Rattle.std.specs.List.{AllByRecursion}
 use Rattle.std.specs.Str.Parse.{digits_value}
@@ -7,9 +7,8 @@ use Rattle.pearl_value.specs.declared.cell.Cell.{Cell}
 use Rattle.pearl_value.specs.declared.cell.Cell.TheVariants.{Fixed, Bits, Chars, Clock, Span, Ref}
 use Rattle.pearl_value.specs.Conversions.{fits_fixed}
 use Rattle.pearl_value.specs.WellFormed.{FitsSpan}
-use Rattle.pearl_rules.specs.Literals.{span_literal}
 use Rattle.pearl_journal.specs.Laws.{IsGap}
-use Rattle.pearl_journal.specs.Words.{is_blank}
+use Rattle.pearl_journal_laws.specs.Durations.{IsLengthOfTime}
 use Rattle.pearl_journal_laws.specs.Says.{IsDigit, IsNumber, IsText}
 use Rattle.pearl_journal_laws.specs.Times.{IsTimeOfDay}
 
@@ -59,12 +58,12 @@ Spells bytes (Fixed len value) =
 Spells bytes (Bits len value) = AreBits bytes len value
 Spells bytes (Chars text) = IsText bytes text.items × (text.items ≢ [])
 Spells bytes (Clock time) = IsTimeOfDay bytes time
-Spells bytes (Span time) = (span_literal is_blank bytes ≡ Some time) × FitsSpan time
+Spells bytes (Span time) = IsLengthOfTime bytes time × FitsSpan time
 Spells bytes (Ref of place) = ⊥
 
 -- a length of time of more than 2^40 milliseconds, forward or back
 abbrev pub SpellsTooMuch : List ℕ → Type 0
-SpellsTooMuch bytes = (time : ℤ) × (span_literal is_blank bytes ≡ Some time) × (FitsSpan time → ⊥)
+SpellsTooMuch bytes = (time : ℤ) × IsLengthOfTime bytes time × (FitsSpan time → ⊥)
 
 abbrev pub IsLiteral : List ℕ → Type 0
 IsLiteral bytes = ((x : Cell) × Spells bytes x) ⊎ SpellsTooMuch bytes
