@@ -22,7 +22,7 @@ use Rattle.pearl_kernel.specs.Kept.{Kept, IsLawful, IsFirst}
 use Rattle.pearl_machine.specs.Parts.{start_of, going_frames, running_of, StepsPart, HasMemories}
 use Rattle.pearl_machine.specs.Ready.{IsReady, untold, seen_of}
 use Rattle.pearl_machine.specs.Seen.{Seen, retold, NobodyActs, Handles, SettlesFirst, ActsFirst, Makes, PassesSome}
-use Rattle.pearl_machine.specs.Told.{IsCutOff}
+use Rattle.pearl_machine.specs.Told.{IsCutOff, IsCutBehind}
 use Rattle.pearl_machine.specs.declared.part.Part.{Part}
 use Rattle.pearl_machine.proofs.Going.{handles_then, handles_retold, handles_pick, handles_turn, handles_state, handles_arrival}
 use Rattle.pearl_machine.proofs.Places.{offered_by, offers_here, goes_here}
@@ -134,13 +134,13 @@ pub on_err : {T E P Q : Type 0} (r : Result T E) → (P → Q) → OnErr r P →
 on_err (Ok x) f p = tt
 on_err (Err e) f p = f p
 
+pub on_err₂ : {T E P Q R : Type 0} (r : Result T E) → (P → Q → R) → OnErr r P → OnErr r Q → OnErr r R
+on_err₂ (Ok x) f p q = tt
+on_err₂ (Err e) f p q = f p q
+
 -- what an entry told, from where the tasks had settled
 abbrev pub Entered : Seen → Entry → Seen → Option (List ℕ) → Option (List ℕ) → Type 0
 Entered a entry c old new = (told : List (ℕ × Report)) × Handles a (entry ∷ []) [] c told × Takes old new (lines_of (setup_of a.object) told)
-
-abbrev pub CutShort : Seen → Entry → Seen → Option (List ℕ) → Option (List ℕ) → Type 0
-CutShort a entry c old new =
-    (told : List (ℕ × Report)) × (left : List Entry) × Handles a (entry ∷ []) left c told × IsCutOff (setup_of a.object) old new told c.state.core.told
 
 pub entered_from : (a b c : Seen) (entry e : Entry) (old new : Option (List ℕ)) → b.object ≡ a.object → ((from : List Entry) → Handles a from from b []) → entry ≡ e →
     Entered b e c old new → Entered a entry c old new
@@ -148,15 +148,6 @@ entered_from a b c entry e old new object settles is h = (
   h.0,
   subst (λ x. Handles a (x ∷ []) [] c h.0) (sym is) (handles_then a b c (e ∷ []) (e ∷ []) [] [] h.0 object (settles (e ∷ [])) h.1),
   subst (λ o. Takes old new (lines_of (setup_of o) h.0)) object h.2,
-)
-
-pub cut_from : (a b c : Seen) (entry e : Entry) (old new : Option (List ℕ)) → b.object ≡ a.object → ((from : List Entry) → Handles a from from b []) → entry ≡ e →
-    CutShort b e c old new → CutShort a entry c old new
-cut_from a b c entry e old new object settles is h = (
-  h.0,
-  h.1,
-  subst (λ x. Handles a (x ∷ []) h.1 c h.0) (sym is) (handles_then a b c (e ∷ []) (e ∷ []) h.1 [] h.0 object (settles (e ∷ [])) h.2),
-  subst (λ o. IsCutOff (setup_of o) old new h.0 c.state.core.told) object h.3,
 )
 
 -- a turn tells nothing
@@ -176,11 +167,6 @@ pub entered_state : (b s w : Seen) (old new : Option (List ℕ)) → unsettled b
 entered_state b s w old new settled object makes same takes =
     (s.state.core.told, handled_state b s w settled makes same, subst (λ o. Takes old new (lines_of (setup_of o) s.state.core.told)) object takes)
 
-pub cut_state : (b s w : Seen) (old new : Option (List ℕ)) → unsettled b.state ≡ None → s.object ≡ b.object → Makes b Tells s →
-    w ≡ retold s w.state.core.told → IsCutOff (setup_of s.object) old new s.state.core.told w.state.core.told → CutShort b State w old new
-cut_state b s w old new settled object makes same cut =
-    (s.state.core.told, [], handled_state b s w settled makes same, subst (λ o. IsCutOff (setup_of o) old new s.state.core.told w.state.core.told) object cut)
-
 -- what came from outside, and its lines were written
 pub entered_arrival : (b m w : Seen) (entry : Entry) (old new : Option (List ℕ)) → unsettled b.state ≡ None → m.object ≡ b.object →
     ((p : Option ℕ) (rest : List Entry) → next_mark p (entry ∷ rest) ≡ Some (record { mark = Arrives entry; rest = rest })) → Makes b (Arrives entry) m →
@@ -188,17 +174,6 @@ pub entered_arrival : (b m w : Seen) (entry : Entry) (old new : Option (List ℕ
     Takes old new (lines_of (setup_of m.object) m.state.core.told) → Entered b entry w old new
 entered_arrival b m w entry old new settled object comes makes finish takes =
     (m.state.core.told, finish (handles_arrival b m entry comes settled makes), subst (λ o. Takes old new (lines_of (setup_of o) m.state.core.told)) object takes)
-
-pub cut_arrival : (b m w : Seen) (entry : Entry) (old new : Option (List ℕ)) → unsettled b.state ≡ None → m.object ≡ b.object →
-    ((p : Option ℕ) (rest : List Entry) → next_mark p (entry ∷ rest) ≡ Some (record { mark = Arrives entry; rest = rest })) → Makes b (Arrives entry) m →
-    (Handles b (entry ∷ []) [] m m.state.core.told → Handles b (entry ∷ []) [] w m.state.core.told) →
-    IsCutOff (setup_of m.object) old new m.state.core.told w.state.core.told → CutShort b entry w old new
-cut_arrival b m w entry old new settled object comes makes finish cut = (
-  m.state.core.told,
-  [],
-  finish (handles_arrival b m entry comes settled makes),
-  subst (λ o. IsCutOff (setup_of o) old new m.state.core.told w.state.core.told) object cut,
-)
 
 -- an entry that is none of these comes from outside
 pub comes_alone : (entry : Entry) → ((n : ℕ) → entry ≡ Run n → ⊥) → ((n : ℕ) → entry ≡ Tick n → ⊥) → ((n picks : ℕ) → entry ≡ Pass n picks → ⊥) →
@@ -278,3 +253,22 @@ module _ (a b s w : Seen) (object : b.object ≡ a.object) (shown : s ≡ retold
   closed_cut old new cut =
       subst (λ bytes. TakesFront old new bytes) lines_are
       (cut_front (setup_of s.object) old new s.state.core.told w.state.core.told (close_line w.state.core.moment) cut)
+
+  -- and the later ones are left
+  pub closed_left : (old new : Option (List ℕ)) → IsCutOff (setup_of s.object) old new s.state.core.told w.state.core.told →
+      IsCutOff (setup_of a.object) old new (states w.state.core (machine_offers w.state)) w.state.core.told
+  closed_left old new cut =
+      subst (λ told. IsCutOff (setup_of a.object) old new told w.state.core.told) shown_states
+      (subst (λ o. IsCutOff (setup_of o) old new s.state.core.told w.state.core.told) (ap (λ (x : Seen). x.object) shown ∙ object) cut)
+
+  -- the last one was cut off
+  pub closed_last : (old mid new : Option (List ℕ)) (line : List ℕ) → Takes old mid (lines_of (setup_of s.object) s.state.core.told) →
+      line ≡ close_line w.state.core.moment → TakesFront mid new line → w.state.core.told ≡ [] →
+      IsCutBehind (setup_of a.object) old new (states w.state.core (machine_offers w.state)) w.state.core.told (close_line w.state.core.moment)
+  closed_last old mid new line lines is front none = record {
+    between = mid;
+    whole = subst (λ told. Takes old mid (lines_of (setup_of a.object) told)) shown_states
+        (subst (λ o. Takes old mid (lines_of (setup_of o) s.state.core.told)) (ap (λ (x : Seen). x.object) shown ∙ object) lines);
+    front = subst (λ bytes. TakesFront mid new bytes) is front;
+    none = none;
+  }

@@ -250,6 +250,7 @@ some_skipped a b n some skips settled taken = record {
       (subst (λ s. Handles a (Pass left picks ∷ []) (Run picks ∷ Pass (left - n) picks ∷ []) s []) (sym skips.same)
       (subst (λ k. Handles a (Pass left picks ∷ []) (Run picks ∷ Pass (left - k) picks ∷ []) (later k a) []) (sym e)
       (all_passed a b n skips settled taken left within picks (n - 1) e free)));
+  tells = inl none;
 }
   where
     none : b.state.core.told ≡ []
@@ -263,4 +264,5 @@ one_millisecond a b object moment settled makes = record {
   moment = moment;
   ticks = λ left within. handles_tick a b left settled (omega arith) makes;
   passes = λ left picks within free. handles_pass a b left picks settled (omega arith) makes;
+  tells = inr (refl, makes);
 }

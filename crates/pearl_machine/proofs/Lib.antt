@@ -13,5 +13,6 @@ pub mod Acting
 pub mod Passing
 pub mod Loading
 pub mod Entering
+pub mod Last
 pub mod Calls
 pub mod Moments

@@ -103,7 +103,8 @@ pub record Skips (old : Seen) (n : ℕ) (new : Seen) : Type 0 where
   pub same : new ≡ later n old
   pub makes : (j : ℕ) → j < n → Makes (later j old) Passes (later (suc j) old)
 
--- So many milliseconds passed: a `tick` has so many fewer left, and likewise a `pass`, where it was one or nobody acts.
+-- So many milliseconds passed: a `tick` has so many fewer left, and likewise a `pass`, where it was one or nobody acts. What was told one
+-- millisecond told.
 pub record PassesSome (old : Seen) (n : ℕ) (new : Seen) : Type 0 where
   pub some : 0 < n
   pub object : new.object ≡ old.object
@@ -111,6 +112,7 @@ pub record PassesSome (old : Seen) (n : ℕ) (new : Seen) : Type 0 where
   pub ticks : (left : ℕ) → n ≤ left → Handles old (Tick left ∷ []) (Tick (left - n) ∷ []) new new.state.core.told
   pub passes : (left picks : ℕ) → n ≤ left → (n ≡ 1) ⊎ NobodyActs old picks →
       Handles old (Pass left picks ∷ []) (Run picks ∷ Pass (left - n) picks ∷ []) new new.state.core.told
+  pub tells : (new.state.core.told ≡ []) ⊎ ((n ≡ 1) × Makes old Passes new)
 
 -- this is the line of what is told next, and what is told later is left; or nothing is left
 abbrev pub TakesNext : Seen → Seen → List ℕ → Bool → Type 0

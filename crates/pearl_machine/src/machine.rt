@@ -15,7 +15,7 @@ ghost use Rattle.pearl_script.specs.Lines.{close_line as line_of_close, lines_of
 ghost use Rattle.pearl_kernel.specs.Timing.{IsQuiet};
 ghost use Rattle.pearl_machine.specs.Seen.{Seen, Handles, SettledBy, ActedBy, Makes, TakesNext};
 ghost use Rattle.pearl_machine.specs.Seen.{NobodyActs, Skips, PassesSome, retold};
-ghost use Rattle.pearl_machine.specs.Told.{IsCutOff};
+ghost use Rattle.pearl_machine.specs.Told.{IsCutOff, IsCutBehind, IsCutInLastMark};
 
 use crate::known::laws_hold;
 use crate::lines::state_of;
@@ -128,9 +128,9 @@ impl Machine {
     /// Makes all marks of one entry, and hands the sink the lines of what they tell. Tests hold that each line is one
     /// piece.
     ///
-    /// After [`WriteFault`] the machine stands somewhere in the entry: of what was told up to there some lines were
-    /// taken whole, of the next one less than all, and the later ones are left. Tasks may have gone on to their next
-    /// actions.
+    /// After [`WriteFault`] the machine stands right behind a mark of the entry, the last that was made: the lines of
+    /// all marks before it were taken whole, and some of its own, of the next one less than all, and the later ones
+    /// are left.
     pub fn entry<K: Sink>(&mut self, entry: &Entry, sink: &mut K) -> Result<(), WriteFault>
         requires taken { self.old.state.core.told ≡ [] }
         requires fits { EntryFits (setup_of self.old.object) self.old.state.core.moment entry.now }
@@ -144,6 +144,8 @@ impl Machine {
         ensures err { OnErr result ((told : List (ℕ × Report)) × (left : List Entry)
             × Handles self.old (entry.now ∷ []) left self.new told
             × IsCutOff (setup_of self.old.object) (K.taken sink.old) (K.taken sink.new) told self.new.state.core.told) }
+        ensures last { OnErr result
+            (IsCutInLastMark self.old (entry.now ∷ []) self.new (K.taken sink.old) (K.taken sink.new)) }
         ensures cause { OnErr result (WriteFailed (K.faults sink.old) (K.faults sink.new) (K.full sink.new)) }
         ensures later { K.faults sink.old ≤ K.faults sink.new }
     {
@@ -171,8 +173,8 @@ impl Machine {
     /// Hands the sink the last lines: how each task stands, and that the run is closed. Tests hold that each line is
     /// one piece.
     ///
-    /// After [`WriteFault`] a front of these bytes was taken, and not all. Every active task has gone on to its next
-    /// action all the same.
+    /// After [`WriteFault`] a front of these bytes was taken, and not all, and the lines of states behind the one that
+    /// was cut are left. Every active task has gone on to its next action all the same.
     pub fn close<K: Sink>(&mut self, sink: &mut K) -> Result<(), WriteFault>
         requires taken { self.old.state.core.told ≡ [] }
         ensures object { self.new.object ≡ self.old.object }
@@ -185,6 +187,12 @@ impl Machine {
         ensures err { OnErr result (TakesFront (K.taken sink.old) (K.taken sink.new)
             (lines_of (setup_of self.old.object) (states self.new.state.core (machine_offers self.new.state))
             ++ line_of_close self.new.state.core.moment)) }
+        ensures left { OnErr result (
+            IsCutOff (setup_of self.old.object) (K.taken sink.old) (K.taken sink.new)
+            (states self.new.state.core (machine_offers self.new.state)) self.new.state.core.told
+            ⊎ IsCutBehind (setup_of self.old.object) (K.taken sink.old) (K.taken sink.new)
+            (states self.new.state.core (machine_offers self.new.state)) self.new.state.core.told
+            (line_of_close self.new.state.core.moment)) }
         ensures cause { OnErr result (WriteFailed (K.faults sink.old) (K.faults sink.new) (K.full sink.new)) }
         ensures later { K.faults sink.old ≤ K.faults sink.new }
     {
@@ -248,9 +256,8 @@ impl Machine {
         ensures settled { OnOk result (unsettled self.new.state ≡ None) }
         ensures all { OnOk result (self.new.state.core.told ≡ []) }
         ensures moment { OnOk result (self.new.state.core.moment ≡ self.old.state.core.moment) }
-        ensures err { OnErr result ((told : List (ℕ × Report)) × (left : List Entry)
-            × Handles self.old (Run count ∷ []) left self.new told
-            × IsCutOff (setup_of self.old.object) (K.taken sink.old) (K.taken sink.new) told self.new.state.core.told) }
+        ensures last { OnErr result
+            (IsCutInLastMark self.old (Run count ∷ []) self.new (K.taken sink.old) (K.taken sink.new)) }
         ensures cause { OnErr result (WriteFailed (K.faults sink.old) (K.faults sink.new) (K.full sink.new)) }
         ensures later { K.faults sink.old ≤ K.faults sink.new }
     {
@@ -277,9 +284,8 @@ impl Machine {
         ensures settled { OnOk result (unsettled self.new.state ≡ None) }
         ensures all { OnOk result (self.new.state.core.told ≡ []) }
         ensures moment { OnOk result (self.new.state.core.moment ≡ self.old.state.core.moment + count) }
-        ensures err { OnErr result ((told : List (ℕ × Report)) × (left : List Entry)
-            × Handles self.old (Tick count ∷ []) left self.new told
-            × IsCutOff (setup_of self.old.object) (K.taken sink.old) (K.taken sink.new) told self.new.state.core.told) }
+        ensures last { OnErr result
+            (IsCutInLastMark self.old (Tick count ∷ []) self.new (K.taken sink.old) (K.taken sink.new)) }
         ensures cause { OnErr result (WriteFailed (K.faults sink.old) (K.faults sink.new) (K.full sink.new)) }
         ensures later { K.faults sink.old ≤ K.faults sink.new }
     {
@@ -302,9 +308,8 @@ impl Machine {
         ensures settled { OnOk result (unsettled self.new.state ≡ None) }
         ensures all { OnOk result (self.new.state.core.told ≡ []) }
         ensures moment { OnOk result (self.new.state.core.moment ≡ self.old.state.core.moment + times) }
-        ensures err { OnErr result ((told : List (ℕ × Report)) × (left : List Entry)
-            × Handles self.old (Pass times picks ∷ []) left self.new told
-            × IsCutOff (setup_of self.old.object) (K.taken sink.old) (K.taken sink.new) told self.new.state.core.told) }
+        ensures last { OnErr result
+            (IsCutInLastMark self.old (Pass times picks ∷ []) self.new (K.taken sink.old) (K.taken sink.new)) }
         ensures cause { OnErr result (WriteFailed (K.faults sink.old) (K.faults sink.new) (K.full sink.new)) }
         ensures later { K.faults sink.old ≤ K.faults sink.new }
     {
@@ -411,6 +416,7 @@ impl Machine {
         ensures all { OnOk result (self.new.state.core.told ≡ []) }
         ensures handles { (a : Seen) (from left : List Entry) (told : List (ℕ × Report)) →
             self.old.object ≡ a.object → Handles a from left self.old told → Handles a from left self.new told }
+        ensures stays { OnErr result (self.new ≡ retold self.old self.new.state.core.told) }
         ensures err { OnErr result (IsCutOff (setup_of self.old.object) (K.taken sink.old) (K.taken sink.new)
             self.old.state.core.told self.new.state.core.told) }
         ensures cause { OnErr result (WriteFailed (K.faults sink.old) (K.faults sink.new) (K.full sink.new)) }

@@ -4,10 +4,10 @@ use Rattle.pearl_rules.specs.declared.entry.Entry.TheVariants.{Run, Pass}
 use Rattle.pearl_engine.specs.Setups.{setup_of}
 use Rattle.pearl_io.specs.Outside.{Takes}
 use Rattle.pearl_script.specs.Lines.{lines_of}
-use Rattle.pearl_machine.specs.Told.{IsCutOff}
 use Rattle.pearl_machine.proofs.Going.{handles_none, handles_then, handles_front, handles_passed}
-use Rattle.pearl_machine.proofs.Taken.{takes_nothing, takes_lines, cut_behind}
+use Rattle.pearl_machine.proofs.Taken.{takes_nothing, takes_lines}
 use Rattle.pearl_machine.proofs.Entering.{pass_on, at_once_free}
+use Rattle.pearl_machine.proofs.Last.{last_pass, last_behind, last_front}
 use Rattle.pearl_machine.proofs.machine.Machine.pass.Goals as goal
 
 pub loop-left-init : goal.loop-left-init
@@ -25,55 +25,36 @@ returns-clause-ok g c =
     let i = c.loop-left.invariant in
     (i.goes.0, handles_passed c.args.self.now c.loop-left.self (Pass c.args.times c.args.picks ∷ []) c.loop-left.left c.args.picks i.goes.0 (omega arith) i.goes.1, i.goes.2)
 
-pub returns-in_err-finish-clause-err : goal.returns-in_err-finish-clause-err
-returns-in_err-finish-clause-err g c =
+pub returns-in_err-finish-clause-last : goal.returns-in_err-finish-clause-last
+returns-in_err-finish-clause-last g c =
     let i = c.loop-left.invariant in
-    let a = c.args.self.now in
-    let l = c.loop-left in
-    let m = c.pass_some-left.new.self in
-    let n = c.pass_some-left.result in
-    let few : n ≤ l.left = omega (arith, c.pass_some-left.ensures.few, c.at_once.ensures.few) in
-    let free = at_once_free l.self c.args.picks n c.at_once.result c.pass_some-left.ensures.passes.some c.pass_some-left.ensures.few c.at_once.ensures.free in
+    let few : c.pass_some-left.result ≤ c.loop-left.left = omega (arith, c.pass_some-left.ensures.few, c.at_once.ensures.few) in
     let p = err_from_is_err_and c.from_residual.result c.from_residual.ensures.1 in
-    let object = c.pass_some-left.ensures.passes.object ∙ i.object in
-    rw p.1 (
-      i.goes.0 ++ m.state.core.told,
-      Run c.args.picks ∷ Pass (l.left - n) c.args.picks ∷ [],
-      c.finish.ensures.handles a (Pass c.args.times c.args.picks ∷ []) (Run c.args.picks ∷ Pass (l.left - n) c.args.picks ∷ []) (i.goes.0 ++ m.state.core.told) object
-          (pass_on a l.self m c.args.times c.args.picks l.left n i.goes.0 i.object few free i.goes.1 c.pass_some-left.ensures.passes),
-      cut_behind (setup_of a.object) (g.K.Sink.taken c.args.sink.now) (g.K.Sink.taken l.sink) (g.K.Sink.taken c.finish.new.sink) i.goes.0
-          m.state.core.told c.finish.new.self.state.core.told i.goes.2
-          (subst (λ o. IsCutOff (setup_of o) (g.K.Sink.taken l.sink) (g.K.Sink.taken c.finish.new.sink) m.state.core.told c.finish.new.self.state.core.told)
-          object c.in_err-finish.ensures.err),
-    )
+    rw p.1 (last_pass c.args.self.now c.loop-left.self c.pass_some-left.new.self c.finish.new.self (Pass c.args.times c.args.picks ∷ []) c.loop-left.left c.args.picks
+    c.pass_some-left.result i.goes.0 (g.K.Sink.taken c.args.sink.now) (g.K.Sink.taken c.loop-left.sink) (g.K.Sink.taken c.finish.new.sink) i.object i.settled
+    i.goes.1 few c.pass_some-left.ensures.passes c.in_err-finish.ensures.stays i.goes.2 c.in_err-finish.ensures.err)
 
-pub returns-in_err-run-clause-err : goal.returns-in_err-run-clause-err
-returns-in_err-run-clause-err g c =
+pub returns-in_err-run-clause-last : goal.returns-in_err-run-clause-last
+returns-in_err-run-clause-last g c =
     let i = c.loop-left.invariant in
     let a = c.args.self.now in
     let l = c.loop-left in
     let m = c.pass_some-left.new.self in
     let n = c.pass_some-left.result in
-    let cut = c.in_err-run.ensures.err in
     let few : n ≤ l.left = omega (arith, c.pass_some-left.ensures.few, c.at_once.ensures.few) in
     let free = at_once_free l.self c.args.picks n c.at_once.result c.pass_some-left.ensures.passes.some c.pass_some-left.ensures.few c.at_once.ensures.free in
     let p = err_from_is_err_and c.from_residual-in_err-run.result c.from_residual-in_err-run.ensures.1 in
     let object = c.pass_some-left.ensures.passes.object ∙ i.object in
-    let finished = c.finish.ensures.object ∙ object in
     let rest = Pass (l.left - n) c.args.picks ∷ [] in
     let told = i.goes.0 ++ m.state.core.told in
-    rw p.1 (
-      told ++ cut.0,
-      cut.1 ++ rest,
-      handles_then a c.finish.new.self c.run.new.self (Pass c.args.times c.args.picks ∷ []) (Run c.args.picks ∷ rest) (cut.1 ++ rest) told cut.0 finished
-          (c.finish.ensures.handles a (Pass c.args.times c.args.picks ∷ []) (Run c.args.picks ∷ rest) told object
-          (pass_on a l.self m c.args.times c.args.picks l.left n i.goes.0 i.object few free i.goes.1 c.pass_some-left.ensures.passes))
-          (handles_front c.finish.new.self c.run.new.self (Run c.args.picks ∷ []) cut.1 rest cut.0 cut.2),
-      cut_behind (setup_of a.object) (g.K.Sink.taken c.args.sink.now) (g.K.Sink.taken c.finish.new.sink) (g.K.Sink.taken c.run.new.sink) told cut.0 c.run.new.self.state.core.told
-          (takes_lines (setup_of a.object) (g.K.Sink.taken c.args.sink.now) (g.K.Sink.taken l.sink) (g.K.Sink.taken c.finish.new.sink) i.goes.0 m.state.core.told i.goes.2
-          (subst (λ o. Takes (g.K.Sink.taken l.sink) (g.K.Sink.taken c.finish.new.sink) (lines_of (setup_of o) m.state.core.told)) object c.in_ok-finish.ensures.ok))
-          (subst (λ o. IsCutOff (setup_of o) (g.K.Sink.taken c.finish.new.sink) (g.K.Sink.taken c.run.new.sink) cut.0 c.run.new.self.state.core.told) finished cut.3),
-    )
+    rw p.1 (last_behind a c.finish.new.self c.run.new.self (Pass c.args.times c.args.picks ∷ []) (Run c.args.picks ∷ rest) told
+    (g.K.Sink.taken c.args.sink.now) (g.K.Sink.taken c.finish.new.sink) (g.K.Sink.taken c.run.new.sink) (c.finish.ensures.object ∙ object)
+    (c.finish.ensures.handles a (Pass c.args.times c.args.picks ∷ []) (Run c.args.picks ∷ rest) told object
+    (pass_on a l.self m c.args.times c.args.picks l.left n i.goes.0 i.object few free i.goes.1 c.pass_some-left.ensures.passes))
+    (takes_lines (setup_of a.object) (g.K.Sink.taken c.args.sink.now) (g.K.Sink.taken l.sink) (g.K.Sink.taken c.finish.new.sink) i.goes.0 m.state.core.told i.goes.2
+    (subst (λ o. Takes (g.K.Sink.taken l.sink) (g.K.Sink.taken c.finish.new.sink) (lines_of (setup_of o) m.state.core.told)) object c.in_ok-finish.ensures.ok))
+    (last_front c.finish.new.self c.run.new.self (Run c.args.picks ∷ []) rest (g.K.Sink.taken c.finish.new.sink) (g.K.Sink.taken c.run.new.sink)
+    c.in_err-run.ensures.last))
 
 pub loop-left-preserved : goal.loop-left-preserved
 loop-left-preserved g c =

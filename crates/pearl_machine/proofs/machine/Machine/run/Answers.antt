@@ -5,10 +5,10 @@ use Rattle.pearl_engine.specs.Setups.{setup_of}
 use Rattle.pearl_io.specs.Outside.{Takes}
 use Rattle.pearl_script.specs.Lines.{lines_of}
 use Rattle.pearl_machine.specs.Seen.{Seen}
-use Rattle.pearl_machine.specs.Told.{IsCutOff}
 use Rattle.pearl_machine.proofs.Going.{handles_none, handles_on, handles_idle, handles_done}
-use Rattle.pearl_machine.proofs.Taken.{takes_nothing, takes_lines, cut_behind}
+use Rattle.pearl_machine.proofs.Taken.{takes_nothing, takes_lines}
 use Rattle.pearl_machine.proofs.Entering.{one_more, told_object}
+use Rattle.pearl_machine.proofs.Last.{last_pick}
 use Rattle.pearl_machine.proofs.machine.Machine.run.Goals as goal
 
 pub loop-left-init : goal.loop-left-init
@@ -32,21 +32,13 @@ returns-clause-ok g c =
     let i = c.loop-left.invariant in
     (i.goes.0, handles_done c.args.self.now c.loop-left.self (Run c.args.count ∷ []) c.loop-left.left i.goes.0 (omega arith) i.goes.1, i.goes.2)
 
-pub returns-in_err-tell-clause-err : goal.returns-in_err-tell-clause-err
-returns-in_err-tell-clause-err g c =
+pub returns-in_err-tell-clause-last : goal.returns-in_err-tell-clause-last
+returns-in_err-tell-clause-last g c =
     let i = c.loop-left.invariant in
     let p = err_from_is_err_and c.from_residual.result c.from_residual.ensures.1 in
-    let object = c.if-not-act.ensures.object ∙ i.object in
-    rw p.1 (
-      i.goes.0 ++ c.act.new.self.state.core.told,
-      Run (c.loop-left.left - 1) ∷ [],
-      one_more c.args.self.now c.loop-left.self c.act.new.self c.tell.new.self c.args.count c.loop-left.left i.goes.0 i.object i.settled (omega arith) i.goes.1
-          c.if-not-act.ensures.acted c.in_err-tell.ensures.same,
-      cut_behind (setup_of c.args.self.now.object) (g.K.Sink.taken c.args.sink.now) (g.K.Sink.taken c.loop-left.sink) (g.K.Sink.taken c.tell.new.sink) i.goes.0
-          c.act.new.self.state.core.told c.tell.new.self.state.core.told i.goes.2
-          (subst (λ o. IsCutOff (setup_of o) (g.K.Sink.taken c.loop-left.sink) (g.K.Sink.taken c.tell.new.sink) c.act.new.self.state.core.told c.tell.new.self.state.core.told)
-          object c.in_err-tell.ensures.err),
-    )
+    rw p.1 (last_pick c.args.self.now c.loop-left.self c.act.new.self c.tell.new.self (Run c.args.count ∷ []) c.loop-left.left i.goes.0
+    (g.K.Sink.taken c.args.sink.now) (g.K.Sink.taken c.loop-left.sink) (g.K.Sink.taken c.tell.new.sink) i.object c.if-not-act.ensures.object i.settled
+    (omega arith) i.goes.1 c.if-not-act.ensures.acted c.in_err-tell.ensures.same i.goes.2 c.in_err-tell.ensures.err)
 
 pub loop-left-preserved : goal.loop-left-preserved
 loop-left-preserved g c =
