@@ -7,7 +7,8 @@ ghost use Rattle.pearl_rules.specs.Pick.{states};
 ghost use Rattle.pearl_rules.specs.declared.entry.Entry.{Entry};
 ghost use Rattle.pearl_rules.specs.declared.entry.Entry.TheVariants.{Run, Tick, Pass};
 ghost use Rattle.pearl_rules.specs.Entries.{last_moment_of_all, moment_after, EntryFits};
-ghost use Rattle.pearl_rules.specs.Runs.{machine_start, machine_step, machine_offers, unsettled, Tells, Turns, Passes, Arrives};
+ghost use Rattle.pearl_rules.specs.Runs.{machine_start, machine_step, machine_offers, unsettled};
+ghost use Rattle.pearl_rules.specs.Runs.{Tells, Turns, Passes, Arrives};
 ghost use Rattle.pearl_engine.specs.Engines.{engine};
 ghost use Rattle.pearl_engine.specs.Setups.{setup_of};
 ghost use Rattle.pearl_io.specs.Outside.{Takes, TakesFront, WriteFailed};
@@ -322,7 +323,7 @@ impl Machine {
         Ok(())
     }
 
-    // How many of the milliseconds that are left may pass at once: all where nobody acts in so many picks, and else one.
+    // How many of the milliseconds that are left may pass at once: all where nobody acts in so many picks, else one.
     fn at_once(&self, left: u64, picks: u64) -> u64
         requires { 0 < left }
         ensures some { 0 < result }
