@@ -31,7 +31,7 @@ module _ (tokens : List Token) (from : ℕ) where
   abbrev pub HeadsAt : Rest → Rest → ℕ → ℕ → Type 0
   HeadsAt = Stands 16 SpellsHeads tokens from 0 from
 
-  pub past_for : from ≤ length tokens → length tokens < 2 ^ 55 → (x : Reading (Option Name)) →
+  past_for : from ≤ length tokens → length tokens < 2 ^ 55 → (x : Reading (Option Name)) →
       ReadsOnlyMaybe 8 (Maybe SpellsFor) SpellsOptionalFor (Maybe SpellsFor) tokens from (Ok x) →
       HeadsAt from_rest from_head x.end x.stop
   past_for inside few x read = record {
@@ -76,18 +76,44 @@ module _ (tokens : List Token) (from : ℕ) where
       extends_expression
       tokens at at stop (Ok x)
 
-  pub past_from : (at stop : ℕ) → HeadsAt from_rest from_head at stop → (x : Reading (Option Expr)) →
+  past_from : (at stop : ℕ) → HeadsAt from_rest from_head at stop → (x : Reading (Option Expr)) →
       OptionalRead w.FROM at stop x → HeadsAt by_rest by_head x.end x.stop
   past_from at stop a = past_optional w.FROM by_rest by_head by_fills at stop a avoids_by
 
-  pub past_by : (at stop : ℕ) → HeadsAt by_rest by_head at stop → (x : Reading (Option Expr)) →
+  past_by : (at stop : ℕ) → HeadsAt by_rest by_head at stop → (x : Reading (Option Expr)) →
       OptionalRead w.BY at stop x → HeadsAt to_rest to_head x.end x.stop
   past_by at stop a = past_optional w.BY to_rest to_head to_fills at stop a avoids_to
 
-  pub past_to : (at stop : ℕ) → HeadsAt to_rest to_head at stop → (x : Reading (Option Expr)) →
+  past_to : (at stop : ℕ) → HeadsAt to_rest to_head at stop → (x : Reading (Option Expr)) →
       OptionalRead w.TO at stop x → HeadsAt while_rest while_head x.end x.stop
   past_to at stop a = past_optional w.TO while_rest while_head while_fills at stop a avoids_while
 
-  pub past_while : (at stop : ℕ) → HeadsAt while_rest while_head at stop → (x : Reading (Option Expr)) →
+  past_while : (at stop : ℕ) → HeadsAt while_rest while_head at stop → (x : Reading (Option Expr)) →
       OptionalRead w.WHILE at stop x → HeadsAt repeat_word repeat_behind x.end x.stop
   past_while at stop a = past_optional w.WHILE repeat_word repeat_behind repeat_fills at stop a avoids_repeat
+
+-- ---- all that were read so far
+
+module _ (tokens : List Token) (from : ℕ) (inside : from ≤ length tokens) (few : length tokens < 2 ^ 55)
+    (control : Reading (Option Name))
+    (named : ReadsOnlyMaybe 8 (Maybe SpellsFor) SpellsOptionalFor (Maybe SpellsFor) tokens from (Ok control)) where
+  pub behind_for : HeadsAt tokens from from_rest from_head control.end control.stop
+  behind_for = past_for tokens from inside few control named
+
+  module _ (begin : Reading (Option Expr)) (first : OptionalRead tokens from w.FROM control.end control.stop begin)
+    where
+      pub behind_from : HeadsAt tokens from by_rest by_head begin.end begin.stop
+      behind_from = past_from tokens from control.end control.stop behind_for begin first
+
+      module _ (step : Reading (Option Expr)) (second : OptionalRead tokens from w.BY begin.end begin.stop step) where
+        pub behind_by : HeadsAt tokens from to_rest to_head step.end step.stop
+        behind_by = past_by tokens from begin.end begin.stop behind_from step second
+
+        module _ (end : Reading (Option Expr)) (third : OptionalRead tokens from w.TO step.end step.stop end) where
+          pub behind_to : HeadsAt tokens from while_rest while_head end.end end.stop
+          behind_to = past_to tokens from step.end step.stop behind_by end third
+
+          module _ (condition : Reading (Option Expr))
+              (fourth : OptionalRead tokens from w.WHILE end.end end.stop condition) where
+            pub behind_while : HeadsAt tokens from repeat_word repeat_behind condition.end condition.stop
+            behind_while = past_while tokens from end.end end.stop behind_to condition fourth

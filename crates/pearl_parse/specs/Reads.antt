@@ -1,5 +1,5 @@
--- What is known of a statement that is read, or isn't, and of a part that is read behind others and is told no earlier
--- than at the token at which they were stopped.
+-- What is known of a statement that is read, or isn't, of a part that is read behind others and is told no earlier than
+-- at the token at which they were stopped, and of a list behind no other part, which a word given to its reader ends.
 use Rattle.std.specs.Prelude.{◌≢◌, ℕ, ◌+◌, ◌≤◌, Bool, List, length, Option, Vec, OnOk, IfOk, IfErr, Result}
 use Rattle.pearl_tree.specs.declared.statement.Stmt.{Stmt}
 use Rattle.pearl_tree.specs.declared.token.What.{What}

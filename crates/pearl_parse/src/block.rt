@@ -32,9 +32,5 @@ pub fn block(
     let stop = body.stop.max(least_stop);
     word(tokens, body.end, stop, END)?;
     symbol(tokens, body.end + 1, stop, SEMICOLON)?;
-    Ok(Reading {
-        part: body.part,
-        end: body.end + 2,
-        stop: stop.max(body.end + 2),
-    })
+    Ok(body.no_earlier(stop).past(2))
 }

@@ -31,14 +31,9 @@ fn body_declaration(alloc: Global, tokens: &[Token], from: usize) -> Result<Read
     word(tokens, from, from, DCL)?;
     let items = list(alloc, tokens, from + 1)?;
     symbol(tokens, items.end, items.stop, SEMICOLON)?;
-    Ok(Reading {
-        part: BodyDecl {
-            items: Parts::new(items.part),
-            place: place_at(tokens, from),
-        },
-        end: items.end + 1,
-        stop: items.stop.max(items.end + 1),
-    })
+    let place = place_at(tokens, from);
+    let items = items.past(1).map(Parts::new);
+    Ok(items.map(|items| BodyDecl { items, place }))
 }
 
 impl Repeated for BodyDecl {

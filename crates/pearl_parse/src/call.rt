@@ -15,7 +15,7 @@ use crate::name::name;
 use crate::token::symbol;
 use pearl_parse_decl::expression::own_reference;
 use pearl_parse_decl::list::list;
-use pearl_parse_expr::reading::{Halt, Reading, boxed};
+use pearl_parse_expr::reading::{Halt, Reading};
 use pearl_parse_expr::standing::{is_symbol, place_at};
 use pearl_tree::expression::Expr;
 use pearl_tree::parts::Parts;
@@ -47,14 +47,7 @@ fn maybe_value(alloc: Global, tokens: &[Token], from: usize) -> Result<Reading<O
             stop: from,
         });
     }
-    match value(alloc, tokens, from) {
-        Ok(read) => Ok(Reading {
-            part: Some(read.part),
-            end: read.end,
-            stop: read.stop,
-        }),
-        Err(halt) => Err(halt),
-    }
+    Ok(value(alloc, tokens, from)?.map(Some))
 }
 
 /// `RETURN [ "(" expr ")" ] ";"`
@@ -65,15 +58,9 @@ pub fn return_(alloc: Global, tokens: &[Token], from: usize) -> Result<Reading<S
 {
     let value = maybe_value(alloc, tokens, from + 1)?;
     symbol(tokens, value.end, value.stop, SEMICOLON)?;
-    let returned = Return {
-        value: value.part,
-        place: place_at(tokens, from),
-    };
-    Ok(Reading {
-        part: Stmt::Return(boxed(alloc, returned)?),
-        end: value.end + 1,
-        stop: value.stop.max(value.end + 1),
-    })
+    let place = place_at(tokens, from);
+    let returned = value.past(1).map(|value| Return { value, place });
+    Ok(returned.boxed(alloc)?.map(Stmt::Return))
 }
 
 /// `[ "(" expr { "," expr } ")" ] ";"`
@@ -89,21 +76,14 @@ fn arguments(
 {
     if !is_symbol(tokens, from, LEFT_ROUND) {
         symbol(tokens, from, least_stop, SEMICOLON)?;
-        return Ok(Reading {
-            part: Vec::new(alloc),
-            end: from + 1,
-            stop: least_stop.max(from + 1),
-        });
+        return Ok(Reading::none(alloc, from, least_stop).past(1));
     }
     match list(alloc, tokens, from + 1) {
         Ok(list) => {
-            symbol(tokens, list.end, list.stop.max(least_stop), RIGHT_ROUND)?;
-            symbol(tokens, list.end + 1, list.stop.max(least_stop), SEMICOLON)?;
-            Ok(Reading {
-                part: list.part,
-                end: list.end + 2,
-                stop: list.stop.max(least_stop).max(list.end + 2),
-            })
+            let stop = list.stop.max(least_stop);
+            symbol(tokens, list.end, stop, RIGHT_ROUND)?;
+            symbol(tokens, list.end + 1, stop, SEMICOLON)?;
+            Ok(list.no_earlier(stop).past(2))
         }
         Err(halt) => match halt {
             Halt::Refused(stop) => Err(Halt::Refused(stop.max(least_stop))),
@@ -120,17 +100,14 @@ pub fn call(alloc: Global, tokens: &[Token], from: usize) -> Result<Reading<Stmt
 {
     let called = name(tokens, from + 1, from)?;
     let arguments = arguments(alloc, tokens, from + 2, from)?;
-    let call = Call {
+    let place = place_at(tokens, from);
+    let call = arguments.map(Parts::new).map(|arguments| Call {
         call: true,
         name: called,
-        arguments: Parts::new(arguments.part),
-        place: place_at(tokens, from),
-    };
-    Ok(Reading {
-        part: Stmt::Call(boxed(alloc, call)?),
-        end: arguments.end,
-        stop: arguments.stop,
-    })
+        arguments,
+        place,
+    });
+    Ok(call.boxed(alloc)?.map(Stmt::Call))
 }
 
 // Whether the token is `:=` or `=`.
@@ -153,34 +130,27 @@ pub fn named(alloc: Global, tokens: &[Token], from: usize) -> Result<Reading<Stm
     ensures { ReadsStatement tokens.now from result }
 {
     let target = own_reference(alloc, tokens, from)?;
+    let place = place_at(tokens, from);
     if becomes(tokens, target.end) {
         let value = expr(alloc, tokens, target.end + 1, target.stop)?;
         symbol(tokens, value.end, value.stop, SEMICOLON)?;
-        let assign = Assign {
+        let assign = value.past(1).map(|value| Assign {
             target: target.part,
-            value: value.part,
-            place: place_at(tokens, from),
-        };
-        return Ok(Reading {
-            part: Stmt::Assign(boxed(alloc, assign)?),
-            end: value.end + 1,
-            stop: value.stop.max(value.end + 1),
+            value,
+            place,
         });
+        return Ok(assign.boxed(alloc)?.map(Stmt::Assign));
     }
     let stop = target.stop;
     // The reference holds the arguments as its selectors: it goes before they are read as a call's.
     drop(target);
     let called = name(tokens, from, stop)?;
     let arguments = arguments(alloc, tokens, from + 1, stop)?;
-    let call = Call {
+    let call = arguments.map(Parts::new).map(|arguments| Call {
         call: false,
         name: called,
-        arguments: Parts::new(arguments.part),
-        place: place_at(tokens, from),
-    };
-    Ok(Reading {
-        part: Stmt::Call(boxed(alloc, call)?),
-        end: arguments.end,
-        stop: arguments.stop,
-    })
+        arguments,
+        place,
+    });
+    Ok(call.boxed(alloc)?.map(Stmt::Call))
 }

@@ -68,16 +68,9 @@ pub fn before<P: Readable>(
     ensures { ReadsOnlyListWhere (IsLawfulWhat (what.Word word)) 24 (SpellsBefore word P.spelling) tokens.now from result }
 {
     if is_word(tokens, from, word) {
-        return Ok(Reading {
-            part: Vec::new(alloc),
-            end: from + 1,
-            stop: from + 1,
-        });
+        return Ok(Reading::none(alloc, from, from).past(1));
     }
-    let list = match list(alloc, tokens, from) {
-        Ok(list) => list,
-        Err(halt) => return Err(halt),
-    };
+    let list = list(alloc, tokens, from)?;
     if !is_word(tokens, list.end, word) {
         return Err(Halt::Refused(list.stop));
     }

@@ -60,15 +60,13 @@ pub fn loop_heads(alloc: Global, tokens: &[Token], from: usize) -> Result<Readin
     let end = maybe_after(alloc, tokens, step.end, step.stop, TO)?;
     let condition = maybe_after(alloc, tokens, end.end, end.stop, WHILE)?;
     word(tokens, condition.end, condition.stop, REPEAT)?;
-    Ok(Reading {
-        part: Heads {
+    Ok(
+        condition.past(1).map(|condition| Heads {
             control: control.part,
             begin: begin.part,
             step: step.part,
             end: end.part,
-            condition: condition.part,
-        },
-        end: condition.end + 1,
-        stop: condition.stop.max(condition.end + 1),
-    })
+            condition,
+        }),
+    )
 }

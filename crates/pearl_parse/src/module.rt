@@ -173,11 +173,7 @@ fn head(tokens: &[Token], from: usize) -> Result<Reading<Option<ModuleName>>, Ha
     word(tokens, from, from, MODULE)?;
     let name = module_name(tokens, from + 1)?;
     symbol(tokens, name.end, name.stop, SEMICOLON)?;
-    Ok(Reading {
-        part: name.part,
-        end: name.end + 1,
-        stop: name.end + 1,
-    })
+    Ok(name.past(1))
 }
 
 /// The end of the tokens.

@@ -58,14 +58,7 @@ pub fn maybe_after(
             stop: from.max(least_stop),
         });
     }
-    match after(alloc, tokens, from, least_stop, word) {
-        Ok(read) => Ok(Reading {
-            part: Some(read.part),
-            end: read.end,
-            stop: read.stop,
-        }),
-        Err(halt) => Err(halt),
-    }
+    Ok(after(alloc, tokens, from, least_stop, word)?.map(Some))
 }
 
 /// `[ UNTIL expr | DURING expr ]`
@@ -81,30 +74,14 @@ fn maybe_end(
     ensures optional { IfOk result (λ reading. schedules.SpellsOptionalEnd tokens.now from reading.part reading.end) }
 {
     if is_word(tokens, from, UNTIL) {
-        return match after(alloc, tokens, from, least_stop, UNTIL) {
-            Ok(time) => Ok(Reading {
-                part: Some(PeriodEnd::Until {
-                    time: time.part,
-                    place: place_at(tokens, from),
-                }),
-                end: time.end,
-                stop: time.stop,
-            }),
-            Err(halt) => Err(halt),
-        };
+        let time = after(alloc, tokens, from, least_stop, UNTIL)?;
+        let place = place_at(tokens, from);
+        return Ok(time.map(|time| Some(PeriodEnd::Until { time, place })));
     }
     if is_word(tokens, from, DURING) {
-        return match after(alloc, tokens, from, least_stop, DURING) {
-            Ok(duration) => Ok(Reading {
-                part: Some(PeriodEnd::During {
-                    duration: duration.part,
-                    place: place_at(tokens, from),
-                }),
-                end: duration.end,
-                stop: duration.stop,
-            }),
-            Err(halt) => Err(halt),
-        };
+        let duration = after(alloc, tokens, from, least_stop, DURING)?;
+        let place = place_at(tokens, from);
+        return Ok(duration.map(|duration| Some(PeriodEnd::During { duration, place })));
     }
     Ok(Reading {
         part: None,
@@ -127,15 +104,12 @@ pub fn period(
 {
     let duration = after(alloc, tokens, from, least_stop, ALL)?;
     let end = maybe_end(alloc, tokens, duration.end, duration.stop)?;
-    Ok(Reading {
-        part: Period {
-            duration: duration.part,
-            end: end.part,
-            place: place_at(tokens, from),
-        },
-        end: end.end,
-        stop: end.stop,
-    })
+    let place = place_at(tokens, from);
+    Ok(end.map(|end| Period {
+        duration: duration.part,
+        end,
+        place,
+    }))
 }
 
 /// `[ ALL expr [ UNTIL expr | DURING expr ] ]`
@@ -156,12 +130,5 @@ pub fn maybe_period(
             stop: from.max(least_stop),
         });
     }
-    match period(alloc, tokens, from, least_stop) {
-        Ok(read) => Ok(Reading {
-            part: Some(read.part),
-            end: read.end,
-            stop: read.stop,
-        }),
-        Err(halt) => Err(halt),
-    }
+    Ok(period(alloc, tokens, from, least_stop)?.map(Some))
 }

@@ -40,14 +40,7 @@ fn system(alloc: Global, tokens: &[Token], from: usize) -> Result<Reading<Parts<
     ensures { Reads 16 SpellsSystem is_name tokens.now from result }
 {
     symbol(tokens, from + 1, from, SEMICOLON)?;
-    match each(alloc, tokens, from + 2) {
-        Ok(devices) => Ok(Reading {
-            part: Parts::new(devices.part),
-            end: devices.end,
-            stop: devices.stop,
-        }),
-        Err(_) => Err(Halt::NoMemory),
-    }
+    Ok(each(alloc, tokens, from + 2)?.map(Parts::new))
 }
 
 /// `[ SYSTEM ";" { device } ]`
@@ -66,14 +59,7 @@ fn maybe_system(
             stop: from,
         });
     }
-    match system(alloc, tokens, from) {
-        Ok(devices) => Ok(Reading {
-            part: Some(devices.part),
-            end: devices.end,
-            stop: devices.stop,
-        }),
-        Err(halt) => Err(halt),
-    }
+    Ok(system(alloc, tokens, from)?.map(Some))
 }
 
 /// `[ SYSTEM ";" { device } ] PROBLEM ";"`

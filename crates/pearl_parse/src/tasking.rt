@@ -1,12 +1,13 @@
 // Statements that schedule tasks, or name tasks, semaphores or interrupts.
 
-ghost use Rattle.std.specs.Prelude.{◌+◌, ◌<◌, ◌≤◌, length, ◌≡◌, ℕ, List};
-ghost use Rattle.pearl_tree.specs.Standing.{HasWord, SpellsMaybe, IsAt};
+ghost use Rattle.std.specs.Prelude.{◌+◌, ◌<◌, ◌≤◌, length, ◌≡◌, ℕ, List, false};
+ghost use Rattle.pearl_tree.specs.Standing.{what_at, HasWord, IsName, SpellsMaybe, IsAt};
 ghost use Rattle.pearl_tree.specs.Statements.{SpellsPeriod, SpellsAfter, SpellsStart, SpellsOnce, task_word, interrupt_word, sema_word};
 ghost use Rattle.pearl_parse_expr.specs.declared.reading.Halt.{Halt};
 ghost use Rattle.pearl_parse.specs.Reads.{ReadsOnlyBehind, ReadsStatement};
 ghost use Rattle.pearl_tree.specs.declared.token.Token.{Token};
 ghost use Rattle.pearl_parse_decl.specs.Readings.{by_comma, never};
+ghost use Rattle.pearl_parse_expr.specs.Stops.{is_word};
 ghost use Rattle.pearl_parse_expr.specs.Reads.{ReadsList};
 ghost use Rattle.pearl_tree.specs.declared.word_code.TheConstants as w;
 ghost use Rattle.pearl_parse.specs.Stops as spec;
@@ -52,14 +53,11 @@ fn activate(
     let task = name(tokens, from + 1, least_stop)?;
     let priority = maybe_after(alloc, tokens, from + 2, least_stop, PRIO)?;
     symbol(tokens, priority.end, priority.stop, SEMICOLON)?;
-    Ok(Reading {
-        part: Activation {
-            task,
-            priority: priority.part,
-        },
-        end: priority.end + 1,
-        stop: priority.stop.max(priority.end + 1),
-    })
+    Ok(
+        priority
+            .past(1)
+            .map(|priority| Activation { task, priority }),
+    )
 }
 
 /// An activation with the period before it.
@@ -82,14 +80,10 @@ fn maybe_periodic(
 {
     let period = maybe_period(alloc, tokens, from, least_stop)?;
     let activation = activate(alloc, tokens, period.end, period.stop)?;
-    Ok(Reading {
-        part: Begun {
-            period: period.part,
-            activation: activation.part,
-        },
-        end: activation.end,
-        stop: activation.stop,
-    })
+    Ok(activation.map(|activation| Begun {
+        period: period.part,
+        activation,
+    }))
 }
 
 /// `ACTIVATE id [ PRIO expr ] ";"` with no start before it
@@ -103,17 +97,14 @@ pub fn immediate_activation(
     ensures { ReadsStatement tokens.now from result }
 {
     let activation = activate(alloc, tokens, from, from)?;
-    let activate = Activate {
+    let place = place_at(tokens, from);
+    let activate = activation.map(|activation| Activate {
         start: None,
-        task: activation.part.task,
-        priority: activation.part.priority,
-        place: place_at(tokens, from),
-    };
-    Ok(Reading {
-        part: Stmt::Activate(boxed(alloc, activate)?),
-        end: activation.end,
-        stop: activation.stop,
-    })
+        task: activation.task,
+        priority: activation.priority,
+        place,
+    });
+    Ok(activate.boxed(alloc)?.map(Stmt::Activate))
 }
 
 /// `CONTINUE id ";"` with no time before it
@@ -148,17 +139,14 @@ pub fn periodic(alloc: Global, tokens: &[Token], from: usize) -> Result<Reading<
 {
     let period = period(alloc, tokens, from, from)?;
     let activation = activate(alloc, tokens, period.end, period.stop)?;
-    let activate = Activate {
+    let place = place_at(tokens, from);
+    let activate = activation.map(|activation| Activate {
         start: Some(Start::All(period.part)),
-        task: activation.part.task,
-        priority: activation.part.priority,
-        place: place_at(tokens, from),
-    };
-    Ok(Reading {
-        part: Stmt::Activate(boxed(alloc, activate)?),
-        end: activation.end,
-        stop: activation.stop,
-    })
+        task: activation.task,
+        priority: activation.priority,
+        place,
+    });
+    Ok(activate.boxed(alloc)?.map(Stmt::Activate))
 }
 
 fn time_word(later: bool) -> u8
@@ -214,41 +202,59 @@ pub fn timed(
     if is_word(tokens, time.end, CONTINUE) {
         let task = name(tokens, time.end + 1, time.stop)?;
         symbol(tokens, time.end + 2, time.stop, SEMICOLON)?;
-        let continuation = Continue {
-            once: Some(once_of(later, time.part, place)),
+        let once = time.past(3).map(|time| once_of(later, time, place));
+        let continuation = once.map(|once| Continue {
+            once: Some(once),
             task,
             place,
-        };
-        return Ok(Reading {
-            part: Stmt::Continue(boxed(alloc, continuation)?),
-            end: time.end + 3,
-            stop: time.stop.max(time.end + 3),
         });
+        return Ok(continuation.boxed(alloc)?.map(Stmt::Continue));
     }
     if is_word(tokens, time.end, RESUME) {
         symbol(tokens, time.end + 1, time.stop, SEMICOLON)?;
-        let resume = Resume {
-            once: once_of(later, time.part, place),
-            place,
-        };
-        return Ok(Reading {
-            part: Stmt::Resume(boxed(alloc, resume)?),
-            end: time.end + 2,
-            stop: time.stop.max(time.end + 2),
-        });
+        let once = time.past(2).map(|time| once_of(later, time, place));
+        let resume = once.map(|once| Resume { once, place });
+        return Ok(resume.boxed(alloc)?.map(Stmt::Resume));
     }
     let begun = maybe_periodic(alloc, tokens, time.end, time.stop)?;
-    let activate = Activate {
-        start: Some(start_of(later, time.part, begun.part.period, place)),
-        task: begun.part.activation.task,
-        priority: begun.part.activation.priority,
+    let activate = begun.map(|begun| Activate {
+        start: Some(start_of(later, time.part, begun.period, place)),
+        task: begun.activation.task,
+        priority: begun.activation.priority,
         place,
-    };
-    Ok(Reading {
-        part: Stmt::Activate(boxed(alloc, activate)?),
-        end: begun.end,
-        stop: begun.stop,
-    })
+    });
+    Ok(activate.boxed(alloc)?.map(Stmt::Activate))
+}
+
+/// `WHEN id`, which stands here, and behind it `[ AFTER expr ] [ all ] ACTIVATE id [ PRIO expr ] ";"`
+fn activation_by_interrupt(
+    alloc: Global,
+    tokens: &[Token],
+    from: usize,
+    interrupt: Name,
+) -> Result<Reading<Stmt>, Halt>
+    requires within { from + 1 < length tokens.now }
+    requires word { HasWord tokens.now from w.WHEN }
+    requires name { IsName tokens.now (from + 1) interrupt }
+    requires no_continue { is_word w.CONTINUE (what_at tokens.now (from + 2)) ≡ false }
+    requires no_resume { is_word w.RESUME (what_at tokens.now (from + 2)) ≡ false }
+    ensures { ReadsStatement tokens.now from result }
+{
+    let place = place_at(tokens, from);
+    let after = maybe_after(alloc, tokens, from + 2, from + 2, AFTER)?;
+    let begun = maybe_periodic(alloc, tokens, after.end, after.stop)?;
+    let activate = begun.map(|begun| Activate {
+        start: Some(Start::When {
+            interrupt,
+            after: after.part,
+            period: begun.period,
+            place,
+        }),
+        task: begun.activation.task,
+        priority: begun.activation.priority,
+        place,
+    });
+    Ok(activate.boxed(alloc)?.map(Stmt::Activate))
 }
 
 /// `WHEN id`, and behind it `[ AFTER expr ] [ all ] ACTIVATE id [ PRIO expr ] ";"`, `CONTINUE id ";"` or `RESUME ";"`
@@ -285,24 +291,7 @@ pub fn when(alloc: Global, tokens: &[Token], from: usize) -> Result<Reading<Stmt
             stop: from + 4,
         });
     }
-    let after = maybe_after(alloc, tokens, from + 2, from + 2, AFTER)?;
-    let begun = maybe_periodic(alloc, tokens, after.end, after.stop)?;
-    let activate = Activate {
-        start: Some(Start::When {
-            interrupt,
-            after: after.part,
-            period: begun.part.period,
-            place,
-        }),
-        task: begun.part.activation.task,
-        priority: begun.part.activation.priority,
-        place,
-    };
-    Ok(Reading {
-        part: Stmt::Activate(boxed(alloc, activate)?),
-        end: begun.end,
-        stop: begun.stop,
-    })
+    activation_by_interrupt(alloc, tokens, from, interrupt)
 }
 
 /// `( SUSPEND | TERMINATE | PREVENT ) [ id ] ";"`
@@ -318,16 +307,9 @@ pub fn on_task(
 {
     let task = maybe_name(tokens, from + 1);
     symbol(tokens, task.end, task.stop, SEMICOLON)?;
-    let on_task = OnTask {
-        word,
-        task: task.part,
-        place: place_at(tokens, from),
-    };
-    Ok(Reading {
-        part: Stmt::OnTask(boxed(alloc, on_task)?),
-        end: task.end + 1,
-        stop: task.stop.max(task.end + 1),
-    })
+    let place = place_at(tokens, from);
+    let on_task = task.past(1).map(|task| OnTask { word, task, place });
+    Ok(on_task.boxed(alloc)?.map(Stmt::OnTask))
 }
 
 /// `id { "," id }`
@@ -351,16 +333,10 @@ pub fn on_semas(
 {
     let names = name_list(alloc, tokens, from + 1)?;
     symbol(tokens, names.end, names.stop, SEMICOLON)?;
-    let on_semas = OnSemas {
-        word,
-        names: Parts::new(names.part),
-        place: place_at(tokens, from),
-    };
-    Ok(Reading {
-        part: Stmt::OnSemas(boxed(alloc, on_semas)?),
-        end: names.end + 1,
-        stop: names.stop.max(names.end + 1),
-    })
+    let place = place_at(tokens, from);
+    let names = names.past(1).map(Parts::new);
+    let on_semas = names.map(|names| OnSemas { word, names, place });
+    Ok(on_semas.boxed(alloc)?.map(Stmt::OnSemas))
 }
 
 /// `( ENABLE | DISABLE | TRIGGER ) id ";"`

@@ -40,11 +40,7 @@ fn formats(
             if !is_symbol(tokens, list.end, SEMICOLON) {
                 return Err(Halt::Refused(list.stop.max(least_stop)));
             }
-            Ok(Reading {
-                part: list.part,
-                end: list.end + 1,
-                stop: list.stop.max(least_stop).max(list.end + 1),
-            })
+            Ok(list.no_earlier(least_stop).past(1))
         }
         Err(halt) => match halt {
             Halt::Refused(stop) => Err(Halt::Refused(stop.max(least_stop))),
@@ -74,14 +70,7 @@ fn station(
     let dation = name(tokens, from, least_stop)?;
     word_here(tokens, from + 1, least_stop, BY)?;
     let formats = formats(alloc, tokens, from + 2, least_stop)?;
-    Ok(Reading {
-        part: Transfer {
-            dation,
-            formats: formats.part,
-        },
-        end: formats.end,
-        stop: formats.stop,
-    })
+    Ok(formats.map(|formats| Transfer { dation, formats }))
 }
 
 /// `PUT [ expr { "," expr } ] TO id BY fmt { "," fmt } ";"`
@@ -136,16 +125,13 @@ pub fn send(alloc: Global, tokens: &[Token], from: usize) -> Result<Reading<Stmt
     word_here(tokens, value.end, value.stop, TO)?;
     let dation = name(tokens, value.end + 1, value.stop)?;
     symbol(tokens, value.end + 2, value.stop, SEMICOLON)?;
-    let send = Send {
-        value: value.part,
+    let place = place_at(tokens, from);
+    let send = value.past(3).map(|value| Send {
+        value,
         dation,
-        place: place_at(tokens, from),
-    };
-    Ok(Reading {
-        part: Stmt::Send(boxed(alloc, send)?),
-        end: value.end + 3,
-        stop: value.stop.max(value.end + 3),
-    })
+        place,
+    });
+    Ok(send.boxed(alloc)?.map(Stmt::Send))
 }
 
 /// `TAKE ref FROM id ";"`
@@ -158,14 +144,11 @@ pub fn take(alloc: Global, tokens: &[Token], from: usize) -> Result<Reading<Stmt
     word_here(tokens, target.end, target.stop, FROM)?;
     let dation = name(tokens, target.end + 1, target.stop)?;
     symbol(tokens, target.end + 2, target.stop, SEMICOLON)?;
-    let take = Take {
-        target: target.part,
+    let place = place_at(tokens, from);
+    let take = target.past(3).map(|target| Take {
+        target,
         dation,
-        place: place_at(tokens, from),
-    };
-    Ok(Reading {
-        part: Stmt::Take(boxed(alloc, take)?),
-        end: target.end + 3,
-        stop: target.stop.max(target.end + 3),
-    })
+        place,
+    });
+    Ok(take.boxed(alloc)?.map(Stmt::Take))
 }

@@ -31,10 +31,7 @@ pub fn length_of(tokens: &[Token], from: usize) -> Result<Reading<Decl>, Halt>
         Some(sort) => sort,
         None => return Err(Halt::Refused(from + 1)),
     };
-    let number = match bracketed_number(tokens, from + 2) {
-        Ok(number) => number,
-        Err(halt) => return Err(halt),
-    };
+    let number = bracketed_number(tokens, from + 2)?;
     if !is_symbol(tokens, from + 5, SEMICOLON) {
         return Err(Halt::Refused(from + 5));
     }
@@ -59,10 +56,7 @@ pub fn type_of(alloc: Global, tokens: &[Token], from: usize) -> Result<Reading<D
         Some(name) => name,
         None => return Err(Halt::Refused(from + 1)),
     };
-    let typing = match typing(alloc, tokens, from + 2, STRUCTS_MAX) {
-        Ok(typing) => typing,
-        Err(halt) => return Err(halt),
-    };
+    let typing = typing(alloc, tokens, from + 2, STRUCTS_MAX)?;
     if !is_symbol(tokens, typing.end, SEMICOLON) {
         return Err(Halt::Refused(typing.stop));
     }
@@ -84,10 +78,7 @@ pub fn declare(alloc: Global, tokens: &[Token], from: usize) -> Result<Reading<D
     requires word { HasWord tokens.now from w.DCL }
     ensures { ReadsOnly 16 modules.SpellsDecl tokens.now from result }
 {
-    let parts = match list::<Declared>(alloc, tokens, from + 1) {
-        Ok(parts) => parts,
-        Err(halt) => return Err(halt),
-    };
+    let parts = list::<Declared>(alloc, tokens, from + 1)?;
     if !is_symbol(tokens, parts.end, SEMICOLON) {
         return Err(Halt::Refused(parts.stop));
     }
@@ -108,10 +99,7 @@ pub fn specify(alloc: Global, tokens: &[Token], from: usize) -> Result<Reading<D
     requires word { HasWord tokens.now from w.SPC }
     ensures { ReadsOnly 16 modules.SpellsDecl tokens.now from result }
 {
-    let parts = match list::<Spec>(alloc, tokens, from + 1) {
-        Ok(parts) => parts,
-        Err(halt) => return Err(halt),
-    };
+    let parts = list::<Spec>(alloc, tokens, from + 1)?;
     if !is_symbol(tokens, parts.end, SEMICOLON) {
         return Err(Halt::Refused(parts.stop));
     }

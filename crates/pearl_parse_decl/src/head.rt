@@ -30,10 +30,7 @@ pub fn param(alloc: Global, tokens: &[Token], from: usize) -> Result<Reading<Par
     requires { from ≤ length tokens.now }
     ensures { Reads 16 grammar.SpellsParam spec.extends_param tokens.now from result }
 {
-    let names = match names(alloc, tokens, from) {
-        Ok(names) => names,
-        Err(halt) => return Err(halt),
-    };
+    let names = names(alloc, tokens, from)?;
     let basic = match basic(tokens, names.end) {
         Ok(basic) => basic,
         Err(halt) => return Err(behind(halt, names.stop)),
@@ -137,10 +134,7 @@ fn returned(tokens: &[Token], from: usize) -> Result<Reading<Basic>, Halt>
     if !is_symbol(tokens, from + 1, LEFT_ROUND) {
         return Err(Halt::Refused(from + 1));
     }
-    let basic = match basic(tokens, from + 2) {
-        Ok(basic) => basic,
-        Err(halt) => return Err(halt),
-    };
+    let basic = basic(tokens, from + 2)?;
     if !is_symbol(tokens, basic.end, RIGHT_ROUND) {
         return Err(Halt::Refused(basic.stop));
     }

@@ -35,20 +35,14 @@ fn item_behind(
     ensures far { IfOk result (λ reading. names.stop ≤ reading.stop) }
     ensures past { IfErr result (λ halt. spec.IsPast names.stop halt) }
 {
-    let bounds = match bounds(alloc, tokens, names.end) {
-        Ok(bounds) => bounds,
-        Err(halt) => return Err(halt),
-    };
+    let bounds = bounds(alloc, tokens, names.end)?;
     let inv = flag(tokens, bounds.end, INV);
     let before = names.stop.max(bounds.stop).max(inv.stop);
     let typing = match typing(alloc, tokens, inv.end, STRUCTS_MAX) {
         Ok(typing) => typing,
         Err(halt) => return Err(behind(halt, before)),
     };
-    let init = match maybe_headed::<Const>(alloc, tokens, typing.end, INIT) {
-        Ok(init) => init,
-        Err(halt) => return Err(halt),
-    };
+    let init = maybe_headed::<Const>(alloc, tokens, typing.end, INIT)?;
     Ok(Reading {
         part: Item {
             names: names.part,
@@ -90,10 +84,7 @@ fn sema_behind(
     if !is_word(tokens, names.end, SEMA) {
         return Err(Halt::Refused(names.stop));
     }
-    let preset = match maybe_headed::<Number>(alloc, tokens, names.end + 1, PRESET) {
-        Ok(preset) => preset,
-        Err(halt) => return Err(halt),
-    };
+    let preset = maybe_headed::<Number>(alloc, tokens, names.end + 1, PRESET)?;
     Ok(Reading {
         part: Sema {
             names: names.part,
@@ -110,10 +101,7 @@ pub fn declared(alloc: Global, tokens: &[Token], from: usize) -> Result<Reading<
     requires { from ≤ length tokens.now }
     ensures { Reads 16 grammar.SpellsDeclared spec.extends_declared tokens.now from result }
 {
-    let names = match names(alloc, tokens, from) {
-        Ok(names) => names,
-        Err(halt) => return Err(halt),
-    };
+    let names = names(alloc, tokens, from)?;
     if is_word(tokens, names.end, SEMA) {
         return match sema_behind(alloc, tokens, from, names) {
             Ok(sema) => Ok(Reading {

@@ -61,10 +61,7 @@ pub fn list<P: Readable>(
     ensures reads { ReadsList 16 (λ tokens. SpellsList tokens (P.spelling tokens)) (spec.by_comma P.extends) tokens.now from result }
     ensures contained { spec.IsSelfContained P.spelling }
 {
-    let first = match P::read(alloc, tokens, from) {
-        Ok(first) => first,
-        Err(halt) => return Err(halt),
-    };
+    let first = P::read(alloc, tokens, from)?;
     let mut list = Reading::one(alloc, first)?;
     'each: while is_symbol(tokens, list.end, COMMA) {
         match P::read(alloc, tokens, list.end + 1) {
@@ -89,10 +86,7 @@ pub fn bracketed<P: Readable>(
     if !is_symbol(tokens, from, LEFT_ROUND) {
         return Err(Halt::Refused(from));
     }
-    let inner = match list(alloc, tokens, from + 1) {
-        Ok(inner) => inner,
-        Err(halt) => return Err(halt),
-    };
+    let inner = list(alloc, tokens, from + 1)?;
     if !is_symbol(tokens, inner.end, RIGHT_ROUND) {
         return Err(Halt::Refused(inner.stop));
     }

@@ -176,10 +176,7 @@ pub fn specified(alloc: Global, tokens: &[Token], from: usize) -> Result<Reading
     requires { from ≤ length tokens.now }
     ensures { Reads 16 grammar.SpellsSpec spec.extends_spec tokens.now from result }
 {
-    let names = match names(alloc, tokens, from) {
-        Ok(names) => names,
-        Err(halt) => return Err(halt),
-    };
+    let names = names(alloc, tokens, from)?;
     if is_word(tokens, names.end, INTERRUPT) {
         let names = names.past(1);
         return Ok(Reading {
@@ -246,10 +243,7 @@ pub fn device(tokens: &[Token], from: usize) -> Result<Reading<Device>, Halt>
         Some(word) => word,
         None => return Err(Halt::Refused(from + 2)),
     };
-    let number = match bracketed_number(tokens, from + 3) {
-        Ok(number) => number,
-        Err(halt) => return Err(halt),
-    };
+    let number = bracketed_number(tokens, from + 3)?;
     if !is_symbol(tokens, from + 6, SEMICOLON) {
         return Err(Halt::Refused(from + 6));
     }

@@ -80,10 +80,7 @@ pub fn bound(tokens: &[Token], from: usize) -> Result<Reading<Bound>, Halt>
     ensures reads { Reads 16 grammar.SpellsBound spec.by_colon tokens.now from result }
     ensures memory { IfErr result (λ halt. halt ≢ Halt.NoMemory) }
 {
-    let first = match int(tokens, from) {
-        Ok(first) => first,
-        Err(halt) => return Err(halt),
-    };
+    let first = int(tokens, from)?;
     let second = upper(tokens, first.end);
     Ok(Reading {
         part: Bound {
@@ -233,10 +230,7 @@ fn structure(
     if !is_symbol(tokens, from + 1, LEFT_SQUARE) {
         return Err(Halt::Refused(from + 1));
     }
-    let inner = match fields(alloc, tokens, from + 2, depth - 1) {
-        Ok(inner) => inner,
-        Err(halt) => return Err(halt),
-    };
+    let inner = fields(alloc, tokens, from + 2, depth - 1)?;
     if !is_symbol(tokens, inner.end, RIGHT_SQUARE) {
         return Err(Halt::Refused(inner.stop));
     }
@@ -261,10 +255,7 @@ fn fields(
     requires { from ≤ length tokens.now }
     ensures { ReadsList 16 (λ tokens. SpellsList tokens (grammar.SpellsField tokens depth)) (spec.by_comma spec.by_bracket) tokens.now from result }
 {
-    let first = match field(alloc, tokens, from, depth) {
-        Ok(first) => first,
-        Err(halt) => return Err(halt),
-    };
+    let first = field(alloc, tokens, from, depth)?;
     let mut list = Reading::one(alloc, first)?;
     'each: while is_symbol(tokens, list.end, COMMA) {
         match field(alloc, tokens, list.end + 1, depth) {
@@ -280,14 +271,8 @@ fn field(alloc: Global, tokens: &[Token], from: usize, depth: u8) -> Result<Read
     requires { from ≤ length tokens.now }
     ensures { Reads 16 (λ tokens. grammar.SpellsField tokens depth) spec.by_bracket tokens.now from result }
 {
-    let names = match names(alloc, tokens, from) {
-        Ok(names) => names,
-        Err(halt) => return Err(halt),
-    };
-    let bounds = match bounds(alloc, tokens, names.end) {
-        Ok(bounds) => bounds,
-        Err(halt) => return Err(halt),
-    };
+    let names = names(alloc, tokens, from)?;
+    let bounds = bounds(alloc, tokens, names.end)?;
     let stop = names.stop.max(bounds.stop);
     let typing = match typing(alloc, tokens, bounds.end, depth) {
         Ok(typing) => typing,

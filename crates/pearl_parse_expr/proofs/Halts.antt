@@ -1,5 +1,6 @@
 -- Why a part is not read, where what it begins with is not.
-use Rattle.std.proofs.Common.{◌≡◌, ℕ, ◌≤◌, List, Result, Ok, Err, IfOk, IfErr, length, subst, arith}
+use Rattle.std.proofs.Common.{◌≡◌, ℕ, ◌≤◌, List, Result, Ok, Err, IfOk, IfErr, length, ap, subst, arith}
+use Rattle.std.specs.Result.{IsErr, IsErrAnd}
 use Rattle.pearl_tree.specs.declared.token.Token.{Token}
 use Rattle.pearl_tree.specs.Standing.{Spelling}
 use Rattle.pearl_parse_expr.specs.declared.reading.Halt.{Halt}
@@ -42,3 +43,9 @@ pub stuck_of : {X : Type 0} (spells : List Token → Spelling X) (tokens : List 
     halt ≡ Refused stop →
     IsHalted spells tokens from halt → Stuck spells tokens from stop × (from ≤ stop) × (stop ≤ length tokens)
 stuck_of spells tokens from stop halt is h = subst (λ halt. IsHalted spells tokens from halt) is h
+
+-- what `?` hands on
+pub residual : {X E : Type 0} (told : E) (result : Result X E) → IsErr result × IsErrAnd result (λ e. e ≡ told) →
+    result ≡ Err told
+residual told (Ok x) h = absurd h.1
+residual told (Err e) h = ap Err h.1

@@ -23,3 +23,4 @@ pub mod CommaLists
 pub mod Joining
 pub mod PartsBegin
 pub mod OneStop
+pub mod Fields

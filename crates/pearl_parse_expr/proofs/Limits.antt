@@ -1,6 +1,7 @@
 -- What other tokens can spell that begin with [ number ] ( LWB | UPB ), and with monadic operators.
 use Rattle.std.proofs.Common.{◌≡◌, ℕ, zero, suc, ◌+◌, ◌<◌, ◌≤◌, true, List, [], ◌∷◌, length, Option, Some}
-use Rattle.std.proofs.Common.{None, ◌⊎◌, inl, inr, sym, ap, subst, ◌∙◌, arith, true≢false, eqb-true, ◌==◌}
+use Rattle.std.proofs.Common.{None, ◌⊎◌, inl, inr, refl, sym, ap, subst, ◌∙◌, arith, true≢false, eqb-true, ◌==◌}
+use Rattle.std.proofs.Common.{Bool, false, ◌||◌, if◌then◌else◌}
 use Rattle.std.specs.Option.{is_some, option_and_then}
 use Rattle.pearl_tree.specs.declared.name.Number.{Number}
 use Rattle.pearl_value.specs.declared.operator.Monad.{Monad}
@@ -20,7 +21,7 @@ use Rattle.pearl_tree.specs.declared.word_code.TheConstants as w
 use Rattle.pearl_tree.specs.declared.symbol.TheConstants as s
 use Rattle.pearl_tree.specs.Stops.{BeginAlike}
 use Rattle.pearl_parse_expr.specs.Stops.{IsLongest, Stuck, EndsEarly, is_number, is_side, is_literal, is_name}
-use Rattle.pearl_parse_expr.specs.Stops.{is_symbol, is_word, monad_of, is_monad, extends_operand, SpellsNamed}
+use Rattle.pearl_parse_expr.specs.Stops.{is_symbol, is_word, monad_of, extends_monadics, extends_operand, SpellsNamed}
 use Rattle.pearl_parse_expr.specs.Stops.{SpellsMonadics, SpellsSigned}
 use Rattle.pearl_parse_expr.proofs.Primaries.{clash, or_absurd, side_head, Head, first_token, only_limit}
 use Rattle.pearl_parse_expr.proofs.Primaries.{only_counted_limit}
@@ -71,12 +72,13 @@ limit_others tokens others depth from word stop (Some dimension) side number sta
     (only_counted_limit others depth from here (side_head (what_at others (from + 1)) side at) x to h)
 
 -- how far into the tokens the monadic operators go
-monad_stands : (token : Option What) (operator : Monad) → token ≡ Some (monad_what operator) → is_monad token ≡ true
-monad_stands token monad.Plus h = ap is_monad h
-monad_stands token monad.Minus h = ap is_monad h
-monad_stands token monad.Abs h = ap is_monad h
-monad_stands token monad.Sign h = ap is_monad h
-monad_stands token monad.Not h = ap is_monad h
+monad_stands : (token : Option What) (operator : Monad) → token ≡ Some (monad_what operator) → extends_monadics token ≡
+    true
+monad_stands token monad.Plus h = ap extends_monadics h
+monad_stands token monad.Minus h = ap extends_monadics h
+monad_stands token monad.Abs h = ap extends_monadics h
+monad_stands token monad.Sign h = ap extends_monadics h
+monad_stands token monad.Not h = ap extends_monadics h
 
 pub each_ends : (tokens : List Token) (from : ℕ) (list : List Monadic) (to : ℕ) →
     SpellsEach (SpellsMonadic tokens) from list to → to ≡ from + length list
@@ -85,16 +87,43 @@ each_ends tokens from (x ∷ xs) to h = omega (arith, each_ends tokens h.0 xs to
 
 each_stands : (tokens : List Token) (from : ℕ) (list : List Monadic) (to i : ℕ) →
     SpellsEach (SpellsMonadic tokens) from list to →
-    i < length list → is_monad (what_at tokens (from + i)) ≡ true
+    i < length list → extends_monadics (what_at tokens (from + i)) ≡ true
 each_stands tokens from [] to i h below = absurd (omega arith)
 each_stands tokens from (x ∷ xs) to zero h below =
     let same : from ≡ from + zero = omega arith in
-    subst (λ k. is_monad (what_at tokens k) ≡ true) same (monad_stands (what_at tokens from) x.operator h.1.0)
+    subst (λ k. extends_monadics (what_at tokens k) ≡ true) same (monad_stands (what_at tokens from) x.operator h.1.0)
 each_stands tokens from (x ∷ xs) to (suc i) h below =
     let same : h.0 + i ≡ from + suc i = omega (arith, h.1.2) in
-    subst (λ k. is_monad (what_at tokens k) ≡ true) same (each_stands tokens h.0 xs to i h.2 (omega arith))
+    subst (λ k. extends_monadics (what_at tokens k) ≡ true) same (each_stands tokens h.0 xs to i h.2 (omega arith))
 
-literal_is_no_monad : (token : Option What) → is_literal token ≡ true → is_monad token ≡ true → ⊥
+-- where no operator stands, none goes on
+no_sign : (plus minus : Bool) → (if plus then Some monad.Plus else (if minus then Some monad.Minus else None)) ≡ None →
+    plus || minus ≡ false
+no_sign true minus h = absurd (true≢false (ap is_some h))
+no_sign false true h = absurd (true≢false (ap is_some h))
+no_sign false false h = refl
+
+no_word : (abs sign not : Bool) →
+    (if abs then Some monad.Abs else (if sign then Some monad.Sign else (if not then Some monad.Not else None))) ≡ None
+    →
+    abs || (sign || not) ≡ false
+no_word true sign not h = absurd (true≢false (ap is_some h))
+no_word false true not h = absurd (true≢false (ap is_some h))
+no_word false false true h = absurd (true≢false (ap is_some h))
+no_word false false false h = refl
+
+none_extends : (token : Option What) → option_and_then monad_of token ≡ None → extends_monadics token ≡ false
+none_extends (Some (what.Word code)) h = no_word (code == w.ABS) (code == w.SIGN) (code == w.NOT) h
+none_extends (Some (what.Id text)) h = refl
+none_extends (Some (what.Number value)) h = refl
+none_extends (Some (what.Decimal whole thousandths)) h = refl
+none_extends (Some (what.Clock milliseconds)) h = refl
+none_extends (Some (what.Bits len value)) h = refl
+none_extends (Some (what.Text text)) h = refl
+none_extends (Some (what.Symbol symbol)) h = no_sign (symbol == s.PLUS) (symbol == s.MINUS) h
+none_extends None h = refl
+
+literal_is_no_monad : (token : Option What) → is_literal token ≡ true → extends_monadics token ≡ true → ⊥
 literal_is_no_monad (Some (what.Word code)) h sign = true≢false (sym h)
 literal_is_no_monad (Some (what.Id text)) h sign = true≢false (sym sign)
 literal_is_no_monad (Some (what.Number value)) h sign = true≢false (sym sign)
@@ -105,7 +134,7 @@ literal_is_no_monad (Some (what.Text text)) h sign = true≢false (sym sign)
 literal_is_no_monad (Some (what.Symbol symbol)) h sign = true≢false (sym h)
 literal_is_no_monad None h sign = true≢false (sym sign)
 
-name_is_no_monad : (token : Option What) → is_name token ≡ true → is_monad token ≡ true → ⊥
+name_is_no_monad : (token : Option What) → is_name token ≡ true → extends_monadics token ≡ true → ⊥
 name_is_no_monad (Some (what.Word code)) h sign = true≢false (sym h)
 name_is_no_monad (Some (what.Id text)) h sign = true≢false (sym sign)
 name_is_no_monad (Some (what.Number value)) h sign = true≢false (sym sign)
@@ -116,7 +145,7 @@ name_is_no_monad (Some (what.Text text)) h sign = true≢false (sym sign)
 name_is_no_monad (Some (what.Symbol symbol)) h sign = true≢false (sym h)
 name_is_no_monad None h sign = true≢false (sym sign)
 
-number_is_no_monad : (token : Option What) → is_number token ≡ true → is_monad token ≡ true → ⊥
+number_is_no_monad : (token : Option What) → is_number token ≡ true → extends_monadics token ≡ true → ⊥
 number_is_no_monad (Some (what.Word code)) h sign = true≢false (sym h)
 number_is_no_monad (Some (what.Id text)) h sign = true≢false (sym sign)
 number_is_no_monad (Some (what.Number value)) h sign = true≢false (sym sign)
@@ -127,7 +156,7 @@ number_is_no_monad (Some (what.Text text)) h sign = true≢false (sym sign)
 number_is_no_monad (Some (what.Symbol symbol)) h sign = true≢false (sym h)
 number_is_no_monad None h sign = true≢false (sym sign)
 
-bracket_is_no_monad : (token : Option What) → is_symbol s.LEFT_ROUND token ≡ true → is_monad token ≡ true → ⊥
+bracket_is_no_monad : (token : Option What) → is_symbol s.LEFT_ROUND token ≡ true → extends_monadics token ≡ true → ⊥
 bracket_is_no_monad (Some (what.Word code)) h sign = true≢false (sym h)
 bracket_is_no_monad (Some (what.Id text)) h sign = true≢false (sym sign)
 bracket_is_no_monad (Some (what.Number value)) h sign = true≢false (sym sign)
@@ -136,12 +165,12 @@ bracket_is_no_monad (Some (what.Clock milliseconds)) h sign = true≢false (sym 
 bracket_is_no_monad (Some (what.Bits len value)) h sign = true≢false (sym sign)
 bracket_is_no_monad (Some (what.Text text)) h sign = true≢false (sym sign)
 bracket_is_no_monad (Some (what.Symbol symbol)) h sign =
-    clash _ sign (ap (λ k. is_monad (Some (what.Symbol k))) (eqb-true symbol s.LEFT_ROUND h))
+    clash _ sign (ap (λ k. extends_monadics (Some (what.Symbol k))) (eqb-true symbol s.LEFT_ROUND h))
 bracket_is_no_monad None h sign = true≢false (sym sign)
 
-now_is_no_monad : (token : Option What) → is_word w.NOW token ≡ true → is_monad token ≡ true → ⊥
+now_is_no_monad : (token : Option What) → is_word w.NOW token ≡ true → extends_monadics token ≡ true → ⊥
 now_is_no_monad (Some (what.Word code)) h sign =
-    clash _ sign (ap (λ k. is_monad (Some (what.Word k))) (eqb-true code w.NOW h))
+    clash _ sign (ap (λ k. extends_monadics (Some (what.Word k))) (eqb-true code w.NOW h))
 now_is_no_monad (Some (what.Id text)) h sign = true≢false (sym sign)
 now_is_no_monad (Some (what.Number value)) h sign = true≢false (sym sign)
 now_is_no_monad (Some (what.Decimal whole thousandths)) h sign = true≢false (sym sign)
@@ -151,9 +180,9 @@ now_is_no_monad (Some (what.Text text)) h sign = true≢false (sym sign)
 now_is_no_monad (Some (what.Symbol symbol)) h sign = true≢false (sym h)
 now_is_no_monad None h sign = true≢false (sym sign)
 
-try_is_no_monad : (token : Option What) → is_word w.TRY token ≡ true → is_monad token ≡ true → ⊥
+try_is_no_monad : (token : Option What) → is_word w.TRY token ≡ true → extends_monadics token ≡ true → ⊥
 try_is_no_monad (Some (what.Word code)) h sign =
-    clash _ sign (ap (λ k. is_monad (Some (what.Word k))) (eqb-true code w.TRY h))
+    clash _ sign (ap (λ k. extends_monadics (Some (what.Word k))) (eqb-true code w.TRY h))
 try_is_no_monad (Some (what.Id text)) h sign = true≢false (sym sign)
 try_is_no_monad (Some (what.Number value)) h sign = true≢false (sym sign)
 try_is_no_monad (Some (what.Decimal whole thousandths)) h sign = true≢false (sym sign)
@@ -163,11 +192,11 @@ try_is_no_monad (Some (what.Text text)) h sign = true≢false (sym sign)
 try_is_no_monad (Some (what.Symbol symbol)) h sign = true≢false (sym h)
 try_is_no_monad None h sign = true≢false (sym sign)
 
-side_is_no_monad : (token : Option What) → is_side token ≡ true → is_monad token ≡ true → ⊥
+side_is_no_monad : (token : Option What) → is_side token ≡ true → extends_monadics token ≡ true → ⊥
 side_is_no_monad (Some (what.Word code)) h sign =
     or_absurd (code == w.LWB) (code == w.UPB)
-    (λ lower. clash _ sign (ap (λ k. is_monad (Some (what.Word k))) (eqb-true code w.LWB lower)))
-    (λ upper. clash _ sign (ap (λ k. is_monad (Some (what.Word k))) (eqb-true code w.UPB upper))) h
+    (λ lower. clash _ sign (ap (λ k. extends_monadics (Some (what.Word k))) (eqb-true code w.LWB lower)))
+    (λ upper. clash _ sign (ap (λ k. extends_monadics (Some (what.Word k))) (eqb-true code w.UPB upper))) h
 side_is_no_monad (Some (what.Id text)) h sign = true≢false (sym sign)
 side_is_no_monad (Some (what.Number value)) h sign = true≢false (sym sign)
 side_is_no_monad (Some (what.Decimal whole thousandths)) h sign = true≢false (sym sign)
@@ -177,7 +206,7 @@ side_is_no_monad (Some (what.Text text)) h sign = true≢false (sym sign)
 side_is_no_monad (Some (what.Symbol symbol)) h sign = true≢false (sym h)
 side_is_no_monad None h sign = true≢false (sym sign)
 
-head_is_no_monad : (x : Primary) (token : Option What) → Head x token → is_monad token ≡ true → ⊥
+head_is_no_monad : (x : Primary) (token : Option What) → Head x token → extends_monadics token ≡ true → ⊥
 head_is_no_monad (primary.Literal part) token h sign = literal_is_no_monad token h sign
 head_is_no_monad (primary.Ref' name _ list place) token h sign = name_is_no_monad token h sign
 head_is_no_monad (primary.Group' _ inner place) token h sign = bracket_is_no_monad token h sign
@@ -202,31 +231,31 @@ module _ (tokens others : List Token) (from end : ℕ) (list : List Monadic)
     theirs_end : to ≡ from + length theirs
     theirs_end = each_ends others from theirs to h.1
 
-    fewer : length theirs < length list → EndsEarly is_monad others end to
+    fewer : length theirs < length list → EndsEarly extends_monadics others end to
     fewer below = (
       omega (arith, list_ends, theirs_end),
-      subst (λ k. is_monad (what_at others k) ≡ true) (sym theirs_end)
-          (ap is_monad (sym (agree (from + length theirs) (omega (arith, list_ends)))) ∙
+      subst (λ k. extends_monadics (what_at others k) ≡ true) (sym theirs_end)
+          (ap extends_monadics (sym (agree (from + length theirs) (omega (arith, list_ends)))) ∙
           each_stands tokens from list end (length theirs) each below),
     )
 
     no_more : length list < length theirs → ⊥
     no_more above = by all
       where
-        stands : is_monad (what_at tokens end) ≡ true
-        stands = ap is_monad (agree end (omega arith)) ∙
-            subst (λ k. is_monad (what_at others k) ≡ true) (sym list_ends)
+        stands : extends_monadics (what_at tokens end) ≡ true
+        stands = ap extends_monadics (agree end (omega arith)) ∙
+            subst (λ k. extends_monadics (what_at others k) ≡ true) (sym list_ends)
             (each_stands others from theirs to (length list) h.1 above)
 
         by : (length list ≡ 8) ⊎ (option_and_then monad_of (what_at tokens end) ≡ None) → ⊥
         by (inl full) = omega (arith, h.0)
-        by (inr none) = true≢false (sym stands ∙ ap is_some none)
+        by (inr none) = true≢false (sym stands ∙ none_extends (what_at tokens end) none)
 
-    pub monadics_longest : (to ≡ end) ⊎ EndsEarly is_monad others end to
+    pub monadics_longest : (to ≡ end) ⊎ EndsEarly extends_monadics others end to
     monadics_longest = by (order (length theirs) (length list))
       where
         by : (length theirs < length list) ⊎ (length list ≤ length theirs) →
-            (to ≡ end) ⊎ EndsEarly is_monad others end to
+            (to ≡ end) ⊎ EndsEarly extends_monadics others end to
         by (inl below) = inr (fewer below)
         by (inr near) =
             let same = same_size (length theirs) (length list) (λ below. omega arith) no_more in
@@ -235,11 +264,11 @@ module _ (tokens others : List Token) (from end : ℕ) (list : List Monadic)
 -- the operators before a primary end where the longest ones do
 pub same_monadics : (others : List Token) (depth from end : ℕ) →
     ((list : List Monadic) (to : ℕ) → SpellsMonadics others from list to →
-    (to ≡ end) ⊎ EndsEarly is_monad others end to) →
+    (to ≡ end) ⊎ EndsEarly extends_monadics others end to) →
     (x : Primary) (to : ℕ) → SpellsSigned others depth from x to → SpellsPrimary others depth end x to
 same_monadics others depth from end longest x to h = by (longest h.1 h.0 h.2)
   where
-    by : (h.0 ≡ end) ⊎ EndsEarly is_monad others end h.0 → SpellsPrimary others depth end x to
+    by : (h.0 ≡ end) ⊎ EndsEarly extends_monadics others end h.0 → SpellsPrimary others depth end x to
     by (inl same) = subst (λ k. SpellsPrimary others depth k x to) same h.3
     by (inr early) = absurd (head_is_no_monad x (what_at others h.0) (first_token others depth h.0 x to h.3) early.1)
 

@@ -18,7 +18,7 @@ use Rattle.pearl_parse_expr.specs.declared.reading.Halt.TheVariants.{Refused, No
 use Rattle.pearl_parse_expr.specs.declared.reading.Reading.{Reading}
 use Rattle.pearl_parse_expr.specs.Stops.{IsLongest, IsAhead, StopsWithin, extends_operand}
 use Rattle.pearl_parse_expr.specs.Stops.{extends_expression, SpellsOperand, SpellsSigned}
-use Rattle.pearl_parse_expr.specs.Stops.{SpellsSelectorsList, SpellsMonadics, monad_of, is_monad}
+use Rattle.pearl_parse_expr.specs.Stops.{SpellsSelectorsList, SpellsMonadics, monad_of, extends_monadics}
 use Rattle.pearl_parse_expr.specs.Least.{Reaches}
 use Rattle.pearl_parse_expr.specs.Readings.{ended}
 use Rattle.pearl_parse_expr.specs.Reads.{Reads, ReadsAs, ReadsMaybeList, ReadsOnly}
@@ -61,7 +61,7 @@ module _ (tokens : List Token) (from : ℕ) where
   pub monadics_read : {A : Type 0} (list : Reading (Vec Monadic A)) →
       MonadicsRead tokens from list.part.items list.end list.stop →
       (length list.part.items ≡ 8) ⊎ (option_and_then monad_of (what_at tokens list.end) ≡ None) →
-      ReadsMaybeList 16 SpellsMonadics is_monad tokens from (Ok list)
+      ReadsMaybeList 16 SpellsMonadics extends_monadics tokens from (Ok list)
   monadics_read list kept all =
       let after : from ≤ list.end = omega (arith, each_ends tokens from list.part.items list.end kept.spells.1) in
       record {

@@ -17,7 +17,7 @@ use Rattle.pearl_tree.proofs.ExpressionLists.{spells_ref}
 use Rattle.pearl_parse_expr.specs.declared.reading.Halt.{Halt}
 use Rattle.pearl_parse_expr.specs.declared.reading.Halt.TheVariants.{Refused}
 use Rattle.pearl_parse_expr.specs.declared.reading.Reading.{Reading}
-use Rattle.pearl_parse_expr.specs.Stops.{Stuck, extends_operand, is_name, is_monad, SpellsNamed}
+use Rattle.pearl_parse_expr.specs.Stops.{Stuck, extends_operand, is_name, extends_monadics, SpellsNamed}
 use Rattle.pearl_parse_expr.specs.Stops.{SpellsMonadics, SpellsOperand, SpellsSigned}
 use Rattle.pearl_parse_expr.specs.Least.{Reaches}
 use Rattle.pearl_parse_expr.specs.Reads.{Reads, ReadsAs, ReadsMaybeList}
@@ -67,7 +67,7 @@ module _ (tokens : List Token) (depth from : ℕ) where
   -- ---- an operand, whose operators were read
 
   module _ {A : Type 0} (monadics : Reading (Vec Monadic A))
-      (signs : ReadsMaybeList 16 SpellsMonadics is_monad tokens from (Ok monadics))
+      (signs : ReadsMaybeList 16 SpellsMonadics extends_monadics tokens from (Ok monadics))
       (once : monadics.stop ≡ monadics.end) where
     operand_ends : Ends (λ tokens. SpellsPrimary tokens depth) (λ tokens. SpellsSigned tokens depth) tokens from
         monadics.end

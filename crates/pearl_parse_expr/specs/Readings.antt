@@ -1,4 +1,4 @@
--- What becomes of a reading: with tokens more behind its part, and of a list as its parts are read.
+-- What becomes of a reading: with tokens more behind its part, with a later stop, and of a list as its parts are read.
 use Rattle.std.specs.Prelude.{◌≡◌, ℕ, ◌+◌, max, List, Vec, Result, Ok, Err}
 use Rattle.pearl_parse_expr.specs.declared.reading.Halt.{Halt}
 use Rattle.pearl_parse_expr.specs.declared.reading.Halt.TheVariants.{Refused, NoMemory}
@@ -10,6 +10,14 @@ past reading tokens = record {
   part = reading.part;
   end = reading.end + tokens;
   stop = max reading.stop (reading.end + tokens);
+}
+
+-- the same part, stopped no earlier than there
+abbrev pub no_earlier : {X : Type 0} → Reading X → ℕ → Reading X
+no_earlier reading least_stop = record {
+  part = reading.part;
+  end = reading.end;
+  stop = max reading.stop least_stop;
 }
 
 -- a further part is not read: this one is what is read, stopped no earlier than the further one is refused; where

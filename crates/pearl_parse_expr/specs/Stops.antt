@@ -1,7 +1,6 @@
 -- What tokens that begin alike have in common: which token goes on with a part, and with which none goes on.
 use Rattle.std.specs.Prelude.{if◌then◌else◌, ◌≡◌, ℕ, ◌+◌, slice_get, ◌<◌, ◌≤◌, ◌⊎◌, ◌==◌, ◌||◌, ◌&&◌, ◌-◌, ◌^◌}
 use Rattle.std.specs.Prelude.{unwrap_or, Bool, true, false, List, length, Option, Some, None}
-use Rattle.std.specs.Option.{is_some, option_and_then}
 use Rattle.pearl_value.specs.declared.operator.Monad.{Monad}
 use Rattle.pearl_value.specs.declared.operator.Monad.TheVariants as monad
 use Rattle.pearl_tree.specs.declared.token.What.{What}
@@ -22,7 +21,7 @@ use Rattle.pearl_parse_expr.specs.declared.fault.ParseFault.{ParseFault}
 use Rattle.pearl_parse_expr.specs.declared.fault.ParseFault.TheVariants as fault
 use Rattle.pearl_parse_expr.specs.declared.reading.Halt.{Halt}
 use Rattle.pearl_parse_expr.specs.declared.reading.Halt.TheVariants.{Refused, NoMemory}
-use Rattle.pearl_tree.specs.Following.{lengthens_operand, lengthens_expr}
+use Rattle.pearl_tree.specs.Following.{is_monadic, lengthens_operand, lengthens_expr}
 use Rattle.pearl_tree.specs.Stops.{BeginAlike}
 use Rattle.pearl_parse_expr.specs.Least.{LawfulFrom}
 use Rattle.pearl_tree.specs.declared.symbol.TheConstants as s
@@ -36,6 +35,10 @@ is_one_of kind (Some what) = kind what
 -- a token that goes on with an operand that could end before it
 abbrev pub extends_operand : Option What → Bool
 extends_operand = is_one_of lengthens_operand
+
+-- a token that goes on with monadic operators that could end before it
+abbrev pub extends_monadics : Option What → Bool
+extends_monadics = is_one_of is_monadic
 
 -- a token that goes on with an expression that could end before it
 abbrev pub extends_expression : Option What → Bool
@@ -110,10 +113,6 @@ monad_of (what.Word code) =
     if code == w.ABS then Some monad.Abs
     else (if code == w.SIGN then Some monad.Sign else (if code == w.NOT then Some monad.Not else None))
 monad_of _ = None
-
--- a token that is one
-abbrev pub is_monad : Option What → Bool
-is_monad token = is_some (option_and_then monad_of token)
 
 -- { + | - | ABS | SIGN | NOT }, no more than may stand before one primary
 abbrev pub SpellsMonadics : List Token → Spelling (List Monadic)

@@ -63,10 +63,7 @@ fn bracketed(
     requires deep { 0 < depth }
     ensures { ReadsOnly 16 (λ tokens. grammar.SpellsSelector tokens depth) tokens.now from result }
 {
-    let inner = match subscripts(alloc, tokens, from + 1, depth - 1) {
-        Ok(inner) => inner,
-        Err(halt) => return Err(halt),
-    };
+    let inner = subscripts(alloc, tokens, from + 1, depth - 1)?;
     if !is_symbol(tokens, inner.end, RIGHT_ROUND) {
         return Err(Halt::Refused(inner.stop));
     }
@@ -160,10 +157,7 @@ fn group(alloc: Global, tokens: &[Token], from: usize, depth: u8) -> Result<Read
     if depth == 0 {
         return Err(Halt::Refused(from));
     }
-    let inner = match expression_at_depth(alloc, tokens, from + 1, depth - 1) {
-        Ok(inner) => inner,
-        Err(halt) => return Err(halt),
-    };
+    let inner = expression_at_depth(alloc, tokens, from + 1, depth - 1)?;
     if !is_symbol(tokens, inner.end, RIGHT_ROUND) {
         return Err(Halt::Refused(inner.stop));
     }
@@ -298,10 +292,7 @@ pub fn expression_at_depth(
     requires { from ≤ length tokens.now }
     ensures { Reads 16 (λ tokens. grammar.SpellsExpr tokens depth) spec.extends_expression tokens.now from result }
 {
-    let first = match operand(alloc, tokens, from, depth) {
-        Ok(first) => first,
-        Err(halt) => return Err(halt),
-    };
+    let first = operand(alloc, tokens, from, depth)?;
     let mut read = Reading {
         part: Expr::Operand(first.part),
         end: first.end,

@@ -123,7 +123,7 @@ pub fn monadic_at(tokens: &[Token], at: usize) -> Option<Monadic>
 /// The monadic operators that begin here, as many as may stand before one primary.
 pub fn monadics(alloc: Global, tokens: &[Token], from: usize) -> Result<Reading<Vec<Monadic>>, Halt>
     requires { from ≤ length tokens.now }
-    ensures reads { ReadsMaybeList 16 spec.SpellsMonadics spec.is_monad tokens.now from result }
+    ensures reads { ReadsMaybeList 16 spec.SpellsMonadics spec.extends_monadics tokens.now from result }
     ensures once { IfOk result (λ reading. reading.stop ≡ reading.end) }
     ensures memory { IfErr result (λ halt. halt ≡ Halt.NoMemory) }
 {

@@ -37,6 +37,47 @@ impl<T: Drop> Reading<T> {
         }
     }
 
+    /// The same part, stopped no earlier than at `stop`.
+    pub fn no_earlier(self, stop: usize) -> Reading<T>
+        ensures { result ≡ spec.no_earlier self stop }
+    {
+        Reading {
+            part: self.part,
+            end: self.end,
+            stop: self.stop.max(stop),
+        }
+    }
+
+    /// What `change` makes of the part, read from the same tokens.
+    pub fn map<U, F: FnOnce(T) -> U>(self, change: F) -> Reading<U>
+        requires { F.pre change self.part }
+        ensures part { F.post change self.part result.part }
+        ensures end { result.end ≡ self.end }
+        ensures stop { result.stop ≡ self.stop }
+    {
+        let Reading { part, end, stop } = self;
+        Reading {
+            part: change(part),
+            end,
+            stop,
+        }
+    }
+
+    /// The same part in a box.
+    pub fn boxed(self, alloc: Global) -> Result<Reading<Box<T>>, Halt>
+        ensures part { IfOk result (λ reading. reading.part.value ≡ self.part) }
+        ensures end { IfOk result (λ reading. reading.end ≡ self.end) }
+        ensures stop { IfOk result (λ reading. reading.stop ≡ self.stop) }
+        ensures fault { IfErr result (λ halt. halt ≡ Halt.NoMemory) }
+    {
+        let Reading { part, end, stop } = self;
+        Ok(Reading {
+            part: boxed(alloc, part)?,
+            end,
+            stop,
+        })
+    }
+
     /// What is read where a further part is not: this one, stopped no earlier than the further one is refused.
     pub fn ended(self, halt: Halt) -> Result<Reading<T>, Halt>
         ensures value { result ≡ spec.ended self halt }
@@ -53,7 +94,8 @@ impl<T: Drop> Reading<T> {
     }
 }
 
-// A list grows by the parts that are read where it ends. It is stopped at the last one of the stops of its parts.
+// A list grows by the parts that are read where it ends. It is stopped at the last one of the stop with which it begins
+// and the stops of its parts.
 impl<T: Drop> Reading<Vec<T>> {
     /// A list that has no part yet, behind what was stopped at `stop`.
     pub fn none(alloc: Global, end: usize, stop: usize) -> Reading<Vec<T>>
@@ -93,8 +135,8 @@ impl<T: Drop> Reading<Vec<T>> {
     }
 }
 
-/// Adds a part to a list.
-pub fn append<T: Drop>(list: &mut Vec<T>, item: T) -> Result<(), Halt>
+// Adds a part to a list.
+fn append<T: Drop>(list: &mut Vec<T>, item: T) -> Result<(), Halt>
     ensures appended { OnOk result (list.new.items ≡ list.old.items ++ item ∷ []) }
     ensures fault { IfErr result (λ halt. halt ≡ Halt.NoMemory) }
 {

@@ -1,11 +1,12 @@
 -- That a body between two semicolons is read, or the least stop is told.
-use Rattle.std.proofs.Common.{◌+◌, sym, ap, subst, ◌<◌, ◌^◌, length, rules, ◌≤◌, arith}
+use Rattle.std.proofs.Common.{◌+◌, sym, ap, subst, ◌<◌, ◌^◌, length, rules, ◌≤◌, arith, ℕ, max, refl}
 use Rattle.pearl_tree.specs.Statements.{SpellsWholeBody}
 use Rattle.pearl_tree.specs.Modules.{SpellsBlock}
 use Rattle.pearl_tree.specs.declared.symbol.TheConstants as s
 use Rattle.pearl_tree.specs.declared.word_code.TheConstants as w
 use Rattle.pearl_parse_expr.specs.Stops.{is_symbol, is_word}
 use Rattle.pearl_parse_decl.specs.Readings.{behind as told_behind}
+use Rattle.pearl_parse_expr.proofs.Fields.{reading_is}
 use Rattle.pearl_parse.specs.Stops.{IsStopped}
 use Rattle.pearl_parse.specs.Reached.{HaltsBehind}
 use Rattle.pearl_parse.proofs.Steps.{missing_behind, no_part_behind, ends}
@@ -107,12 +108,20 @@ returns c =
     c.in-Ok.ensures stop c.max-stop.ensures in
     let word = c.in_ok-word.ensures in
     let symbol = c.in_ok-symbol-2.ensures in
-    record {
+    let new : ℕ = max stop (body.end + 2) in
+    rw (reading_is c.past.result body.part (body.end + 2) new (search rules) (search rules) (omega (
+      arith,
+      c.max-stop.ensures,
+      ap (λ reading. reading.stop) c.past.ensures,
+      ap (λ reading. reading.end) c.no_earlier.ensures,
+      ap (λ reading. reading.stop) c.no_earlier.ensures,
+    )))
+    (record {
       spells = search rules;
-      only = ends SpellsBlock tokens from end_rest body.end stop c.max.result (body.end + 2) behind.goes
-          (omega (arith, c.max.ensures)) (λ others to h. h.2);
+      only = ends SpellsBlock tokens from end_rest body.end stop new (body.end + 2) behind.goes
+          (omega arith) (λ others to h. h.2);
       bounds = search rules;
       refused = tt;
-      least = block_goes tokens from low inside few body.end stop behind.level word.stands word.within c.max.result
-          symbol.stands symbol.within c.max.ensures;
-    }
+      least = block_goes tokens from low inside few body.end stop behind.level word.stands word.within new
+          symbol.stands symbol.within refl;
+    })

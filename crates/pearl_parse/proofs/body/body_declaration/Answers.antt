@@ -1,9 +1,10 @@
 -- That a declaration of a body is read, or the least stop is told.
-use Rattle.std.proofs.Common.{◌+◌, ap, ◌<◌, ◌^◌, length, rules, arith}
+use Rattle.std.proofs.Common.{◌+◌, ap, ◌<◌, ◌^◌, length, rules, arith, ℕ, max, refl}
 use Rattle.pearl_tree.specs.Statements.{SpellsBodyDecl}
 use Rattle.pearl_tree.specs.declared.symbol.TheConstants as s
 use Rattle.pearl_parse_expr.specs.Stops.{is_symbol}
 use Rattle.pearl_parse_decl.specs.Readings.{by_comma, extends_item}
+use Rattle.pearl_parse_expr.proofs.Fields.{reading_is}
 use Rattle.pearl_parse.proofs.Steps.{past, missing}
 use Rattle.pearl_parse.proofs.Made.{semicolon}
 use Rattle.pearl_parse.proofs.DeclarationLeast.{Items, no_dcl, items_halt, past_items, no_end, declared_goes}
@@ -63,11 +64,13 @@ returns c =
     let at = past_items tokens from c.requires few c.in_ok-word.ensures.stands c.in_ok-word.ensures.within
     items.part.items items.end items.stop read.spells (omega (arith, read.ahead)) (omega (arith, read.ahead))
     (omega (arith, read.ahead)) read.least in
-    record {
+    let new : ℕ = max items.stop (items.end + 1) in
+    rw (reading_is c.map.result c.map.result.part (items.end + 1) new (search rules) (search rules) (search rules))
+    (record {
       spells = search rules;
       only = search rules;
       ahead = search rules;
       refused = tt;
-      least = declared_goes tokens from c.requires few items.end items.stop c.max.result at
-          c.in_ok-symbol.ensures.stands c.in_ok-symbol.ensures.within c.max.ensures;
-    }
+      least = declared_goes tokens from c.requires few items.end items.stop new at
+          c.in_ok-symbol.ensures.stands c.in_ok-symbol.ensures.within refl;
+    })

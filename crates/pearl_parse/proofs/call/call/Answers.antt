@@ -1,6 +1,8 @@
 -- That CALL is read with its name and arguments, or the least stop is told.
 use Rattle.std.proofs.Common.{◌+◌, ◌<◌, ◌^◌, length, rules, arith}
 use Rattle.pearl_parse_expr.specs.Stops.{is_name}
+use Rattle.pearl_parse_expr.proofs.Fields.{reading_is}
+use Rattle.pearl_tree.specs.declared.statement.Stmt.TheVariants as stmt
 use Rattle.pearl_parse.specs.Calls.{SpellsArguments}
 use Rattle.pearl_parse.proofs.Steps.{Ends, missing, Then}
 use Rattle.pearl_parse.proofs.StatementRests.{Spelled}
@@ -51,7 +53,9 @@ returns c = λ depth.
     let last = c.in_ok-arguments.ensures in
     let at = past_called tokens depth from c.requires.within few c.requires.word c.in_ok-called.called
     c.in_ok-called.ensures.stands c.in_ok-called.ensures.within in
-    record {
+    rw (reading_is c.map-2.result (stmt.Call c.in_ok-boxed.field-0.part) arguments.end arguments.stop (search rules)
+    (search rules) (search rules))
+    (record {
       spells = search rules;
       only = last_is_only 24 (Spelled depth) tokens from from (from + 2) from 24 SpellsArguments SpellsArguments
           arguments_are_local (omega arith) at arguments last;
@@ -59,4 +63,4 @@ returns c = λ depth.
       refused = tt;
       least = last_goes 24 (Spelled depth) tokens from from (from + 2) from 24 SpellsArguments SpellsArguments
           arguments_are_local (omega arith) at arguments last arguments.part.items last.spells;
-    }
+    })

@@ -1,6 +1,8 @@
 -- That an assignment, or a call without CALL, is read, or the least stop is told.
-use Rattle.std.proofs.Common.{◌+◌, sym, ◌<◌, ◌^◌, length, rules, refl, arith}
+use Rattle.std.proofs.Common.{◌+◌, sym, ◌<◌, ◌^◌, length, rules, refl, arith, ℕ, max}
 use Rattle.pearl_tree.specs.Expressions.{SpellsWhole}
+use Rattle.pearl_parse_expr.proofs.Fields.{reading_is}
+use Rattle.pearl_tree.specs.declared.statement.Stmt.TheVariants as stmt
 use Rattle.pearl_parse.specs.Calls.{SpellsArguments}
 use Rattle.pearl_parse.proofs.Steps.{no_part}
 use Rattle.pearl_parse.proofs.StatementRests.{Spelled, exit_rest}
@@ -71,15 +73,18 @@ returns-then-becomes c = λ depth.
     let symbol = c.in_ok-symbol.ensures in
     let at = past_assigned tokens depth from c.requires.within few c.requires.name target read.named read.reads
     (sym becomes.value) (becomes.stands refl) (becomes.within refl) value c.in_ok-value.ensures in
-    record {
+    let new : ℕ = max value.stop (value.end + 1) in
+    rw (reading_is c.map.result (stmt.Assign c.in_ok-boxed.field-0.part) (value.end + 1) new (search rules) (search
+    rules) (search rules))
+    (record {
       spells = search rules;
-      only = semicolon_is_only 24 (Spelled depth) tokens from from value.end value.stop (omega arith) at c.max.result
-          (omega (arith, c.max.ensures));
+      only = semicolon_is_only 24 (Spelled depth) tokens from from value.end value.stop (omega arith) at new
+          (omega arith);
       ahead = search rules;
       refused = tt;
-      least = semicolon_goes 24 (Spelled depth) tokens from from value.end value.stop (omega arith) at c.max.result
-          (omega (arith, c.max.ensures)) symbol.stands symbol.within;
-    }
+      least = semicolon_goes 24 (Spelled depth) tokens from from value.end value.stop (omega arith) at new
+          (omega arith) symbol.stands symbol.within;
+    })
 
 pub returns-in_err-arguments : goal.returns-in_err-arguments
 returns-in_err-arguments c = λ depth.
@@ -106,7 +111,9 @@ returns c = λ depth.
     let last = c.in_ok-arguments.ensures in
     let at = past_named tokens depth from c.requires.within few c.requires.name target read.named read.reads
     (sym c.if-becomes.ensures.value) c.in_ok-called.called c.in_ok-called.ensures.stands in
-    record {
+    rw (reading_is c.map-3.result (stmt.Call c.in_ok-boxed-2.field-0.part) arguments.end arguments.stop (search rules)
+    (search rules) (search rules))
+    (record {
       spells = search rules;
       only = last_is_only 24 (Spelled depth) tokens from from (from + 1) target.stop 24 SpellsArguments SpellsArguments
           arguments_are_local (omega arith) at arguments last;
@@ -114,4 +121,4 @@ returns c = λ depth.
       refused = tt;
       least = last_goes 24 (Spelled depth) tokens from from (from + 1) target.stop 24 SpellsArguments SpellsArguments
           arguments_are_local (omega arith) at arguments last arguments.part.items last.spells;
-    }
+    })

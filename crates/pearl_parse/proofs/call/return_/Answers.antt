@@ -1,6 +1,8 @@
 -- That RETURN is read, with its value if it has one, or the least stop is told.
-use Rattle.std.proofs.Common.{◌+◌, ◌<◌, ◌^◌, length, rules, arith}
+use Rattle.std.proofs.Common.{◌+◌, ◌<◌, ◌^◌, length, rules, arith, ℕ, max, refl}
 use Rattle.pearl_tree.specs.Statements.{SpellsValue}
+use Rattle.pearl_parse_expr.proofs.Fields.{reading_is}
+use Rattle.pearl_tree.specs.declared.statement.Stmt.TheVariants as stmt
 use Rattle.pearl_parse.specs.Calls.{SpellsOptionalValue}
 use Rattle.pearl_parse.proofs.Steps.{no_first}
 use Rattle.pearl_parse.proofs.StatementRests.{Spelled, exit_rest}
@@ -51,12 +53,15 @@ returns c = λ depth.
     let value = c.in_ok-value.value in
     let symbol = c.in_ok-symbol.ensures in
     let at = past_returned tokens depth from c.requires.within few c.requires.word value c.in_ok-value.ensures in
-    record {
+    let new : ℕ = max value.stop (value.end + 1) in
+    rw (reading_is c.map.result (stmt.Return c.in_ok-boxed.field-0.part) (value.end + 1) new (search rules) (search
+    rules) (search rules))
+    (record {
       spells = search rules;
-      only = semicolon_is_only 24 (Spelled depth) tokens from from value.end value.stop (omega arith) at c.max.result
-          (omega (arith, c.max.ensures));
+      only = semicolon_is_only 24 (Spelled depth) tokens from from value.end value.stop (omega arith) at new
+          (omega arith);
       ahead = search rules;
       refused = tt;
-      least = semicolon_goes 24 (Spelled depth) tokens from from value.end value.stop (omega arith) at c.max.result
-          (omega (arith, c.max.ensures)) symbol.stands symbol.within;
-    }
+      least = semicolon_goes 24 (Spelled depth) tokens from from value.end value.stop (omega arith) at new
+          (omega arith) symbol.stands symbol.within;
+    })

@@ -4,6 +4,7 @@ use Rattle.pearl_tree.specs.declared.symbol.TheConstants as s
 use Rattle.pearl_tree.specs.declared.word_code.TheConstants as w
 use Rattle.pearl_tree.specs.Modules.{SpellsModuleName}
 use Rattle.pearl_parse_expr.specs.Stops.{is_symbol, is_word}
+use Rattle.pearl_parse_expr.proofs.Fields.{reading_is}
 use Rattle.pearl_parse.specs.Modules.{SpellsOptionalName, SpellsHead, begins_module_name}
 use Rattle.pearl_parse.proofs.Steps.{err_told, missing_is_refused, past_only, missing, no_first, ends}
 use Rattle.pearl_parse.proofs.Optional.{maybe_of}
@@ -66,7 +67,13 @@ returns-clause-reads c =
     let read = c.in_ok-name.ensures.reads in
     let go = past_only SpellsHead tokens from SpellsOptionalName exit_rest (from + 1) from name.end name.stop
     (name_goes tokens from) (omega (arith, read.bounds)) read.only in
-    record {
+    rw (reading_is c.past.result name.part (name.end + 1) (name.end + 1) (search rules) (search rules) (omega (
+      arith,
+      ap
+          (λ reading. reading.stop) c.past.ensures,
+      c.in_ok-name.ensures.close,
+    )))
+    (record {
       spells = (
         name.end,
         c.in_ok-word.ensures.stands,
@@ -79,7 +86,7 @@ returns-clause-reads c =
       ahead = (omega (arith, read.bounds), omega arith, omega (arith, c.in_ok-symbol.ensures.within));
       refused = tt;
       least = record { goes = inl refl };
-    }
+    })
 
 pub returns-in_err-word-clause-memory : goal.returns-in_err-word-clause-memory
 returns-in_err-word-clause-memory c =
@@ -99,3 +106,6 @@ returns-in_err-symbol-clause-memory c =
     (λ e is. is)
     (missing_is_refused c.args.tokens.now (is_symbol s.SEMICOLON) name.end name.stop c.in_err-symbol.field-0.0
     c.in_err-symbol.ensures.missing)
+
+pub returns-clause-close : goal.returns-clause-close
+returns-clause-close c = rw c.past.ensures (omega (arith, c.in_ok-name.ensures.close))

@@ -1,5 +1,7 @@
 -- That an expression is read behind a word where the word stands.
-use Rattle.std.proofs.Common.{rules, arith}
+use Rattle.std.proofs.Common.{rules, arith, Some}
+use Rattle.pearl_parse_expr.proofs.Halts.{residual}
+use Rattle.pearl_parse_expr.proofs.Fields.{reading_is}
 use Rattle.pearl_parse.proofs.Comes.{Maybe}
 use Rattle.pearl_parse.proofs.ScheduleMade.{After}
 use Rattle.pearl_parse.proofs.States.{some_reaches, told_none, told_as, halts_behind_as}
@@ -16,23 +18,27 @@ returns-then-not-is_word c =
           (omega (arith, c.max.ensures));
     }
 
-pub returns-in-Ok : goal.returns-in-Ok
-returns-in-Ok c =
+pub returns : goal.returns
+returns c =
     let tokens = c.args.tokens.now in
     let from = c.args.from in
-    record {
+    rw (reading_is c.map.result (Some c.in_ok-after.field-0.part) c.in_ok-after.field-0.end c.in_ok-after.field-0.stop
+    (search rules) (search rules) (search rules))
+    (record {
       spells = search rules;
       longest = search rules;
       bounds = search rules;
       refused = tt;
       least = told_as 8 8 (After c.args.word) (Maybe (After c.args.word)) tokens from from (omega arith)
-          (some_reaches 8 (After c.args.word) tokens from) c.args.least_stop c.in-Ok.read.end c.in-Ok.read.stop
-          (omega (arith, c.in-Ok.ensures.bounds)) c.in-Ok.ensures.least;
-    }
+          (some_reaches 8 (After c.args.word) tokens from) c.args.least_stop c.in_ok-after.field-0.end
+          c.in_ok-after.field-0.stop
+          (omega (arith, c.in_ok-after.ensures.bounds)) c.in_ok-after.ensures.least;
+    })
 
-pub returns-in-Err : goal.returns-in-Err
-returns-in-Err c =
-    let tokens = c.args.tokens.now in
+pub returns-in_err-after : goal.returns-in_err-after
+returns-in_err-after c =
+    rw (residual c.in_err-after.field-0.0 c.from_residual.result c.from_residual.ensures)
+    (let tokens = c.args.tokens.now in
     let from = c.args.from in
     record {
       spells = tt;
@@ -40,6 +46,6 @@ returns-in-Err c =
       bounds = tt;
       refused = search rules;
       least = halts_behind_as 8 8 (After c.args.word) (Maybe (After c.args.word)) tokens from from (omega arith)
-          (some_reaches 8 (After c.args.word) tokens from) c.args.least_stop c.in-Err.halt
-          c.in-Err.ensures.least;
-    }
+          (some_reaches 8 (After c.args.word) tokens from) c.args.least_stop c.in_err-after.field-0.0
+          c.in_err-after.ensures.least;
+    })

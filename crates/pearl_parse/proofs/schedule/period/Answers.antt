@@ -1,5 +1,6 @@
 -- That a period is read, or the least stop is told.
 use Rattle.std.proofs.Common.{◌<◌, ◌^◌, length, rules, arith}
+use Rattle.pearl_parse_expr.proofs.Fields.{reading_is}
 use Rattle.pearl_parse.proofs.Steps.{Ends, Then}
 use Rattle.pearl_parse.proofs.ScheduleRests.{period_stopped}
 use Rattle.pearl_tree.specs.Statements.{SpellsPeriodEnd, SpellsPeriod}
@@ -54,7 +55,9 @@ returns c =
     read.spells (omega (arith, read.bounds)) (omega (arith, read.bounds)) read.least in
     let end = c.in_ok-end.end in
     let last = c.in_ok-end.ensures.reads in
-    record {
+    rw (reading_is c.map.result (record { duration = duration.part; end = end.part; place = c.place_at-place.result }) end.end
+    end.stop (search rules) (search rules) (search rules))
+    (record {
       spells = search rules;
       longest = search rules;
       bounds = search rules;
@@ -64,4 +67,4 @@ returns c =
           (omega arith) duration.end duration.stop (omega (arith, read.bounds)) at end.part end.end end.stop
           last.spells (omega (arith, last.bounds)) (omega (arith, last.bounds)) last.least)
           (omega (arith, last.bounds));
-    }
+    })

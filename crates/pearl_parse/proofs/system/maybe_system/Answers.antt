@@ -1,8 +1,10 @@
 -- That the system part of a module is read where SYSTEM stands.
-use Rattle.std.proofs.Common.{rules, sym, inl, refl, arith}
+use Rattle.std.proofs.Common.{rules, sym, inl, refl, arith, Some}
 use Rattle.pearl_tree.specs.Modules.{SpellsSystem}
 use Rattle.pearl_tree.specs.declared.word_code.TheConstants as w
 use Rattle.pearl_parse_expr.specs.Stops.{is_name, is_word}
+use Rattle.pearl_parse_expr.proofs.Halts.{residual}
+use Rattle.pearl_parse_expr.proofs.Fields.{reading_is}
 use Rattle.pearl_parse.specs.Modules.{SpellsOptionalSystem}
 use Rattle.pearl_parse.proofs.Steps.{only_is_longest, optional_is_none, optional_is_longest, optional_is_halted}
 use Rattle.pearl_parse.proofs.ModuleRests.{system_begins}
@@ -24,35 +26,41 @@ returns-then-not-is_word c =
       least = record { goes = inl refl };
     }
 
-pub returns-in-Ok : goal.returns-in-Ok
-returns-in-Ok c =
+pub returns : goal.returns
+returns c =
     let tokens = c.args.tokens.now in
     let from = c.args.from in
-    let read = c.in-Ok.ensures in
-    record {
+    let read = c.in_ok-system.ensures in
+    rw (reading_is c.map.result (Some c.in_ok-system.field-0.part) c.in_ok-system.field-0.end
+    c.in_ok-system.field-0.stop (search rules) (search rules) (search rules))
+    (record {
       spells = search rules;
       longest = optional_is_longest (is_word w.SYSTEM) SpellsSystem c.args.tokens.now c.args.from is_name
-          c.in-Ok.devices.end
-          c.in-Ok.devices.stop (sym c.if-not-is_word.ensures.value)
+          c.in_ok-system.field-0.end
+          c.in_ok-system.field-0.stop (sym c.if-not-is_word.ensures.value)
           (omega (arith, read.ahead)) read.longest;
       bounds = search rules;
       refused = tt;
       least = goes_as 16 16 SpellsSystem (λ tokens. SpellsMaybe (SpellsSystem tokens)) tokens from from (omega arith)
-          (λ stop near r. some_reaches 16 SpellsSystem tokens from stop near r) c.in-Ok.devices.end c.in-Ok.devices.stop
+          (λ stop near r. some_reaches 16 SpellsSystem tokens from stop near r) c.in_ok-system.field-0.end
+          c.in_ok-system.field-0.stop
           (omega (arith, read.ahead)) read.least;
-    }
+    })
 
-pub returns-in-Err : goal.returns-in-Err
-returns-in-Err c =
-    let tokens = c.args.tokens.now in
+pub returns-in_err-system : goal.returns-in_err-system
+returns-in_err-system c =
+    rw (residual c.in_err-system.field-0.0 c.from_residual.result c.from_residual.ensures)
+    (let tokens = c.args.tokens.now in
     let from = c.args.from in
     record {
       spells = tt;
       longest = tt;
       bounds = tt;
-      refused = optional_is_halted (is_word w.SYSTEM) SpellsSystem c.args.tokens.now c.args.from c.in-Err.halt
-          (sym c.if-not-is_word.ensures.value) c.in-Err.ensures.refused;
+      refused = optional_is_halted (is_word w.SYSTEM) SpellsSystem c.args.tokens.now c.args.from
+          c.in_err-system.field-0.0
+          (sym c.if-not-is_word.ensures.value) c.in_err-system.ensures.refused;
       least = halts_as 16 16 SpellsSystem (λ tokens. SpellsMaybe (SpellsSystem tokens)) tokens from from (omega arith)
-          (λ stop near r. some_reaches 16 SpellsSystem tokens from stop near r) c.in-Err.halt c.in-Err.ensures.refused
-          c.in-Err.ensures.least;
-    }
+          (λ stop near r. some_reaches 16 SpellsSystem tokens from stop near r) c.in_err-system.field-0.0
+          c.in_err-system.ensures.refused
+          c.in_err-system.ensures.least;
+    })

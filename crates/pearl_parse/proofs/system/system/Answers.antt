@@ -3,6 +3,7 @@ use Rattle.std.proofs.Common.{◌+◌, ap, ◌<◌, ◌^◌, length, rules, arit
 use Rattle.pearl_tree.specs.Modules.{SpellsSystem}
 use Rattle.pearl_tree.specs.declared.symbol.TheConstants as s
 use Rattle.pearl_parse_expr.specs.Stops.{is_symbol}
+use Rattle.pearl_parse_expr.proofs.Fields.{reading_is}
 use Rattle.pearl_parse.proofs.Steps.{missing}
 use Rattle.pearl_parse.proofs.ModuleRests.{devices_rest, devices_go, system_is_longest}
 use Rattle.pearl_parse.proofs.SystemLeast.{no_devices, system_goes}
@@ -24,14 +25,15 @@ returns-in_err-symbol c =
     (halts_in 16 SpellsSystem tokens from 0 (omega arith) halt
     (no_devices tokens from c.requires.word c.requires.within few halt c.in_err-symbol.ensures.missing))
 
-pub returns-in-Ok : goal.returns-in-Ok
-returns-in-Ok c =
+pub returns : goal.returns
+returns c =
     let tokens = c.args.tokens.now in
     let from = c.args.from in
     let few : length tokens < 2 ^ 55 = search rules in
-    let devices = c.in-Ok.devices in
-    let read = c.in-Ok.ensures.reads in
-    record {
+    let devices = c.in_ok-each.field-0 in
+    let read = c.in_ok-each.ensures.reads in
+    rw (reading_is c.map.result c.map.result.part devices.end devices.stop (search rules) (search rules) (search rules))
+    (record {
       spells = search rules;
       longest = system_is_longest tokens from devices.end devices.stop read.longest;
       ahead = search rules;
@@ -39,4 +41,4 @@ returns-in-Ok c =
       least = system_goes tokens from c.requires.word c.requires.within few c.in_ok-symbol.ensures.stands
           c.in_ok-symbol.ensures.within devices.part.items devices.end devices.stop read.spells
           (omega (arith, read.bounds)) (omega (arith, read.bounds)) (omega (arith, read.bounds)) read.least;
-    }
+    })

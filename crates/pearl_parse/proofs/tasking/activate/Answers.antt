@@ -1,7 +1,8 @@
 -- That ACTIVATE is read with its task and priority, or the least stop is told.
-use Rattle.std.proofs.Common.{◌+◌, ap, ◌<◌, ◌^◌, length, rules, arith}
+use Rattle.std.proofs.Common.{◌+◌, ap, ◌<◌, ◌^◌, length, rules, arith, ℕ, max, refl}
 use Rattle.pearl_tree.specs.declared.symbol.TheConstants as s
 use Rattle.pearl_parse_expr.specs.Stops.{is_symbol, is_word, is_name}
+use Rattle.pearl_parse_expr.proofs.Fields.{reading_is}
 use Rattle.pearl_parse.specs.Schedules.{SpellsOptionalPriority, SpellsActivation}
 use Rattle.pearl_parse.proofs.Steps.{missing_behind, no_part_behind, ends, Ends, Then}
 use Rattle.pearl_parse.proofs.StatementRests.{exit_rest}
@@ -71,17 +72,20 @@ returns c =
     c.in_ok-task.ensures.within priority.part priority.end priority.stop read.spells (omega (arith, read.bounds))
     (omega (arith, read.bounds)) read.least in
     let go = activation_goes_on tokens from low priority.end priority.stop read.bounds.2 read.longest in
-    record {
+    let new : ℕ = max priority.stop (priority.end + 1) in
+    rw (reading_is c.map.result (record { task = c.in_ok-task.task; priority = priority.part }) (priority.end + 1) new
+    (search rules) (search rules) (search rules))
+    (record {
       spells = search rules;
-      only = ends SpellsActivation tokens from exit_rest priority.end priority.stop c.max.result (priority.end + 1) go
-          (omega (arith, c.max.ensures)) (λ others to h. h.1);
+      only = ends SpellsActivation tokens from exit_rest priority.end priority.stop new (priority.end + 1) go
+          (omega arith) (λ others to h. h.1);
       bounds = search rules;
       refused = tt;
-      least = done 16 SpellsActivation tokens from low (priority.end + 1) priority.stop c.max.result
+      least = done 16 SpellsActivation tokens from low (priority.end + 1) priority.stop new
           (past_symbol 16 SpellsActivation tokens from low s.SEMICOLON Ends priority.end priority.stop
           (priority.end + 1) (omega arith) at_close c.in_ok-symbol.ensures.stands c.in_ok-symbol.ensures.within)
-          (omega (arith, c.max.ensures));
-    }
+          (omega arith);
+    })
 
 pub returns-in_err-word : goal.returns-in_err-word
 returns-in_err-word c =

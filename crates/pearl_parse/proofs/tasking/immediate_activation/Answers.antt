@@ -1,5 +1,7 @@
 -- That an activation without a start is read, or the least stop is told.
 use Rattle.std.proofs.Common.{◌<◌, ◌^◌, length, rules, arith}
+use Rattle.pearl_parse_expr.proofs.Fields.{reading_is}
+use Rattle.pearl_tree.specs.declared.statement.Stmt.TheVariants as stmt
 use Rattle.pearl_parse.specs.Schedules.{SpellsActivation}
 use Rattle.pearl_parse.proofs.Steps.{Ends, past_only, no_part, Then}
 use Rattle.pearl_parse.proofs.StatementRests.{Spelled}
@@ -33,7 +35,9 @@ returns c = λ depth.
     let few : length tokens < 2 ^ 55 = search rules in
     let begun = by_rule tokens depth from c.requires.within few (Then SpellsActivation Ends) (activation_made depth) in
     let last = c.in_ok-activation.ensures in
-    record {
+    rw (reading_is c.map.result (stmt.Activate c.in_ok-boxed.field-0.part) activation.end activation.stop (search rules)
+    (search rules) (search rules))
+    (record {
       spells = search rules;
       only = past_only (Spelled depth) c.args.tokens.now c.args.from SpellsActivation Ends c.args.from c.args.from
           activation.end activation.stop (activate_goes c.args.tokens.now depth c.args.from c.requires.word)
@@ -45,4 +49,4 @@ returns c = λ depth.
           (omega arith) from from (omega arith) begun
           (activation.part.task, activation.part.priority) activation.end activation.stop last.spells
           (omega (arith, last.bounds)) (omega (arith, last.bounds)) last.least) (omega (arith, last.bounds));
-    }
+    })

@@ -1,5 +1,6 @@
 -- That a period and an activation are read, or the least stop is told.
 use Rattle.std.proofs.Common.{◌<◌, ◌^◌, length, rules, arith}
+use Rattle.pearl_parse_expr.proofs.Fields.{reading_is}
 use Rattle.pearl_parse.specs.Schedules.{SpellsOptionalPeriod, SpellsActivation, SpellsBegun, SpellsAnyBegun}
 use Rattle.pearl_parse.proofs.Steps.{Ends, past_only, no_part_behind, Then}
 use Rattle.pearl_parse.proofs.ScheduleRests.{activation_rest, begun_goes, begun_goes_on}
@@ -58,7 +59,9 @@ returns c =
     let activation = c.in_ok-activation.activation in
     let last = c.in_ok-activation.ensures in
     let go = begun_goes_on tokens from low period.end period.stop read.bounds.2 read.longest in
-    record {
+    rw (reading_is c.map.result (record { period = period.part; activation = activation.part }) activation.end
+    activation.stop (search rules) (search rules) (search rules))
+    (record {
       spells = search rules;
       only = past_only SpellsBegun tokens from SpellsActivation Ends period.end period.stop activation.end
           activation.stop go last.bounds.2 last.only;
@@ -69,4 +72,4 @@ returns c =
           (omega arith) period.end period.stop (omega (arith, read.bounds)) at
           (activation.part.task, activation.part.priority) activation.end activation.stop last.spells
           (omega (arith, last.bounds)) (omega (arith, last.bounds)) last.least) (omega (arith, last.bounds));
-    }
+    })

@@ -1,5 +1,7 @@
 -- That REQUEST or RELEASE is read with its names, or the least stop is told.
-use Rattle.std.proofs.Common.{◌+◌, ◌<◌, ◌^◌, length, rules, arith}
+use Rattle.std.proofs.Common.{◌+◌, ◌<◌, ◌^◌, length, rules, arith, ℕ, max, refl}
+use Rattle.pearl_parse_expr.proofs.Fields.{reading_is}
+use Rattle.pearl_tree.specs.declared.statement.Stmt.TheVariants as stmt
 use Rattle.pearl_parse.specs.Stops.{SpellsNameList}
 use Rattle.pearl_parse.proofs.Steps.{no_first}
 use Rattle.pearl_parse.proofs.StatementRests.{Spelled, exit_rest}
@@ -50,12 +52,15 @@ returns c = λ depth.
     let symbol = c.in_ok-symbol.ensures in
     let at = past_names tokens depth from c.requires.within few c.args.word c.requires.word names
     c.in_ok-names.ensures in
-    record {
+    let new : ℕ = max names.stop (names.end + 1) in
+    rw (reading_is c.map.result (stmt.OnSemas c.in_ok-boxed.field-0.part) (names.end + 1) new (search rules) (search
+    rules) (search rules))
+    (record {
       spells = search rules;
-      only = semicolon_is_only 24 (Spelled depth) tokens from from names.end names.stop (omega arith) at c.max.result
-          (omega (arith, c.max.ensures));
+      only = semicolon_is_only 24 (Spelled depth) tokens from from names.end names.stop (omega arith) at new
+          (omega arith);
       ahead = search rules;
       refused = tt;
-      least = semicolon_goes 24 (Spelled depth) tokens from from names.end names.stop (omega arith) at c.max.result
-          (omega (arith, c.max.ensures)) symbol.stands symbol.within;
-    }
+      least = semicolon_goes 24 (Spelled depth) tokens from from names.end names.stop (omega arith) at new
+          (omega arith) symbol.stands symbol.within;
+    })

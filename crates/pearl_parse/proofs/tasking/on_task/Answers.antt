@@ -1,8 +1,10 @@
 -- That SUSPEND, TERMINATE or PREVENT is read, or the least stop is told.
-use Rattle.std.proofs.Common.{◌+◌, ap, ◌<◌, ◌^◌, length, rules, inl, arith}
+use Rattle.std.proofs.Common.{◌+◌, ap, ◌<◌, ◌^◌, length, rules, inl, arith, ℕ, max, refl}
 use Rattle.pearl_tree.specs.Standing.{SpellsName}
 use Rattle.pearl_tree.specs.declared.symbol.TheConstants as s
 use Rattle.pearl_parse_expr.specs.Stops.{is_symbol, is_name}
+use Rattle.pearl_parse_expr.proofs.Fields.{reading_is}
+use Rattle.pearl_tree.specs.declared.statement.Stmt.TheVariants as stmt
 use Rattle.pearl_parse.specs.Stops.{SpellsOptional}
 use Rattle.pearl_parse.proofs.Steps.{past_only, missing, ends}
 use Rattle.pearl_parse.proofs.StatementRests.{Spelled, exit_rest, task_goes}
@@ -46,11 +48,14 @@ returns c = λ depth.
     let go = past_only (Spelled depth) tokens from (SpellsOptional is_name SpellsName) exit_rest (from + 1) from
     task.end task.stop (task_goes tokens depth from c.args.word c.requires.word) (omega (arith, read.bounds))
     read.only in
-    record {
+    let new : ℕ = max task.stop (task.end + 1) in
+    rw (reading_is c.map.result (stmt.OnTask c.in_ok-boxed.field-0.part) (task.end + 1) new (search rules) (search
+    rules) (search rules))
+    (record {
       spells = search rules;
-      only = ends (Spelled depth) tokens from exit_rest task.end task.stop c.max.result (task.end + 1) go
-          (omega (arith, c.max.ensures)) (λ others to h. h.1);
+      only = ends (Spelled depth) tokens from exit_rest task.end task.stop new (task.end + 1) go
+          (omega arith) (λ others to h. h.1);
       ahead = search rules;
       refused = tt;
-      least = record { goes = inl (omega (arith, c.max.ensures, c.maybe_name-task.ensures.close)) };
-    }
+      least = record { goes = inl (omega (arith, c.maybe_name-task.ensures.close)) };
+    })

@@ -1,5 +1,7 @@
 -- That an activation is read that begins with its period, or the least stop is told.
 use Rattle.std.proofs.Common.{◌<◌, ◌^◌, length, rules, arith}
+use Rattle.pearl_parse_expr.proofs.Fields.{reading_is}
+use Rattle.pearl_tree.specs.declared.statement.Stmt.TheVariants as stmt
 use Rattle.pearl_parse.specs.Schedules.{SpellsLongPeriod, SpellsActivation}
 use Rattle.pearl_parse.proofs.Steps.{Ends, no_part, Then}
 use Rattle.pearl_parse.proofs.StatementRests.{Spelled}
@@ -51,7 +53,9 @@ returns c = λ depth.
     let activation = c.in_ok-activation.activation in
     let last = c.in_ok-activation.ensures in
     let at = past_period tokens depth from c.requires.within few c.requires.word period c.in_ok-period.ensures in
-    record {
+    rw (reading_is c.map.result (stmt.Activate c.in_ok-boxed.field-0.part) activation.end activation.stop (search rules)
+    (search rules) (search rules))
+    (record {
       spells = search rules;
       only = last_is_only 24 (Spelled depth) tokens from from period.end period.stop 16 SpellsActivation
           SpellsActivation activation_is_local (omega arith) at activation last;
@@ -60,4 +64,4 @@ returns c = λ depth.
       least = last_goes 24 (Spelled depth) tokens from from period.end period.stop 16 SpellsActivation
           SpellsActivation activation_is_local (omega arith) at activation last
           (activation.part.task, activation.part.priority) last.spells;
-    }
+    })

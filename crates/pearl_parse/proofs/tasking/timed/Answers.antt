@@ -1,5 +1,7 @@
 -- That a statement is read that begins with AT or AFTER, or the least stop is told.
-use Rattle.std.proofs.Common.{◌+◌, refl, sym, ◌<◌, ◌^◌, length, rules, arith}
+use Rattle.std.proofs.Common.{◌+◌, refl, sym, ◌<◌, ◌^◌, length, rules, arith, ℕ, max}
+use Rattle.pearl_parse_expr.proofs.Fields.{reading_is}
+use Rattle.pearl_tree.specs.declared.statement.Stmt.TheVariants as stmt
 use Rattle.pearl_parse.specs.Schedules.{SpellsBegun, SpellsAnyBegun}
 use Rattle.pearl_parse.proofs.StatementRests.{Spelled}
 use Rattle.pearl_parse.proofs.TaskingRests.{no_time}
@@ -62,16 +64,19 @@ returns-then-is_word c = λ depth.
     let symbol = c.in_ok-symbol.ensures in
     let at = time_continues tokens depth from c.requires.within few c.args.later c.time_word.result c.time_word.ensures
     c.requires.word time c.in_ok-time.ensures (word.stands refl) in
-    record {
+    let new : ℕ = max time.stop (time.end + 3) in
+    rw (reading_is c.map.result (stmt.Continue c.in_ok-boxed.field-0.part) (time.end + 3) new (search rules) (search
+    rules) (search rules))
+    (record {
       spells = search rules;
       only = continued_ends tokens depth from time.end time.stop at (word.stands refl) (word.within refl) (time.end + 3)
-          c.max.result (omega arith) (omega (arith, c.max.ensures));
+          new (omega arith) (omega arith);
       ahead = search rules;
       refused = tt;
       least = continued_so_far tokens depth from time.end time.stop at (word.stands refl) (word.within refl)
           c.in_ok-task.task (time.end + 1) (omega arith) task.stands task.within (time.end + 2) (omega arith)
-          (time.end + 3) c.max.result (omega arith) (omega (arith, c.max.ensures)) symbol.stands symbol.within;
-    }
+          (time.end + 3) new (omega arith) (omega arith) symbol.stands symbol.within;
+    })
 
 pub returns-in_err-symbol-2 : goal.returns-in_err-symbol-2
 returns-in_err-symbol-2 c = λ depth.
@@ -94,19 +99,21 @@ returns-then-is_word-2 c = λ depth.
     let time = c.in_ok-time.time in
     let word = c.if-is_word-2.ensures in
     let symbol = c.in_ok-symbol-2.ensures in
-    let stop = c.max-then-is_word-2.result in
     let at = time_resumes tokens depth from c.requires.within few c.args.later c.time_word.result c.time_word.ensures
     c.requires.word time c.in_ok-time.ensures (word.stands refl) in
-    record {
+    let new : ℕ = max time.stop (time.end + 2) in
+    rw (reading_is c.map-then-is_word-2.result (stmt.Resume c.in_ok-boxed-2.field-0.part) (time.end + 2)
+    new (search rules) (search rules) (search rules))
+    (record {
       spells = search rules;
       only = resumed_ends tokens depth from time.end time.stop at (word.stands refl) (word.within refl) (time.end + 2)
-          stop (omega arith) (omega (arith, c.max-then-is_word-2.ensures));
+          new (omega arith) (omega arith);
       ahead = search rules;
       refused = tt;
       least = resumed_so_far tokens depth from time.end time.stop at (word.stands refl) (word.within refl)
-          (time.end + 1) (omega arith) (time.end + 2) stop (omega arith) (omega (arith, c.max-then-is_word-2.ensures))
+          (time.end + 1) (omega arith) (time.end + 2) new (omega arith) (omega arith)
           symbol.stands symbol.within;
-    }
+    })
 
 pub returns-in_err-begun : goal.returns-in_err-begun
 returns-in_err-begun c = λ depth.
@@ -130,7 +137,9 @@ returns c = λ depth.
     let last = c.in_ok-begun.ensures in
     let at = time_begins tokens depth from c.requires.within few c.args.later c.time_word.result c.time_word.ensures
     c.requires.word time c.in_ok-time.ensures (sym c.if-is_word.ensures.value) (sym c.if-is_word-2.ensures.value) in
-    record {
+    rw (reading_is c.map-2.result (stmt.Activate c.in_ok-boxed-3.field-0.part) begun.end begun.stop (search rules)
+    (search rules) (search rules))
+    (record {
       spells = search rules;
       only = last_is_only 24 (Spelled depth) tokens from from time.end time.stop 24 SpellsBegun SpellsAnyBegun
           begun_is_local (omega arith) at begun last;
@@ -139,4 +148,4 @@ returns c = λ depth.
       least = last_goes 24 (Spelled depth) tokens from from time.end time.stop 24 SpellsBegun SpellsAnyBegun
           begun_is_local (omega arith) at begun last
           (begun.part.period, (begun.part.activation.task, begun.part.activation.priority)) last.spells;
-    }
+    })

@@ -1,10 +1,11 @@
 -- That formats are read with the semicolon behind them, or the least stop is told.
-use Rattle.std.proofs.Common.{◌<◌, ◌^◌, length, rules, ◌+◌, refl, sym, arith}
+use Rattle.std.proofs.Common.{◌<◌, ◌^◌, length, rules, ◌+◌, refl, sym, arith, ℕ, max}
 use Rattle.pearl_tree.specs.Standing.{SpellsList}
 use Rattle.pearl_tree.specs.Formats.{SpellsFmt}
 use Rattle.pearl_tree.specs.declared.symbol.TheConstants as s
 use Rattle.pearl_parse_expr.specs.declared.reading.Halt.TheVariants.{Refused}
 use Rattle.pearl_parse_expr.specs.Stops.{is_symbol}
+use Rattle.pearl_parse_expr.proofs.Fields.{reading_is}
 use Rattle.pearl_parse.specs.Stops.{SpellsFormats}
 use Rattle.pearl_parse.proofs.Steps.{Ends}
 use Rattle.pearl_parse.proofs.Made.{semicolon}
@@ -49,23 +50,26 @@ returns-else-not-is_symbol c =
     let few : length tokens < 2 ^ 55 = search rules in
     let list = c.in-Ok.list in
     let read = c.in-Ok.ensures.reads in
-    record {
+    let stop : ℕ = max list.stop low in
+    let new : ℕ = max stop (list.end + 1) in
+    rw (reading_is c.past.result list.part (list.end + 1) new (search rules) (search rules) (search rules))
+    (record {
       spells = search rules;
       only = search rules;
       bounds = search rules;
       refused = tt;
-      least = done 24 SpellsFormats tokens from low (list.end + 1) c.max-in-Ok.result c.max-in-Ok-2.result
-          (past_symbol 24 SpellsFormats tokens from low s.SEMICOLON Ends list.end c.max-in-Ok.result (list.end + 1)
+      least = done 24 SpellsFormats tokens from low (list.end + 1) stop new
+          (past_symbol 24 SpellsFormats tokens from low s.SEMICOLON Ends list.end stop (list.end + 1)
           (omega arith)
           (past_part 24 SpellsFormats tokens from low 1 16 (λ tokens. SpellsList tokens (SpellsFmt tokens)) semicolon
           formats_are_local semicolon_fills (omega arith) from low (omega arith)
           (formats_first tokens from low (omega (arith, c.requires.from)) few) list.part.items
-          list.end c.max-in-Ok.result read.spells (omega (arith, read.ahead))
-          (omega (arith, c.max-in-Ok.ensures, read.ahead, c.requires.least_stop))
-          (list.stop, omega (arith, read.ahead), read.least, omega (arith, c.max-in-Ok.ensures)))
+          list.end stop read.spells (omega (arith, read.ahead))
+          (omega (arith, read.ahead, c.requires.least_stop))
+          (list.stop, omega (arith, read.ahead), read.least, omega arith))
           (c.if-not-is_symbol.ensures.stands refl) (c.if-not-is_symbol.ensures.within refl))
-          (omega (arith, c.max-in-Ok-2.ensures));
-    }
+          refl;
+    })
 
 pub returns-in-Refused : goal.returns-in-Refused
 returns-in-Refused c =

@@ -1,7 +1,9 @@
 -- That SEND is read, or the least stop is told.
-use Rattle.std.proofs.Common.{◌≡◌, ◌+◌, max, ◌<◌, ◌^◌, length, rules, arith}
+use Rattle.std.proofs.Common.{◌≡◌, ◌+◌, max, ◌<◌, ◌^◌, length, rules, arith, ℕ, refl}
 use Rattle.pearl_tree.specs.Expressions.{SpellsWhole}
 use Rattle.pearl_tree.specs.declared.word_code.TheConstants as w
+use Rattle.pearl_parse_expr.proofs.Fields.{reading_is}
+use Rattle.pearl_tree.specs.declared.statement.Stmt.TheVariants as stmt
 use Rattle.pearl_parse.proofs.Steps.{no_part}
 use Rattle.pearl_parse.proofs.StatementRests.{Spelled, station_rest, send_goes}
 use Rattle.pearl_parse.proofs.StatementLeast.{send_begun}
@@ -71,13 +73,15 @@ returns c = λ depth.
     let word = c.in_ok-word.ensures in
     let dation = c.in_ok-dation.ensures in
     let symbol = c.in_ok-symbol.ensures in
-    let is : c.max.result ≡ max value.stop (value.end + 3) = omega (arith, c.max.ensures) in
-    record {
+    let new : ℕ = max value.stop (value.end + 3) in
+    rw (reading_is c.map.result (stmt.Send c.in_ok-boxed.field-0.part) (value.end + 3) new (search rules) (search rules)
+    (search rules))
+    (record {
       spells = search rules;
-      only = station_end tokens depth from w.TO value.end value.stop at c.max.result is;
+      only = station_end tokens depth from w.TO value.end value.stop at new refl;
       ahead = search rules;
       refused = tt;
-      least = station_goes tokens depth from w.TO value.end value.stop at c.max.result is word.stands word.within
+      least = station_goes tokens depth from w.TO value.end value.stop at new refl word.stands word.within
           c.in_ok-dation.dation dation.stands dation.within
           symbol.stands symbol.within;
-    }
+    })

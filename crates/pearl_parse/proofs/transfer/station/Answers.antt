@@ -1,5 +1,6 @@
 -- That a station is read with its formats, or the least stop is told.
 use Rattle.std.proofs.Common.{◌<◌, ◌^◌, length, rules, ◌+◌, arith}
+use Rattle.pearl_parse_expr.proofs.Fields.{reading_is}
 use Rattle.pearl_parse.proofs.Steps.{Ends, Then}
 use Rattle.pearl_parse.proofs.TransferRests.{station_stopped}
 use Rattle.pearl_tree.specs.Standing.{SpellsName}
@@ -41,7 +42,9 @@ returns c =
     c.in_ok-word.ensures.within in
     let formats = c.in_ok-formats.formats in
     let read = c.in_ok-formats.ensures in
-    record {
+    rw (reading_is c.map.result (record { dation = c.in_ok-dation.dation; formats = formats.part }) formats.end
+    formats.stop (search rules) (search rules) (search rules))
+    (record {
       spells = search rules;
       only = λ others agree x to h. c.in_ok-formats.ensures.only others agree x.1 to h.2;
       bounds = search rules;
@@ -50,7 +53,7 @@ returns c =
           (past_part 24 SpellsStation tokens from low 0 24 SpellsFormats Ends formats_end_is_local ends_fill
           (omega arith) (from + 2) low (omega arith) at formats.part.items formats.end formats.stop read.spells
           (omega (arith, read.bounds)) (omega (arith, read.bounds)) read.least) (omega (arith, read.bounds));
-    }
+    })
 
 pub returns-in_err-dation : goal.returns-in_err-dation
 returns-in_err-dation c =

@@ -12,6 +12,7 @@ use Rattle.pearl_tree.specs.declared.word_code.TheConstants as w
 use Rattle.pearl_parse_expr.specs.Stops.{is_name, is_word}
 use Rattle.pearl_parse_expr.proofs.Parts.{shorter}
 use Rattle.pearl_parse_expr.proofs.Primaries.{clash, word_within}
+use Rattle.pearl_parse_expr.proofs.Halts.{residual}
 use Rattle.pearl_parse_decl.specs.Readings.{by_bracket}
 use Rattle.pearl_parse_decl.proofs.Behind.{longest_is_read, none_only, part_closed, part_unclosed, part_unread}
 use Rattle.pearl_parse_decl.proofs.DeclReach.{type_begins, type_holds}
@@ -50,22 +51,23 @@ returns-in-None c =
     )
     (type_begins tokens from c.requires.word (omega (arith, within)))
 
-pub returns-in-Err : goal.returns-in-Err
-returns-in-Err c =
-    part_unread (type_holds c.args.tokens.now c.args.from c.requires.word c.in-Some.name c.in-Some.ensures.some)
-    (search rules) c.in-Err.ensures.refused c.in-Err.ensures.least
+pub returns-in_err-typing : goal.returns-in_err-typing
+returns-in_err-typing c =
+    rw (residual c.in_err-typing.field-0.0 c.from_residual.result c.from_residual.ensures)
+    (part_unread (type_holds c.args.tokens.now c.args.from c.requires.word c.in-Some.name c.in-Some.ensures.some)
+    (search rules) c.in_err-typing.ensures.refused c.in_err-typing.ensures.least)
 
 pub returns-then-not-is_symbol : goal.returns-then-not-is_symbol
 returns-then-not-is_symbol c =
     part_unclosed (type_holds c.args.tokens.now c.args.from c.requires.word c.in-Some.name c.in-Some.ensures.some)
-    (longest_is_read c.in-Ok.ensures) (typing_is_local 8) (search rules)
+    (longest_is_read c.in_ok-typing.ensures) (typing_is_local 8) (search rules)
 
 pub returns : goal.returns
 returns c =
     let tokens = c.args.tokens.now in
     let from = c.args.from in
-    let typing = c.in-Ok.typing in
-    let read = c.in-Ok.ensures in
+    let typing = c.in_ok-typing.typing in
+    let read = c.in_ok-typing.ensures in
     let same : c.past-closed.result.part ≡ typing.part = ap (λ reading. reading.part) c.past-closed.ensures in
     rw c.past-closed.ensures (part_closed
     (type_holds tokens from c.requires.word c.in-Some.name c.in-Some.ensures.some) (longest_is_read read)

@@ -8,6 +8,7 @@ use Rattle.pearl_parse_expr.specs.Stops.{is_word}
 use Rattle.pearl_parse_expr.proofs.Parts.{shorter}
 use Rattle.pearl_parse_expr.proofs.Readings.{longest_read}
 use Rattle.pearl_parse_expr.proofs.Reaching.{goes_max, reaches_max}
+use Rattle.pearl_parse_expr.proofs.Halts.{residual}
 use Rattle.pearl_parse_decl.specs.Readings.{by_bracket}
 use Rattle.pearl_parse_decl.proofs.Behind.{last, longest_is_read, no_flag, only_is_read, part_unread, unclosed}
 use Rattle.pearl_parse_decl.proofs.Behind.{unread_behind}
@@ -16,20 +17,21 @@ use Rattle.pearl_parse_decl.proofs.Leaves.{basic_is_local}
 use Rattle.pearl_parse_decl.proofs.TypeReach.{names_are_local}
 use Rattle.pearl_parse_decl.proofs.head.param.Goals as goal
 
+pub returns-in_err-names : goal.returns-in_err-names
+returns-in_err-names c =
+    rw (residual c.in_err-names.field-0.0 c.from_residual.result c.from_residual.ensures)
+    (longest_read _
+    (part_unread (param_names c.args.tokens.now c.args.from) (search rules) c.in_err-names.ensures.refused
+    c.in_err-names.ensures.least))
+
 pub returns-in-Err : goal.returns-in-Err
 returns-in-Err c =
-    longest_read _
-    (part_unread (param_names c.args.tokens.now c.args.from) (search rules) c.in-Err.ensures.refused
-    c.in-Err.ensures.least)
-
-pub returns-in-Err-basic : goal.returns-in-Err-basic
-returns-in-Err-basic c =
     let tokens = c.args.tokens.now in
-    let names = c.in-Ok.names in
-    let read = c.in-Ok.ensures in
-    let none = c.in-Err-basic.ensures.reads in
+    let names = c.in_ok-names.names in
+    let read = c.in_ok-names.ensures in
+    let none = c.in-Err.ensures.reads in
     unread_behind (param_basic tokens c.args.from names.part names.end read.spells) names.stop
-    (unclosed (param_names tokens c.args.from) (only_is_read read) names_are_local) c.in-Err-basic.halt
+    (unclosed (param_names tokens c.args.from) (only_is_read read) names_are_local) c.in-Err.halt
     c.behind.ensures.same (omega (arith, read.ahead)) (omega (arith, read.ahead))
     (λ others agree x to h.
     let same = read.only others agree x.names h.0 h.3 in
@@ -39,10 +41,10 @@ pub returns : goal.returns
 returns c =
     let tokens = c.args.tokens.now in
     let from = c.args.from in
-    let names = c.in-Ok.names in
-    let read = c.in-Ok.ensures in
-    let basic = c.in-Ok-basic.basic in
-    let next = c.in-Ok-basic.ensures.reads in
+    let names = c.in_ok-names.names in
+    let read = c.in_ok-names.ensures in
+    let basic = c.in-Ok.basic in
+    let next = c.in-Ok.ensures.reads in
     let ident = c.flag-ident.result in
     let flag = c.flag-ident.ensures.reads in
     let stop = c.max-2.result in

@@ -6,22 +6,24 @@ use Rattle.pearl_parse_expr.specs.Stops.{is_word}
 use Rattle.pearl_parse_expr.proofs.Parts.{shorter}
 use Rattle.pearl_parse_expr.proofs.Readings.{longest_read}
 use Rattle.pearl_parse_expr.proofs.Reaching.{goes_max}
+use Rattle.pearl_parse_expr.proofs.Halts.{residual}
 use Rattle.pearl_parse_decl.proofs.Behind.{none_read, only_is_read, part_unread, unclosed}
 use Rattle.pearl_parse_decl.proofs.DeclReach.{spec_names}
 use Rattle.pearl_parse_decl.proofs.Specifications.{only_interrupt}
 use Rattle.pearl_parse_decl.proofs.TypeReach.{names_are_local}
 use Rattle.pearl_parse_decl.proofs.specification.specified.Goals as goal
 
-pub returns-in-Err : goal.returns-in-Err
-returns-in-Err c =
-    longest_read _
-    (part_unread (spec_names c.args.tokens.now c.args.from) (search rules) c.in-Err.ensures.refused
-    c.in-Err.ensures.least)
+pub returns-in_err-names : goal.returns-in_err-names
+returns-in_err-names c =
+    rw (residual c.in_err-names.field-0.0 c.from_residual.result c.from_residual.ensures)
+    (longest_read _
+    (part_unread (spec_names c.args.tokens.now c.args.from) (search rules) c.in_err-names.ensures.refused
+    c.in_err-names.ensures.least))
 
 pub returns-then-is_word : goal.returns-then-is_word
 returns-then-is_word c =
-    let names = c.in-Ok.names in
-    let read = c.in-Ok.ensures in
+    let names = c.in_ok-names.names in
+    let read = c.in_ok-names.ensures in
     let same : c.past-names.result.part ≡ names.part = ap (λ reading. reading.part) c.past-names.ensures in
     rw c.past-names.ensures (record {
       spells = search rules;
@@ -42,4 +44,4 @@ returns-then-is_word c =
 pub returns : goal.returns
 returns c =
     none_read (search rules)
-    (unclosed (spec_names c.args.tokens.now c.args.from) (only_is_read c.in-Ok.ensures) names_are_local)
+    (unclosed (spec_names c.args.tokens.now c.args.from) (only_is_read c.in_ok-names.ensures) names_are_local)

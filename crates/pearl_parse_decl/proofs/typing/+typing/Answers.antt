@@ -8,7 +8,7 @@ use Rattle.pearl_tree.proofs.TypeLists.{spells_struct}
 use Rattle.pearl_parse_expr.specs.Stops as stops
 use Rattle.pearl_parse_expr.proofs.CommaLists.{ListRead, list_first, list_more, list_done, list_ended}
 use Rattle.pearl_parse_expr.proofs.CommaLists.{list_none}
-use Rattle.pearl_parse_expr.proofs.Halts.{halted}
+use Rattle.pearl_parse_expr.proofs.Halts.{halted, residual}
 use Rattle.pearl_parse_expr.proofs.Lists.{listed}
 use Rattle.pearl_parse_expr.proofs.Readings.{longest_read}
 use Rattle.pearl_parse_expr.proofs.Primaries.{clash, word_within}
@@ -84,22 +84,24 @@ structure-returns-then-not-is_symbol t c =
     (struct_begins c.args.tokens.now c.args.depth c.args.from c.requires.word (omega (arith, c.if-depth-eq0.false))
     (omega (arith, within)))
 
-pub structure-returns-in-Err : goal.structure-returns-in-Err
-structure-returns-in-Err t c =
-    longest_read _
+pub structure-returns-in_err-inner : goal.structure-returns-in_err-inner
+structure-returns-in_err-inner t c =
+    rw (residual c.in_err-inner.field-0.0 c.from_residual.result c.from_residual.ensures)
+    (longest_read _
     (part_unread (struct_holds c.args.tokens.now c.args.depth c.args.from c.requires.word
     (omega (arith, c.if-depth-eq0.false)) (search rules) (c.if-not-is_symbol.ensures.stands refl))
     (halted (fields_at (c.args.depth - 1)) (λ tokens. grammar.SpellsTyping tokens c.args.depth) c.args.tokens.now
-    c.args.from (c.args.from + 2) c.in-Err.halt (omega arith)
+    c.args.from (c.args.from + 2) c.in_err-inner.field-0.0 (omega arith)
     (λ others stop near agree x to h.
     let read = (struct_of c.args.tokens.now others c.args.depth c.args.from stop c.requires.word
     (omega (arith, near)) agree x to h).2 in
-    (read.0, read.1, read.2)) c.in-Err.ensures.refused) c.in-Err.ensures.refused c.in-Err.ensures.least)
+    (read.0, read.1, read.2)) c.in_err-inner.ensures.refused) c.in_err-inner.ensures.refused
+    c.in_err-inner.ensures.least))
 
 pub structure-returns-then-not-is_symbol-2 : goal.structure-returns-then-not-is_symbol-2
 structure-returns-then-not-is_symbol-2 t c =
-    let inner = c.in-Ok.inner in
-    let read = c.in-Ok.ensures in
+    let inner = c.in_ok-inner.inner in
+    let read = c.in_ok-inner.ensures in
     let near : c.args.from ≤ inner.stop = omega (arith, read.ahead) in
     longest_read _
     (part_unclosed (struct_holds c.args.tokens.now c.args.depth c.args.from c.requires.word
@@ -116,8 +118,8 @@ structure-returns t c =
     let tokens = c.args.tokens.now in
     let depth = c.args.depth in
     let from = c.args.from in
-    let inner = c.in-Ok.inner in
-    let read = c.in-Ok.ensures in
+    let inner = c.in_ok-inner.inner in
+    let read = c.in_ok-inner.ensures in
     let deep : 0 < depth = omega (arith, c.if-depth-eq0.false) in
     let same = c.new.ensures ∙ ap (λ reading. reading.part.items) c.past-closed.ensures in
     rw c.past-closed.ensures (longest_read _
@@ -137,63 +139,69 @@ structure-returns t c =
     (struct_is_only tokens depth from inner.end inner.stop c.requires.word (omega (arith, read.ahead)) read.longest
     (max inner.stop (inner.end + 1)) (omega arith)) (search rules)))
 
-pub fields-returns-in-Err : goal.fields-returns-in-Err
-fields-returns-in-Err t c =
-    list_none (λ tokens. grammar.SpellsField tokens c.args.depth) by_bracket
-    (field_is_contained c.args.depth) c.args.tokens.now c.args.from c.in-Err.halt c.in-Err.ensures
+pub fields-returns-in_err-first : goal.fields-returns-in_err-first
+fields-returns-in_err-first t c =
+    rw (residual c.in_err-first.field-0.0 c.from_residual.result c.from_residual.ensures)
+    (list_none (λ tokens. grammar.SpellsField tokens c.args.depth) by_bracket
+    (field_is_contained c.args.depth) c.args.tokens.now c.args.from c.in_err-first.field-0.0 c.in_err-first.ensures)
 
 pub fields-each-init : goal.fields-each-init
 fields-each-init t c =
     listed (ListRead (λ tokens. grammar.SpellsField tokens c.args.depth) by_bracket c.args.tokens.now c.args.from)
     c.in_ok-list.ensures.list
     (list_first (λ tokens. grammar.SpellsField tokens c.args.depth) by_bracket (field_is_contained c.args.depth) refl
-    c.args.tokens.now c.args.from c.in-Ok.first c.in-Ok.ensures)
+    c.args.tokens.now c.args.from c.in_ok-first.first c.in_ok-first.ensures)
 
 pub fields-each-preserved : goal.fields-each-preserved
 fields-each-preserved t c =
     let list = c.each.list in
     listed (ListRead (λ tokens. grammar.SpellsField tokens c.args.depth) by_bracket c.args.tokens.now c.args.from)
-    c.in_ok-add-in-Ok-field.ensures.added
+    c.in_ok-add-in-Ok.ensures.added
     (list_more (λ tokens. grammar.SpellsField tokens c.args.depth) by_bracket (field_is_contained c.args.depth) refl
-    c.args.tokens.now c.args.from list.part.items list.end list.stop c.in-Ok-field.next c.each.invariant
-    (c.each-test.ensures.stands refl) c.in-Ok-field.ensures)
+    c.args.tokens.now c.args.from list.part.items list.end list.stop c.in-Ok.next c.each.invariant
+    (c.each-test.ensures.stands refl) c.in-Ok.ensures)
 
-pub fields-returns-in-Err-field : goal.fields-returns-in-Err-field
-fields-returns-in-Err-field t c =
+pub fields-returns-in-Err : goal.fields-returns-in-Err
+fields-returns-in-Err t c =
     rw c.ended.ensures.value (list_ended (λ tokens. grammar.SpellsField tokens c.args.depth) by_bracket
-    (field_is_contained c.args.depth) c.args.tokens.now c.args.from c.each.list c.in-Err-field.halt c.each.invariant
-    (c.each-test.ensures.stands refl) c.in-Err-field.ensures)
+    (field_is_contained c.args.depth) c.args.tokens.now c.args.from c.each.list c.in-Err.halt c.each.invariant
+    (c.each-test.ensures.stands refl) c.in-Err.ensures)
 
 pub fields-returns : goal.fields-returns
 fields-returns t c =
     list_done (λ tokens. grammar.SpellsField tokens c.args.depth) by_bracket c.args.tokens.now c.args.from c.each.list
     c.each.invariant (sym c.each-test.ensures.value)
 
+pub field-returns-in_err-names : goal.field-returns-in_err-names
+field-returns-in_err-names t c =
+    rw (residual c.in_err-names.field-0.0 c.from_residual.result c.from_residual.ensures)
+    (longest_read _
+    (part_unread (field_names c.args.tokens.now c.args.depth c.args.from) (search rules) c.in_err-names.ensures.refused
+    c.in_err-names.ensures.least))
+
+pub field-returns-in_err-bounds : goal.field-returns-in_err-bounds
+field-returns-in_err-bounds t c =
+    rw (residual c.in_err-bounds.field-0.0 c.from_residual-in_err-bounds.result c.from_residual-in_err-bounds.ensures)
+    (no_memory_read c.in_err-bounds.field-0.0 c.in_err-bounds.ensures.memory)
+
 pub field-returns-in-Err : goal.field-returns-in-Err
 field-returns-in-Err t c =
-    longest_read _
-    (part_unread (field_names c.args.tokens.now c.args.depth c.args.from) (search rules) c.in-Err.ensures.refused
-    c.in-Err.ensures.least)
-
-pub field-returns-in-Err-bounds : goal.field-returns-in-Err-bounds
-field-returns-in-Err-bounds t c = no_memory_read c.in-Err-bounds.halt c.in-Err-bounds.ensures.memory
-
-pub field-returns-in-Err-typing : goal.field-returns-in-Err-typing
-field-returns-in-Err-typing t c =
-    field_unread c.args.tokens.now c.args.depth c.args.from c.in-Ok.names c.in-Ok.ensures c.in-Ok-bounds.bounds
-    c.in-Ok-bounds.ensures.reads c.max-stop.result c.max-stop.ensures
-    c.in-Err-typing.halt c.behind.result c.behind.ensures.same c.in-Err-typing.ensures
+    field_unread c.args.tokens.now c.args.depth c.args.from c.in_ok-names.names c.in_ok-names.ensures
+    c.in_ok-bounds.bounds
+    c.in_ok-bounds.ensures.reads c.max-stop.result c.max-stop.ensures
+    c.in-Err.halt c.behind.result c.behind.ensures.same c.in-Err.ensures
 
 pub field-returns : goal.field-returns
 field-returns t c =
     record {
       spells = search rules;
-      longest = field_ends c.args.tokens.now c.args.depth c.args.from c.in-Ok.names c.in-Ok.ensures
-          c.in-Ok-bounds.bounds c.in-Ok-bounds.ensures.reads c.max-stop.result c.max-stop.ensures
-          c.in-Ok-typing.typing c.in-Ok-typing.ensures c.max.result c.max.ensures;
+      longest = field_ends c.args.tokens.now c.args.depth c.args.from c.in_ok-names.names c.in_ok-names.ensures
+          c.in_ok-bounds.bounds c.in_ok-bounds.ensures.reads c.max-stop.result c.max-stop.ensures
+          c.in-Ok.typing c.in-Ok.ensures c.max.result c.max.ensures;
       ahead = search rules;
       refused = tt;
-      least = field_goes c.args.tokens.now c.args.depth c.args.from c.in-Ok.names c.in-Ok.ensures c.in-Ok-bounds.bounds
-          c.in-Ok-bounds.ensures.reads c.max-stop.result c.max-stop.ensures
-          c.in-Ok-typing.typing c.in-Ok-typing.ensures c.max.result c.max.ensures;
+      least = field_goes c.args.tokens.now c.args.depth c.args.from c.in_ok-names.names c.in_ok-names.ensures
+          c.in_ok-bounds.bounds
+          c.in_ok-bounds.ensures.reads c.max-stop.result c.max-stop.ensures
+          c.in-Ok.typing c.in-Ok.ensures c.max.result c.max.ensures;
     }

@@ -3,7 +3,7 @@ use Rattle.std.proofs.Common.{rules, ◌≡◌, ◌≤◌, subst, arith}
 use Rattle.pearl_tree.specs.Standing.{SpellsMaybe}
 use Rattle.pearl_tree.specs.Types.{SpellsInt, SpellsUpper, SpellsBound}
 use Rattle.pearl_parse_expr.specs.Least.{GoesTo}
-use Rattle.pearl_parse_expr.proofs.Halts.{halted}
+use Rattle.pearl_parse_expr.proofs.Halts.{halted, residual}
 use Rattle.pearl_parse_expr.proofs.Parts.{shorter}
 use Rattle.pearl_parse_expr.proofs.Reaching.{goes_as}
 use Rattle.pearl_parse_expr.proofs.Readings.{longest_read}
@@ -11,19 +11,20 @@ use Rattle.pearl_parse_decl.proofs.Behind.{part_unread}
 use Rattle.pearl_parse_decl.proofs.Leaves.{bound_holds, bound_reaches}
 use Rattle.pearl_parse_decl.proofs.typing.bound.Goals as goal
 
-pub returns-in-Err-clause-reads : goal.returns-in-Err-clause-reads
-returns-in-Err-clause-reads c =
-    let none = c.in-Err.ensures.reads in
+pub returns-in_err-first-clause-reads : goal.returns-in_err-first-clause-reads
+returns-in_err-first-clause-reads c =
+    rw (residual c.in_err-first.field-0.0 c.from_residual.result c.from_residual.ensures)
+    (let none = c.in_err-first.ensures.reads in
     longest_read _
     (part_unread (bound_holds c.args.tokens.now c.args.from)
-    (halted SpellsInt SpellsBound c.args.tokens.now c.args.from c.args.from c.in-Err.halt (omega arith)
-    (λ others stop near agree x to h. (x.first, h.0, h.2)) none.refused) none.refused none.least)
+    (halted SpellsInt SpellsBound c.args.tokens.now c.args.from c.args.from c.in_err-first.field-0.0 (omega arith)
+    (λ others stop near agree x to h. (x.first, h.0, h.2)) none.refused) none.refused none.least))
 
 pub returns-clause-reads : goal.returns-clause-reads
 returns-clause-reads c =
     let tokens = c.args.tokens.now in
-    let first = c.in-Ok.first in
-    let read = c.in-Ok.ensures.reads in
+    let first = c.in_ok-first.first in
+    let read = c.in_ok-first.ensures.reads in
     let second = c.upper-second.result in
     let next = c.upper-second.ensures in
     record {
@@ -37,10 +38,14 @@ returns-clause-reads c =
       ahead = search rules;
       refused = tt;
       least = let same : second.stop ≡ c.max.result =
-          omega (arith, c.max.ensures, c.in-Ok.ensures.once, next.bounds) in
+          omega (arith, c.max.ensures, c.in_ok-first.ensures.once, next.bounds) in
           subst (λ k. GoesTo SpellsBound tokens c.args.from second.end k) same
           (goes_as (λ tokens. SpellsMaybe (SpellsUpper tokens)) SpellsBound tokens c.args.from first.end second.end
           second.stop
           (bound_reaches tokens c.args.from first.end second.stop first.part read.spells (omega (arith, read.ahead))
           (omega (arith, next.bounds))) next.least);
     }
+
+pub returns-in_err-first-clause-memory : goal.returns-in_err-first-clause-memory
+returns-in_err-first-clause-memory c =
+    rw (residual c.in_err-first.field-0.0 c.from_residual.result c.from_residual.ensures) c.in_err-first.ensures.memory

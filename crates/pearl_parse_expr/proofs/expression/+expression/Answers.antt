@@ -1,13 +1,13 @@
 -- Expressions and what they are made of: each is known from its parts, by the lemmas of its class.
-use Rattle.std.proofs.Common.{Err, ◌≡◌, ◌+◌, ◌-◌, ◌<◌, inl, refl, sym, ap, subst, ◌∙◌, arith, rules}
+use Rattle.std.proofs.Common.{◌≡◌, ◌+◌, ◌-◌, ◌<◌, inl, refl, sym, ap, subst, ◌∙◌, arith, rules}
 use Rattle.pearl_tree.specs.Expressions as grammar
 use Rattle.pearl_tree.specs.declared.symbol.TheConstants as s
 use Rattle.pearl_tree.proofs.ExpressionLists.{spells_limit, spells_subscripts}
 use Rattle.pearl_parse_expr.specs.Stops as spec
-use Rattle.pearl_parse_expr.specs.Reads.{ReadsList}
 use Rattle.pearl_parse_expr.proofs.Closings.{group_unread, group_unclosed, group_closed, bracketed_unread}
 use Rattle.pearl_parse_expr.proofs.Closings.{bracketed_unclosed, bracketed_closed}
 use Rattle.pearl_parse_expr.proofs.CommaLists.{ListRead, list_first, list_more, list_done, list_ended, list_none}
+use Rattle.pearl_parse_expr.proofs.Halts.{residual}
 use Rattle.pearl_parse_expr.proofs.Joining.{expr_keeps}
 use Rattle.pearl_parse_expr.proofs.Lists.{listed}
 use Rattle.pearl_parse_expr.proofs.Loops.{SelectorsRead, selectors_none, selectors_more, selectors_ended}
@@ -18,33 +18,34 @@ use Rattle.pearl_parse_expr.proofs.Primaries.{clash, symbol_within, only_group, 
 use Rattle.pearl_parse_expr.proofs.PrimariesBegin.{primary_begins, selector_begins, named_begins}
 use Rattle.pearl_parse_expr.proofs.expression.+expression.Goals as goal
 
-pub bracketed-returns-in-Err : goal.bracketed-returns-in-Err
-bracketed-returns-in-Err t c =
-    bracketed_unread c.args.tokens.now c.args.depth c.args.from (search rules) c.requires.deep c.requires.bracket
-    c.in-Err.halt c.in-Err.ensures
+pub bracketed-returns-in_err-inner : goal.bracketed-returns-in_err-inner
+bracketed-returns-in_err-inner t c =
+    let halt = c.in_err-inner.field-0.0 in
+    rw (residual halt c.from_residual.result c.from_residual.ensures) (bracketed_unread c.args.tokens.now c.args.depth
+    c.args.from (search rules) c.requires.deep c.requires.bracket halt c.in_err-inner.ensures)
 
 pub bracketed-returns-then-not-is_symbol : goal.bracketed-returns-then-not-is_symbol
 bracketed-returns-then-not-is_symbol t c =
     bracketed_unclosed c.args.tokens.now c.args.depth c.args.from (search rules) c.requires.deep c.requires.bracket
-    c.in-Ok.inner c.in-Ok.ensures (sym c.if-not-is_symbol.ensures.value)
+    c.in_ok-inner.inner c.in_ok-inner.ensures (sym c.if-not-is_symbol.ensures.value)
 
 pub bracketed-returns : goal.bracketed-returns
 bracketed-returns t c =
-    let inner = c.in-Ok.inner in
+    let inner = c.in_ok-inner.inner in
     let tokens = c.args.tokens.now in
     let depth = c.args.depth in
     let from = c.args.from in
     let closed = c.if-not-is_symbol.ensures.stands refl in
     let same = c.new.ensures ∙ ap (λ reading. reading.part.items) c.past-closed.ensures in
     rw c.past-closed.ensures (bracketed_closed tokens depth from (search rules) c.requires.deep c.requires.bracket inner
-    c.in-Ok.ensures _ _ closed refl
+    c.in_ok-inner.ensures _ _ closed refl
     (subst (λ X. X) (sym (spells_subscripts tokens depth from c.new.result c.place_at.result (inner.end + 1))) (
       inner.end,
       c.place_at.ensures,
       c.requires.bracket,
       c.requires.deep,
       subst (λ xs. spec.SpellsSubscriptsList tokens (depth - 1) (from + 1) xs inner.end) (sym same)
-          c.in-Ok.ensures.spells,
+          c.in_ok-inner.ensures.spells,
       closed,
       refl,
     )))
@@ -70,31 +71,34 @@ group-expression_at_depth-requires t c =
     let deep : 0 < c.args.depth = omega (arith, c.if-depth-eq0.false) in
     (search rules, omega (arith, symbol_within c.args.tokens.now c.args.from s.LEFT_ROUND c.requires.bracket))
 
-pub group-returns-in-Err : goal.group-returns-in-Err
-group-returns-in-Err t c =
-    group_unread c.args.tokens.now c.args.depth c.args.from (search rules) (omega (arith, c.if-depth-eq0.false))
-    c.requires.bracket c.in-Err.halt c.in-Err.ensures
+pub group-returns-in_err-inner : goal.group-returns-in_err-inner
+group-returns-in_err-inner t c =
+    let halt = c.in_err-inner.field-0.0 in
+    rw (residual halt c.from_residual.result c.from_residual.ensures) (group_unread c.args.tokens.now c.args.depth
+    c.args.from (search rules) (omega (arith, c.if-depth-eq0.false)) c.requires.bracket halt c.in_err-inner.ensures)
 
 pub group-returns-then-not-is_symbol : goal.group-returns-then-not-is_symbol
 group-returns-then-not-is_symbol t c =
     group_unclosed c.args.tokens.now c.args.depth c.args.from (search rules) (omega (arith, c.if-depth-eq0.false))
-    c.requires.bracket c.in-Ok.inner c.in-Ok.ensures (sym c.if-not-is_symbol.ensures.value)
+    c.requires.bracket c.in_ok-inner.inner c.in_ok-inner.ensures (sym c.if-not-is_symbol.ensures.value)
 
 pub group-returns : goal.group-returns
 group-returns t c =
-    let inner = c.in-Ok.inner in
+    let inner = c.in_ok-inner.inner in
     let same : c.past-closed.result.part ≡ inner.part = ap (λ reading. reading.part) c.past-closed.ensures in
     rw c.past-closed.ensures (group_closed c.args.tokens.now c.args.depth c.args.from (search rules)
-    (omega (arith, c.if-depth-eq0.false)) c.requires.bracket inner c.in-Ok.ensures _ _
+    (omega (arith, c.if-depth-eq0.false)) c.requires.bracket inner c.in_ok-inner.ensures _ _
     (c.if-not-is_symbol.ensures.stands refl) refl (search rules))
 
-pub expression_at_depth-returns-in-Err : goal.expression_at_depth-returns-in-Err
-expression_at_depth-returns-in-Err t c =
-    chain_unread c.args.tokens.now c.args.depth c.args.from c.in-Err.halt c.in-Err.ensures
+pub expression_at_depth-returns-in_err-first : goal.expression_at_depth-returns-in_err-first
+expression_at_depth-returns-in_err-first t c =
+    let halt = c.in_err-first.field-0.0 in
+    rw (residual halt c.from_residual.result c.from_residual.ensures) (chain_unread c.args.tokens.now c.args.depth
+    c.args.from halt c.in_err-first.ensures)
 
 pub expression_at_depth-each-init : goal.expression_at_depth-each-init
 expression_at_depth-each-init t c =
-    chain_one c.args.tokens.now c.args.depth c.args.from c.in-Ok.first c.in-Ok.ensures
+    chain_one c.args.tokens.now c.args.depth c.args.from c.in_ok-first.first c.in_ok-first.ensures
 
 pub expression_at_depth-returns-in-None : goal.expression_at_depth-returns-in-None
 expression_at_depth-returns-in-None t c =
@@ -106,20 +110,20 @@ expression_at_depth-returns t c =
     chain_read_full c.args.tokens.now c.args.depth c.args.from c.each.read c.each.count c.each.invariant
     (omega (arith, c.each-test.false))
 
-pub expression_at_depth-returns-in-Err-operand : goal.expression_at_depth-returns-in-Err-operand
-expression_at_depth-returns-in-Err-operand t c =
+pub expression_at_depth-returns-in-Err : goal.expression_at_depth-returns-in-Err
+expression_at_depth-returns-in-Err t c =
     rw c.ended.ensures.value (chain_ended c.args.tokens.now c.args.depth c.args.from c.each.read c.each.count
     c.each.invariant c.in-Some.dyadic (omega (arith, c.each-test.true)) c.in-Some.ensures.some c.in-Some.ensures.place
-    c.in-Err-operand.halt c.in-Err-operand.ensures)
+    c.in-Err.halt c.in-Err.ensures)
 
 pub expression_at_depth-each-preserved : goal.expression_at_depth-each-preserved
 expression_at_depth-each-preserved t c =
     let tokens = c.args.tokens.now in
     let list = c.each.read in
-    let next = c.in-Ok-operand.next in
-    let read = c.in-Ok-operand.ensures in
+    let next = c.in-Ok.next in
+    let read = c.in-Ok.ensures in
     let dyadic = c.in-Some.ensures in
-    let whole = c.in_ok-read-in-Ok-operand.ensures in
+    let whole = c.in_ok-read-in-Ok.ensures in
     chain_more tokens c.args.depth c.args.from list c.each.count c.each.invariant
     c.in-Some.dyadic (omega (arith, c.each-test.true)) dyadic.some dyadic.place next _ _
     c.max.ensures
@@ -270,13 +274,10 @@ subscripts-each-preserved t c =
 
 pub subscripts-returns-in_err-first : goal.subscripts-returns-in_err-first
 subscripts-returns-in_err-first t c =
-    let tokens = c.args.tokens.now in
     let halt = c.in_err-first.field-0.0 in
-    let same : c.from_residual.result ≡ Err halt = search rules in
-    subst (λ r. ReadsList 16 (λ tokens. spec.SpellsSubscriptsList tokens c.args.depth)
-    spec.extends_list tokens c.args.from r)
-    (sym same) (list_none (λ tokens. grammar.SpellsExpr tokens c.args.depth) spec.extends_expression
-    (expr_keeps c.args.depth) tokens c.args.from halt c.in_err-first.ensures)
+    rw (residual halt c.from_residual.result c.from_residual.ensures) (list_none
+    (λ tokens. grammar.SpellsExpr tokens c.args.depth) spec.extends_expression (expr_keeps c.args.depth)
+    c.args.tokens.now c.args.from halt c.in_err-first.ensures)
 
 pub subscripts-returns-in-Err : goal.subscripts-returns-in-Err
 subscripts-returns-in-Err t c =
