@@ -1,5 +1,5 @@
 -- That RETURN is read, with its value if it has one, or the least stop is told.
-use Rattle.std.proofs.Common.{◌+◌, ◌<◌, ◌^◌, length, rules, arith, ℕ, max, refl}
+use Rattle.std.proofs.Common.{◌+◌, ◌<◌, ◌^◌, length, rules, arith, ℕ, max}
 use Rattle.pearl_tree.specs.Statements.{SpellsValue}
 use Rattle.pearl_parse_expr.proofs.Fields.{reading_is}
 use Rattle.pearl_tree.specs.declared.statement.Stmt.TheVariants as stmt

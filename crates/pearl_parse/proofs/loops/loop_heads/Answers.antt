@@ -1,5 +1,5 @@
 -- That the heads of a loop are read up to REPEAT, or the least stop is told.
-use Rattle.std.proofs.Common.{◌+◌, ap, ◌<◌, ◌^◌, length, rules, arith, ℕ, max, refl}
+use Rattle.std.proofs.Common.{◌+◌, ap, ◌<◌, ◌^◌, length, rules, arith, ℕ, max}
 use Rattle.pearl_tree.specs.declared.word_code.TheConstants as w
 use Rattle.pearl_parse_expr.specs.Stops.{is_word}
 use Rattle.pearl_parse_expr.proofs.Fields.{reading_is}

@@ -1,5 +1,5 @@
 -- That ACTIVATE is read with its task and priority, or the least stop is told.
-use Rattle.std.proofs.Common.{◌+◌, ap, ◌<◌, ◌^◌, length, rules, arith, ℕ, max, refl}
+use Rattle.std.proofs.Common.{◌+◌, ap, ◌<◌, ◌^◌, length, rules, arith, ℕ, max}
 use Rattle.pearl_tree.specs.declared.symbol.TheConstants as s
 use Rattle.pearl_parse_expr.specs.Stops.{is_symbol, is_word, is_name}
 use Rattle.pearl_parse_expr.proofs.Fields.{reading_is}

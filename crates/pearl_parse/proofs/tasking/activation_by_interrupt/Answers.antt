@@ -1,20 +1,17 @@
 -- That an activation is read that begins with WHEN, or the least stop is told.
-use Rattle.std.proofs.Common.{◌+◌, refl, sym, ◌<◌, ◌^◌, length, rules, arith}
-use Rattle.pearl_parse_expr.specs.Stops.{is_name}
+use Rattle.std.proofs.Common.{◌+◌, ◌<◌, ◌^◌, length, rules, arith}
 use Rattle.pearl_parse_expr.proofs.Fields.{reading_is}
 use Rattle.pearl_tree.specs.declared.statement.Stmt.TheVariants as stmt
 use Rattle.pearl_parse.specs.Schedules.{SpellsOptionalAfter, SpellsBegun, SpellsAnyBegun}
-use Rattle.pearl_parse.proofs.Steps.{Ends, missing, no_part, Then}
+use Rattle.pearl_parse.proofs.Steps.{Ends, no_part, Then}
 use Rattle.pearl_parse.proofs.StatementRests.{Spelled}
 use Rattle.pearl_parse.proofs.TaskingRests.{begun_rest}
-use Rattle.pearl_parse.proofs.WhenRests.{when_rest, when_goes}
 use Rattle.pearl_tree.specs.declared.word_code.TheConstants as w
 use Rattle.pearl_parse.proofs.Comes.{Maybe}
 use Rattle.pearl_parse.proofs.ScheduleMade.{After}
-use Rattle.pearl_parse.proofs.ScheduleLeast.{maybe_after_is_local, begun_is_local, begun_fills, interrupt_missing}
+use Rattle.pearl_parse.proofs.ScheduleLeast.{maybe_after_is_local, begun_is_local, begun_fills}
 use Rattle.pearl_parse.proofs.Stands.{no_last, last_is_only, last_goes}
-use Rattle.pearl_parse.proofs.TaskingReads.{then_continues, then_resumes, then_waits, then_begins, no_task, no_task_end}
-use Rattle.pearl_parse.proofs.TaskingReads.{continued_ends, no_resume_end, resumed_ends}
+use Rattle.pearl_parse.proofs.TaskingReads.{then_waits, then_begins}
 use Rattle.pearl_parse.proofs.States.{halt_part}
 use Rattle.pearl_parse.proofs.Unread.{unread}
 use Rattle.pearl_parse.proofs.tasking.activation_by_interrupt.Goals as goal

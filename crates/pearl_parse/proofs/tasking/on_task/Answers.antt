@@ -1,5 +1,5 @@
 -- That SUSPEND, TERMINATE or PREVENT is read, or the least stop is told.
-use Rattle.std.proofs.Common.{◌+◌, ap, ◌<◌, ◌^◌, length, rules, inl, arith, ℕ, max, refl}
+use Rattle.std.proofs.Common.{◌+◌, ap, ◌<◌, ◌^◌, length, rules, inl, arith, ℕ, max}
 use Rattle.pearl_tree.specs.Standing.{SpellsName}
 use Rattle.pearl_tree.specs.declared.symbol.TheConstants as s
 use Rattle.pearl_parse_expr.specs.Stops.{is_symbol, is_name}

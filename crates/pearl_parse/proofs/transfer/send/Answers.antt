@@ -1,5 +1,5 @@
 -- That SEND is read, or the least stop is told.
-use Rattle.std.proofs.Common.{◌≡◌, ◌+◌, max, ◌<◌, ◌^◌, length, rules, arith, ℕ, refl}
+use Rattle.std.proofs.Common.{◌+◌, max, ◌<◌, ◌^◌, length, rules, arith, ℕ, refl}
 use Rattle.pearl_tree.specs.Expressions.{SpellsWhole}
 use Rattle.pearl_tree.specs.declared.word_code.TheConstants as w
 use Rattle.pearl_parse_expr.proofs.Fields.{reading_is}

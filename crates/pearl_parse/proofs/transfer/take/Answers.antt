@@ -1,5 +1,5 @@
 -- That TAKE is read, or the least stop is told.
-use Rattle.std.proofs.Common.{◌≡◌, ◌+◌, max, ◌<◌, ◌^◌, length, rules, arith, ℕ, refl}
+use Rattle.std.proofs.Common.{◌+◌, max, ◌<◌, ◌^◌, length, rules, arith, ℕ, refl}
 use Rattle.pearl_tree.specs.Expressions.{SpellsOwnRef}
 use Rattle.pearl_parse_expr.proofs.Fields.{reading_is}
 use Rattle.pearl_tree.specs.declared.statement.Stmt.TheVariants as stmt
