@@ -1,4 +1,5 @@
 pub mod Writing
+pub mod Parting
 pub mod Saying
 pub mod Numbers
 pub mod Finding
@@ -11,6 +12,7 @@ pub mod Amounts
 pub mod Durations
 pub mod Literals
 pub mod Values
+pub mod Readings
 pub mod StepLaws
 pub mod ArrivalLaws
 mod Examples

@@ -1,0 +1,12 @@
+use Rattle.pearl_journal.specs.declared.reading.Line.TheVariants.{Blank, Item, Wrong}
+use Rattle.pearl_journal_laws.proofs.Readings.{entries_of}
+use Rattle.pearl_journal_laws.proofs.lines.entries_end_at_a_refusal.Goals as goal
+
+pub returns-clause-skipped : goal.returns-clause-skipped
+returns-clause-skipped c setup reading line later = entries_of setup reading line later Blank
+
+pub returns-clause-entry : goal.returns-clause-entry
+returns-clause-entry c setup reading line later entry = entries_of setup reading line later (Item entry)
+
+pub returns-clause-refused : goal.returns-clause-refused
+returns-clause-refused c setup reading line later code = entries_of setup reading line later (Wrong code)
