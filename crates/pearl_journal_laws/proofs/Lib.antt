@@ -1,5 +1,6 @@
 pub mod Writing
 pub mod Parting
+pub mod Endings
 pub mod Saying
 pub mod Numbers
 pub mod Finding
