@@ -16,4 +16,5 @@ pub mod Values
 pub mod Readings
 pub mod StepLaws
 pub mod ArrivalLaws
+pub mod Returns
 mod Examples

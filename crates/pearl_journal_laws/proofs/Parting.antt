@@ -10,7 +10,7 @@ use Rattle.pearl_journal_laws.specs.Says.{Says, SaysMore}
 -- ENDS
 
 -- no blank comes first
-abbrev Begins : List ℕ → Type 0
+abbrev pub Begins : List ℕ → Type 0
 Begins text = (byte : ℕ) (rest : List ℕ) → text ≡ byte ∷ rest → is_blank byte ≡ false
 
 -- no blank comes last
@@ -18,14 +18,14 @@ abbrev Ends : List ℕ → Type 0
 Ends text = (front : List ℕ) (byte : ℕ) → text ≡ front ++ byte ∷ [] → is_blank byte ≡ false
 
 -- blanks, and a text that begins with none
-record Fronted (bytes : List ℕ) : Type 0 where
-  gap : List ℕ
-  rest : List ℕ
-  is_gap : IsGap gap
-  spelled : bytes ≡ gap ++ rest
-  begins : Begins rest
+pub record Fronted (bytes : List ℕ) : Type 0 where
+  pub gap : List ℕ
+  pub rest : List ℕ
+  pub is_gap : IsGap gap
+  pub spelled : bytes ≡ gap ++ rest
+  pub begins : Begins rest
 
-fronted : (bytes : List ℕ) → Fronted bytes
+pub fronted : (bytes : List ℕ) → Fronted bytes
 fronted [] = record { gap = []; rest = []; is_gap = tt; spelled = refl; begins = λ byte rest e. cc }
 fronted (b ∷ bytes) = by (is_blank b) refl (fronted bytes)
   where
@@ -49,10 +49,10 @@ fronted (b ∷ bytes) = by (is_blank b) refl (fronted bytes)
 
 -- a text that ends in no blank, and blanks
 record Backed (bytes : List ℕ) : Type 0 where
-  text : List ℕ
+  pub text : List ℕ
   back : List ℕ
   is_gap : IsGap back
-  spelled : bytes ≡ text ++ back
+  pub spelled : bytes ≡ text ++ back
   ends : Ends text
 
 no_last : (front : List ℕ) (byte : ℕ) → [] ≡ front ++ byte ∷ [] → ⊥
@@ -102,17 +102,17 @@ backed (b ∷ bytes) = let r = backed bytes in by r.text r.back r.is_gap r.spell
 -- PARTS
 
 -- a word, blanks, and a text that begins with none
-record Worded (bytes : List ℕ) : Type 0 where
-  word : List ℕ
-  gap : List ℕ
-  text : List ℕ
-  solid : IsSolid word
-  is_gap : IsGap gap
-  spelled : bytes ≡ word ++ (gap ++ text)
-  begins : Begins text
-  parted : gap ≡ [] → text ≡ []
+pub record Worded (bytes : List ℕ) : Type 0 where
+  pub word : List ℕ
+  pub gap : List ℕ
+  pub text : List ℕ
+  pub solid : IsSolid word
+  pub is_gap : IsGap gap
+  pub spelled : bytes ≡ word ++ (gap ++ text)
+  pub begins : Begins text
+  pub parted : gap ≡ [] → text ≡ []
 
-worded : (bytes : List ℕ) → Worded bytes
+pub worded : (bytes : List ℕ) → Worded bytes
 worded [] =
     record {
       word = [];

@@ -1,7 +1,7 @@
 // Laws of how lines say their parts, and of how reading goes on. Each function's contract is one theorem; none does
 // anything.
 
-ghost use Rattle.std.specs.Prelude.{◌≡◌, ◌≢◌, ◌⊎◌, ◌+◌, ◌^◌, ◌≤◌, ℕ, List, [], ◌∷◌, ◌++◌, true, false, length};
+ghost use Rattle.std.specs.Prelude.{◌≡◌, ◌≢◌, ◌⊎◌, ◌+◌, ◌^◌, ◌<◌, ◌≤◌, ℕ, List, [], ◌∷◌, ◌++◌, true, false, length};
 ghost use Rattle.std.specs.List.{AllByRecursion};
 ghost use Rattle.pearl_rules.specs.declared.entry.Entry.{Entry};
 ghost use Rattle.pearl_rules.specs.declared.entry.Entry.TheVariants.{Tick, Pass};
@@ -36,6 +36,18 @@ pub fn each_line_says_its_parts()
     ensures three { (line word text : List ℕ) → Says line word text →
         AllByRecursion (λ byte. is_blank byte ≡ false) text
         ⊎ ((second : List ℕ) × (rest : List ℕ) × SaysMore line word second rest) }
+{}
+
+/// Of two bytes 13 at a line's end, or more, one is dropped: such a line is refused with 1, unless it is a comment. A
+/// comment with a byte 13 that isn't dropped is skipped, where it has no more than 1,024 bytes with that, and refused
+/// with 1 where it has more.
+pub fn one_return_is_dropped()
+    ensures form { (setup : Setup) (reading : Reading) (line : List ℕ) → (IsComment line → ⊥) →
+        meaning setup reading (line ++ 13 ∷ 13 ∷ []) ≡ Wrong 1 }
+    ensures comment { (setup : Setup) (reading : Reading) (line : List ℕ) → IsComment line → length line < 1024 →
+        meaning setup reading (line ++ 13 ∷ 13 ∷ []) ≡ Blank }
+    ensures long { (setup : Setup) (reading : Reading) (line : List ℕ) → 1024 ≤ length line →
+        meaning setup reading (line ++ 13 ∷ 13 ∷ []) ≡ Wrong 1 }
 {}
 
 /// A journal begins before all lines and all entries, at moment 0. Each line is counted, whatever it means. A line that
