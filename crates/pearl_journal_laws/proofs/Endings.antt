@@ -26,7 +26,7 @@ behind before text well = (some before, ends_behind before text well.0 well.1)
     some [] = well.0
     some (b ∷ before) = λ e. cc
 
-both_true : (a b : Bool) → not a && b ≡ true → (a ≡ false) × (b ≡ true)
+pub both_true : (a b : Bool) → not a && b ≡ true → (a ≡ false) × (b ≡ true)
 both_true false b e = (refl, e)
 both_true true b e = absurd (false≢true e)
 

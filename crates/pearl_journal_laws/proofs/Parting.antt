@@ -163,7 +163,8 @@ abbrev pub SaysSome : List ℕ → Type 0
 SaysSome line = (word : List ℕ) × (text : List ℕ) × SaysWordAndText line word text
 
 some_word : (first : ℕ) (bytes : List ℕ) → is_blank first ≡ false → (w : Worded (first ∷ bytes)) → w.word ≢ []
-some_word first bytes solid w none = by w.gap w.text w.is_gap w.parted (w.spelled ∙ ap (λ t. t ++ (w.gap ++ w.text)) none)
+some_word first bytes solid w none =
+    by w.gap w.text w.is_gap w.parted (w.spelled ∙ ap (λ t. t ++ (w.gap ++ w.text)) none)
   where
     by : (gap text : List ℕ) → IsGap gap → (gap ≡ [] → text ≡ []) → first ∷ bytes ≡ gap ++ text → ⊥
     by [] text is parted e = let nothing = parted refl in cc (e, nothing)
