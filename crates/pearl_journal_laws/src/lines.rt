@@ -51,8 +51,8 @@ pub fn one_return_is_dropped()
 {}
 
 /// A journal begins before all lines and all entries, at moment 0. Each line is counted, whatever it means. A line that
-/// is skipped changes nothing else; behind an entry no other is the first. An entry `tick` leads on by its milliseconds,
-/// `pass` by its times, and no other entry changes the moment. No moment is past 2^40: where a line is read at a moment
+/// is skipped changes nothing else; behind an entry no other is the first. An entry `tick` leads on by its milliseconds
+/// and `pass` by its times; no other entry changes the moment. No moment is past 2^40: where a line is read at a moment
 /// up to that, so is the next one.
 pub fn reading_goes_on()
     ensures begins { (start.lines ≡ 0) × (start.is_first ≡ true) × (start.moment ≡ 0) }
