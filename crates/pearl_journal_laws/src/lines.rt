@@ -13,6 +13,7 @@ ghost use Rattle.pearl_journal.specs.Laws.{EndsInNoReturn, IsBare, IsComment, Is
 ghost use Rattle.pearl_journal.specs.Meaning.{meaning};
 ghost use Rattle.pearl_journal.specs.Readings.{Reading, start};
 ghost use Rattle.pearl_journal.specs.Words.{is_blank};
+ghost use Rattle.pearl_journal_laws.specs.Readings.{behind_lines};
 ghost use Rattle.pearl_journal_laws.specs.Says.{IsOther, Says, SaysMore};
 
 /// A line that is a word, or a word, a blank and a text, says these; and one that is a word, a blank, a second word,
@@ -69,8 +70,8 @@ pub fn reading_goes_on()
 {}
 
 /// The entries of a journal are those of its lines in their order, up to the first line that is refused: of that the
-/// number and the code are told. The number is one more than how many lines came before, and nothing behind that line
-/// is read.
+/// number and the code are told, and nothing behind it is read. The number is one more than how many lines came before,
+/// those that are skipped among them.
 pub fn entries_end_at_a_refusal()
     ensures begins { (setup : Setup) (lines : List (List ℕ)) → entries setup lines ≡ entries_from setup start lines }
     ensures all { (setup : Setup) (reading : Reading) →
@@ -86,6 +87,11 @@ pub fn entries_end_at_a_refusal()
     ensures refused { (setup : Setup) (reading : Reading) (line : List ℕ) (later : List (List ℕ)) (code : ℕ) →
         meaning setup reading line ≡ Wrong code → entries_from setup reading (line ∷ later)
         ≡ record { accepted = []; ending = Bad (reading.lines + 1) code } }
+    ensures counted { (setup : Setup) (lines : List (List ℕ)) →
+        (behind_lines setup start lines).lines ≡ length lines }
+    ensures number { (setup : Setup) (before : List (List ℕ)) (line : List ℕ) (later : List (List ℕ)) (code : ℕ) →
+        (entries setup before).ending ≡ All → meaning setup (behind_lines setup start before) line ≡ Wrong code →
+        (entries setup (before ++ line ∷ later)).ending ≡ Bad (length before + 1) code }
 {}
 
 /// A line that begins with none of the ten words is refused with 1.
