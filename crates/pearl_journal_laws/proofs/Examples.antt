@@ -15,6 +15,7 @@ use Rattle.pearl_rules.specs.declared.setup.TaskEntry.{TaskEntry}
 use Rattle.pearl_rules.specs.Literals.{clock_literal, span_literal}
 use Rattle.pearl_journal.specs.declared.reading.Line.TheVariants.{Blank, Item, Wrong}
 use Rattle.pearl_journal.specs.Laws.{IsBare, IsComment, IsGap, IsWord}
+use Rattle.pearl_journal.specs.Entries.{Bad, after, entries, entries_from, more_entries}
 use Rattle.pearl_journal.specs.Meaning.{meaning}
 use Rattle.pearl_journal.specs.Readings.{Reading, start}
 use Rattle.pearl_journal.specs.Words.{is_blank, number}
@@ -22,13 +23,16 @@ use Rattle.pearl_journal.specs.Values.{literal}
 use Rattle.pearl_journal.proofs.BlankLaws.{IsSolid, solid_begins, solid_last}
 use Rattle.pearl_journal_laws.specs.Literals.{AreBits}
 use Rattle.pearl_journal_laws.specs.Named.{IsFirst, IsInput, IsNowhere, IsReadable}
+use Rattle.pearl_journal_laws.specs.Readings.{behind_lines}
 use Rattle.pearl_journal_laws.specs.Says.{IsNoNumber, IsText, Says, SaysMore}
+use Rattle.pearl_journal_laws.specs.Times.{AreThousandths}
 use Rattle.pearl_journal_laws.proofs.ArrivalLaws.{chars_is, chars_no_number, chars_no_text, chars_none, irpt_is, irpt_no_number, irpt_none, line_is, line_no_number, line_no_text, line_none, part_missing, value_is, value_long, value_no_literal, value_no_number, value_none, value_unfit}
 use Rattle.pearl_journal_laws.proofs.Durations.{was_length}
 use Rattle.pearl_journal_laws.proofs.Endings.{both_true, no_return_by}
 use Rattle.pearl_journal_laws.proofs.Finding.{input_decides, interrupt_decides, named_decides, readable_decides}
 use Rattle.pearl_journal_laws.proofs.Numbers.{number_is, was_number}
 use Rattle.pearl_journal_laws.proofs.StepLaws.{clock_first, clock_later, clock_none, other_none, pass_is, pass_late, pass_no_picks, pass_no_times, run_is, run_none, state_is, state_none, tick_is, tick_late, tick_none, turn_is, turn_no_name, turn_none}
+use Rattle.pearl_journal_laws.proofs.Readings.{refused_at}
 use Rattle.pearl_journal_laws.proofs.Returns.{second_long, second_refused, second_skipped}
 use Rattle.pearl_journal_laws.proofs.Texts.{text_is, was_text}
 use Rattle.pearl_journal_laws.proofs.Literals.{some_literal}
@@ -145,6 +149,21 @@ a_first_clock : meaning plant start (codes "clock 12:00:00") ≡ Item (entry.Clo
 a_first_clock =
     clock_first plant start _ (codes "12:00:00") 43200000 noon refl (omega arith)
     (was_time (codes "12:00:00") 43200000 noon_is_read)
+
+-- one digit behind a point says tenths
+five_tenths : AreThousandths (codes "5") 500
+five_tenths =
+    record { some = λ e. cc; few = omega arith; are_digits = ((omega arith, omega arith), tt); value = refl }
+
+later_is_read : clock_literal (codes "12:00:00.5") ≡ Some 43200500
+unfolding clock_literal
+later_is_read = refl
+
+a_clock_with_a_point : meaning plant start (codes "clock 12:00:00.5") ≡ Item (entry.Clock 43200500)
+a_clock_with_a_point =
+    clock_first plant start _ (codes "12:00:00.5") 43200500
+    (two (codes "clock") (codes "12:00:00.5") (word_by 99 (codes "lock") refl refl) (λ e. cc) refl refl (omega arith))
+    refl (omega arith) (was_time (codes "12:00:00.5") 43200500 later_is_read)
 
 a_later_clock : meaning plant late (codes "clock 12:00:00") ≡ Wrong 1
 a_later_clock = clock_later plant late _ (codes "12:00:00") noon refl
@@ -566,3 +585,18 @@ a_long_comment : meaning plant start (35 ∷ replicate 1023 120 ++ 13 ∷ 13 ∷
 a_long_comment =
     let count = length-replicate {A = ℕ} 1023 120 in
     second_long plant start (35 ∷ replicate 1023 120) (omega (arith, count))
+
+-- THE LINE THAT IS REFUSED
+
+noon_is_skipped : (reading : Reading) → meaning plant reading (codes "# noon") ≡ Blank
+unfolding meaning
+noon_is_skipped reading = refl
+
+-- the comment is counted
+a_second_line : (entries plant (codes "# noon" ∷ codes "run x" ∷ codes "run 1" ∷ [])).ending ≡ Bad 2 1
+a_second_line =
+    let before = codes "# noon" ∷ [] in
+    refused_at plant before (codes "run x") (codes "run 1" ∷ []) 1
+    (ap (λ means. (more_entries means 1 (entries_from plant (after start means) [])).ending) (noon_is_skipped start))
+    (run_none plant (behind_lines plant start before) _ (codes "x") (says_x 114 (codes "un") refl refl (omega arith))
+    x_is_no_number)
