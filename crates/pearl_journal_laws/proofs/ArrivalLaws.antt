@@ -70,7 +70,7 @@ module _ (setup : Setup) (form : ℕ → List ℕ → Entry) where
       needing 2 (position (is_readable k) setup.devices) (λ d. Ok (form d text))))) is said
       ∙ ap (λ o. needing 2 o (λ d. Ok (form d text))) found
 
-  terminal_no_text : (word : List ℕ) (o : Option (List ℕ)) → o ≡ None → terminal_entry setup word o form ≡ Err 1
+  pub terminal_no_text : (word : List ℕ) (o : Option (List ℕ)) → o ≡ None → terminal_entry setup word o form ≡ Err 1
   terminal_no_text word o none =
       ap (λ t. terminal_entry setup word t form) none ∙ need_either (number word) 1 _ (λ k. refl)
 
@@ -176,7 +176,7 @@ module _ (setup : Setup) where
       needing 2 place (λ d.
       needing 4 (coming_in (input_kind (slice_get setup.devices d)) said) (λ x. Ok (entry.Value d x))))) none
 
-  numbered_none : (n : Option ℕ) (bytes : List ℕ) → literal bytes ≡ None → numbered n bytes ≡ Err 1
+  pub numbered_none : (n : Option ℕ) (bytes : List ℕ) → literal bytes ≡ None → numbered n bytes ≡ Err 1
   numbered_none n bytes none = need_either n 1 _ (λ k. placed_none (position (is_input k) setup.devices) bytes none)
 
   -- at an input of this kind

@@ -1,5 +1,5 @@
 -- What is read as a length of time is one, and each is read.
-use Rattle.std.proofs.Common.{◌≡◌, ◌≢◌, ◌≤◌, ◌+◌, ◌-◌, ◌*◌, ◌^◌, ℕ, ℤ, pos, List, [], ◌∷◌, ◌++◌, ◌⊎◌, inl, inr, Bool, true, false, cond, ◌==◌, length, replicate, drop, codes, Option, Some, None, option_map, refl, ap, ap₂, sym, ◌∙◌, subst, arith}
+use Rattle.std.proofs.Common.{◌≡◌, ◌≢◌, ◌≤◌, ◌+◌, ◌-◌, ◌*◌, ◌^◌, ℕ, ℤ, pos, List, [], ◌∷◌, ◌++◌, ◌⊎◌, inl, inr, Bool, true, false, cond, ◌==◌, drop, codes, Option, Some, None, option_map, refl, ap, ap₂, sym, ◌∙◌, subst, arith}
 use Rattle.std.proofs.lemmas.Bool.{eqb-true, false≢true, ne_eqb}
 use Rattle.std.specs.Prelude.{slice_index, if◌then◌else◌}
 use Rattle.std.specs.Char.{is_ascii_digit}
@@ -8,11 +8,11 @@ use Rattle.pearl_journal.specs.Laws.{IsGap}
 use Rattle.pearl_journal.specs.Words.{behind_blanks, is_blank}
 use Rattle.pearl_journal.proofs.BlankLaws.{behind_blanks-bare, behind_blanks-gap}
 use Rattle.pearl_journal_laws.specs.Durations.{Begins, IsAmount, IsDecimal, IsHours, IsLengthOfTime, IsMinutes, IsParted, IsSeconds}
-use Rattle.pearl_journal_laws.specs.Says.{IsDigit, IsNumber}
+use Rattle.pearl_journal_laws.specs.Says.{IsNumber}
 use Rattle.pearl_journal_laws.proofs.Amounts.{amount, amount_read, behind_is, front_and_behind, front_is, gap_stops, other_word, was_amount, was_worded, word_read}
 use Rattle.pearl_journal_laws.proofs.Numbers.{was_limit}
 use Rattle.pearl_journal_laws.proofs.Signs.{parted, read_number, was_some}
-use Rattle.pearl_journal_laws.proofs.TimesOfDay.{front_all, thousandths_are, were_thousandths}
+use Rattle.pearl_journal_laws.proofs.TimesOfDay.{thousandths_are, were_thousandths}
 
 -- FIRST BYTES
 
@@ -129,7 +129,7 @@ seconds_amount_read bytes time (inl is) =
 seconds_amount_read bytes time (inr is) =
     let tail = is.gap ++ codes "SEC" in
     let more = is.part ++ tail in
-    let part = front_all IsDigit is.part (replicate (3 - length is.part) 48) is.are_thousandths.filled.are_digits in
+    let part = is.are_thousandths.are_digits in
     let stops = gap_stops is.gap 83 (codes "EC") is.is_gap refl in
     let front : front_digits bytes ≡ is.digits =
     ap front_digits is.spelled ∙ front_is is.digits (46 ∷ more) is.is_number.are_digits refl in

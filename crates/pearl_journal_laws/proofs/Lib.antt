@@ -1,4 +1,6 @@
 pub mod Writing
+pub mod Parting
+pub mod Endings
 pub mod Saying
 pub mod Numbers
 pub mod Finding
@@ -11,6 +13,8 @@ pub mod Amounts
 pub mod Durations
 pub mod Literals
 pub mod Values
+pub mod Readings
 pub mod StepLaws
 pub mod ArrivalLaws
+pub mod Returns
 mod Examples

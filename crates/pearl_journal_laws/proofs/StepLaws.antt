@@ -170,7 +170,7 @@ differs word other apart = by (bytes_eq word other) refl
     by true e = absurd (apart ((bytes_eq-Decides word other).0 e))
     by false e = refl
 
-no_form : (setup : Setup) (is_first : Bool) (word text : List ℕ) → IsOther word →
+pub no_form : (setup : Setup) (is_first : Bool) (word text : List ℕ) → IsOther word →
     form_of setup is_first word text ≡ Err 1
 no_form setup is_first word text is =
     let clock = differs word (codes "clock") is.clock in

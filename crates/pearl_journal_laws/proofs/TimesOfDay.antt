@@ -1,43 +1,87 @@
 -- What is read as a time of day is one, and each is read.
-use Rattle.std.proofs.Common.{◌≡◌, ◌<◌, ◌+◌, ◌-◌, ◌*◌, ℕ, List, [], ◌∷◌, ◌++◌, ◌⊎◌, inl, inr, Bool, true, false, cond, ◌==◌, nat_le, length, replicate, Option, Some, None, refl, ap, ap₂, sym, ◌∙◌, subst, arith, le-leb}
+use Rattle.std.proofs.Common.{◌≡◌, ◌≢◌, ◌≤◌, ◌+◌, ◌-◌, ◌*◌, ◌^◌, ℕ, zero, suc, List, [], ◌∷◌, ◌++◌, ◌⊎◌, inl, inr, Bool, true, false, cond, ◌==◌, nat_le, length, replicate, Option, Some, None, refl, ap, ap₂, sym, ◌∙◌, subst, arith, le-leb}
 use Rattle.std.proofs.lemmas.Bool.{eq-eqb, eqb-true, leb-true, ne_eqb}
 use Rattle.std.proofs.lemmas.List.{append-nil}
 use Rattle.std.proofs.lemmas.List.Elements.{All-from_recursion}
 use Rattle.std.proofs.lemmas.List.Splits.{slice_split_at, slice_split_none}
-use Rattle.std.specs.Prelude.{IfSome, if◌then◌else◌}
+use Rattle.std.specs.Prelude.{if◌then◌else◌}
 use Rattle.std.specs.List.{AllByRecursion, onto_first, slice_split}
+use Rattle.std.specs.Str.{all_ascii_digits}
+use Rattle.std.specs.Str.Parse.{digits_value, digits_value_after}
 use Rattle.pearl_rules.specs.Literals.{clock_literal, clock_of, clock_value, decimal_number, number_up_to, thousandths, with_colons, with_point}
-use Rattle.pearl_scan.proofs.Kept.{thousandths-below}
 use Rattle.pearl_journal_laws.specs.Says.{IsDigit}
 use Rattle.pearl_journal_laws.specs.Times.{AreThousandths, IsFraction, IsTimeOfDay}
-use Rattle.pearl_journal_laws.proofs.Numbers.{decimal_is, limit_is, was_decimal, was_limit}
+use Rattle.pearl_journal_laws.proofs.Numbers.{are_digits, digits_are, limit_is, was_limit}
+
+-- BYTES
+
+front_all : (P : ℕ → Type 0) (a b : List ℕ) → AllByRecursion P (a ++ b) → AllByRecursion P a
+front_all P [] b all = tt
+front_all P (x ∷ a) b all = (all.0, front_all P a b all.1)
+
+both_all : (P : ℕ → Type 0) (a b : List ℕ) → AllByRecursion P a → AllByRecursion P b → AllByRecursion P (a ++ b)
+both_all P [] b all others = others
+both_all P (x ∷ a) b all others = (all.0, both_all P a b all.1 others)
 
 -- NUMBERS
+
+-- digits with a zero for each place up to the third that has none
+abbrev filled : List ℕ → List ℕ
+filled digits = digits ++ replicate (3 - length digits) 48
+
+zeros_are : (count : ℕ) → AllByRecursion IsDigit (replicate count 48)
+zeros_are zero = tt
+zeros_are (suc count) = ((omega arith, omega arith), zeros_are count)
+
+one_zero : (n : ℕ) → digits_value_after 10 n (48 ∷ []) ≡ n * 10 ^ 1
+one_zero n = omega arith
+
+two_zeros : (n : ℕ) → digits_value_after 10 n (48 ∷ 48 ∷ []) ≡ n * 10 ^ 2
+two_zeros n = omega arith
+
+filled_value : (digits : List ℕ) → digits ≢ [] → length digits ≤ 3 →
+    digits_value 10 (filled digits) ≡ digits_value 10 digits * 10 ^ (3 - length digits)
+filled_value [] some few = absurd (some refl)
+filled_value (a ∷ []) some few = two_zeros (digits_value 10 (a ∷ []))
+filled_value (a ∷ b ∷ []) some few = one_zero (digits_value 10 (a ∷ b ∷ []))
+filled_value (a ∷ b ∷ c ∷ []) some few = no_zero (digits_value 10 (a ∷ b ∷ c ∷ []))
+  where
+    no_zero : (n : ℕ) → n ≡ n * 10 ^ 0
+    no_zero n = omega arith
+filled_value (a ∷ b ∷ c ∷ d ∷ more) some few = absurd (omega (arith, few))
 
 pub thousandths_are : (digits : List ℕ) (n : ℕ) → AreThousandths digits n → thousandths digits ≡ Some n
 thousandths_are [] n are = absurd (are.some refl)
 thousandths_are (byte ∷ bytes) n are =
-    ap (λ b. if b then decimal_number (byte ∷ bytes ++ replicate (3 - length (byte ∷ bytes)) 48) else None)
-    (le-leb (length (byte ∷ bytes)) 3 are.few)
-    ∙ decimal_is (byte ∷ bytes ++ replicate (3 - length (byte ∷ bytes)) 48) n are.filled
+    let digits = byte ∷ bytes in
+    let all = both_all IsDigit digits (replicate (3 - length digits) 48) are.are_digits
+    (zeros_are (3 - length digits)) in
+    ap (λ b. if b then decimal_number (filled digits) else None) (le-leb (length digits) 3 are.few)
+    ∙ ap (λ b. if b then Some (digits_value 10 (filled digits)) else None) (digits_are (filled digits) all)
+    ∙ ap Some (filled_value digits are.some are.few ∙ sym are.value)
 
 pub were_thousandths : (digits : List ℕ) (n : ℕ) → thousandths digits ≡ Some n → AreThousandths digits n
 were_thousandths [] n e = let no : ⊥ = cc in absurd no
-were_thousandths (byte ∷ bytes) n e = by (nat_le (length (byte ∷ bytes)) 3) refl e
+were_thousandths (byte ∷ bytes) n e = by (nat_le (length digits) 3) (all_ascii_digits (filled digits)) refl refl e
   where
-    low : n < 1000
-    low = subst (λ o. IfSome o (λ n. n < 1000)) e (thousandths-below (byte ∷ bytes))
+    digits : List ℕ
+    digits = byte ∷ bytes
 
-    by : (few : Bool) → nat_le (length (byte ∷ bytes)) 3 ≡ few →
-        (if few then decimal_number (byte ∷ bytes ++ replicate (3 - length (byte ∷ bytes)) 48) else None) ≡ Some n →
-        AreThousandths (byte ∷ bytes) n
-    by true f e =
+    by : (few are : Bool) → nat_le (length digits) 3 ≡ few → all_ascii_digits (filled digits) ≡ are →
+        (if few then (if are then Some (digits_value 10 (filled digits)) else None) else None) ≡ Some n →
+        AreThousandths digits n
+    by true true f a e =
+        let short = leb-true (length digits) 3 f in
+        let some : digits ≢ [] = λ e. cc in
+        let same : n ≡ digits_value 10 (filled digits) = cc in
         record {
-          some = λ e. cc;
-          few = leb-true (length (byte ∷ bytes)) 3 f;
-          filled = was_decimal (byte ∷ bytes ++ replicate (3 - length (byte ∷ bytes)) 48) n e (omega (arith, low));
+          some = some;
+          few = short;
+          are_digits = front_all IsDigit digits (replicate (3 - length digits) 48) (are_digits (filled digits) a);
+          value = same ∙ filled_value digits some short;
         }
-    by false f e = let no : ⊥ = cc in absurd no
+    by true false f a e = let no : ⊥ = cc in absurd no
+    by false are f a e = let no : ⊥ = cc in absurd no
 
 -- PARTS
 
@@ -92,14 +136,6 @@ plain : (mark : ℕ) → (IsDigit mark → ⊥) → (digits : List ℕ) → AllB
 plain mark other [] are = tt
 plain mark other (byte ∷ digits) are =
     (ne_eqb byte mark (λ e. other (subst IsDigit e are.0)), plain mark other digits are.1)
-
-pub front_all : (P : ℕ → Type 0) (a b : List ℕ) → AllByRecursion P (a ++ b) → AllByRecursion P a
-front_all P [] b all = tt
-front_all P (x ∷ a) b all = (all.0, front_all P a b all.1)
-
-both_all : (P : ℕ → Type 0) (a b : List ℕ) → AllByRecursion P a → AllByRecursion P b → AllByRecursion P (a ++ b)
-both_all P [] b all others = others
-both_all P (x ∷ a) b all others = (all.0, both_all P a b all.1 others)
 
 no_colon : IsDigit 58 → ⊥
 no_colon is = let high = is.1 in omega (arith, high)
@@ -156,7 +192,7 @@ module _ (bytes : List ℕ) (time : ℕ) (is : IsTimeOfDay bytes time) where
       )
   seconds_say (inr more) =
       let seconds = is.seconds_are.0.are_digits in
-      let digits = front_all IsDigit more.0 (replicate (3 - length more.0) 48) more.2.filled.are_digits in
+      let digits = more.2.are_digits in
       let all : AllByRecursion (λ byte. is_mark 58 byte ≡ false) (is.second_digits ++ 46 ∷ more.0) =
       both_all (λ byte. is_mark 58 byte ≡ false) is.second_digits (46 ∷ more.0)
       (plain 58 no_colon is.second_digits seconds)

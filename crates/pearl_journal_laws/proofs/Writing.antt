@@ -8,7 +8,7 @@ use Rattle.pearl_journal_laws.specs.Says.{Says, SaysMore}
 -- LAST BYTES
 
 -- what is behind others, if it has a byte, ends as they do together
-last_behind : (before text front : List ℕ) (byte : ℕ) → text ≢ [] → before ++ text ≡ front ++ byte ∷ [] →
+pub last_behind : (before text front : List ℕ) (byte : ℕ) → text ≢ [] → before ++ text ≡ front ++ byte ∷ [] →
     (rest : List ℕ) × (text ≡ rest ++ byte ∷ [])
 last_behind [] text front byte some e = (front, e)
 last_behind (b ∷ before) text [] byte some e =
@@ -22,7 +22,7 @@ last_behind (b ∷ before) text (f ∷ front) byte some e =
     let others : before ++ text ≡ front ++ byte ∷ [] = cc in
     last_behind before text front byte some others
 
-ends_behind : (before text : List ℕ) → text ≢ [] → EndsInNoReturn text → EndsInNoReturn (before ++ text)
+pub ends_behind : (before text : List ℕ) → text ≢ [] → EndsInNoReturn text → EndsInNoReturn (before ++ text)
 ends_behind before text some ends front e =
     let last = last_behind before text front 13 some e in
     ends last.0 last.1

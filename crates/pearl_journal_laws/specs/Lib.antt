@@ -8,3 +8,5 @@ pub mod Times
 pub mod Durations
 -- which value a literal spells
 pub mod Literals
+-- how far a journal was read
+pub mod Readings

@@ -1,12 +1,15 @@
 -- Which texts are times of day.
-use Rattle.std.specs.Prelude.{◌≡◌, ◌≢◌, ◌⊎◌, ℕ, ◌+◌, ◌-◌, ◌*◌, ◌≤◌, List, [], ◌∷◌, ◌++◌, length, replicate}
-use Rattle.pearl_journal_laws.specs.Says.{IsNumber}
+use Rattle.std.specs.Prelude.{◌≡◌, ◌≢◌, ◌⊎◌, ℕ, ◌+◌, ◌-◌, ◌*◌, ◌^◌, ◌≤◌, List, [], ◌∷◌, ◌++◌, length}
+use Rattle.std.specs.List.{AllByRecursion}
+use Rattle.std.specs.Str.Parse.{digits_value}
+use Rattle.pearl_journal_laws.specs.Says.{IsDigit, IsNumber}
 
--- one to three digits say so many thousandths: zeros stand for those that are missing
+-- one to three digits say so many tenths, hundredths or thousandths: n thousandths
 pub record AreThousandths (digits : List ℕ) (n : ℕ) : Type 0 where
   pub some : digits ≢ []
   pub few : length digits ≤ 3
-  pub filled : IsNumber (digits ++ replicate (3 - length digits) 48) n
+  pub are_digits : AllByRecursion IsDigit digits
+  pub value : n ≡ digits_value 10 digits * 10 ^ (3 - length digits)
 
 -- nothing, or a point and one to three digits
 abbrev pub IsFraction : (bytes : List ℕ) (thousandths : ℕ) → Type 0
