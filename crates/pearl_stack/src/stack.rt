@@ -4,6 +4,7 @@ ghost use Rattle.std.specs.Prelude.{◌≡◌, ◌≢◌, ℕ, ◌+◌, ◌-◌,
 ghost use Rattle.pearl_stack.specs.Frames.{Stack, frame_at, cell_at, operand_at, top_operands, used, sizes, unset, pushed, popped, moved, with_cell, entered};
 ghost use Rattle.pearl_stack.specs.Memory.{frames_of, first_or, Divides};
 
+use crate::values::Values;
 use pearl_value::cell::Cell;
 use std::alloc::{AllocError as NoMemory, Global};
 use std::marker::Model;
@@ -33,7 +34,7 @@ struct Head {
 #[derive(Drop)]
 pub struct Loaded {
     // Cells and operands of all frames, those of the lowest first.
-    values: Vec<Cell>,
+    values: Values,
     // The frames, the lowest first.
     heads: Vec<Head>,
     room: usize,
@@ -45,7 +46,7 @@ impl Model for Loaded {
 
     ghost view = { λ s. record { frames = frames_of (reverse s.heads.items) s.values.items; room = s.room; most = s.most } };
 
-    ghost invariant = { λ s. (s.room ≤ vec_capacity s.values) × (s.most ≤ vec_capacity s.heads)
+    ghost invariant = { λ s. (s.room ≤ s.values.room) × (s.most ≤ vec_capacity s.heads)
         × (s.room < 2 ^ 32) × (s.most < 2 ^ 32)
         × (length s.values.items ≤ s.room) × (length s.heads.items ≤ s.most)
         × Divides (reverse s.heads.items) (length s.values.items) };
@@ -70,7 +71,7 @@ impl Parked {
         requires frames { frames < 2 ^ 32 }
         ensures { IfOk result (λ s. s ≡ record { frames = []; room = cells; most = frames }) }
     {
-        let values = Vec::with_capacity(alloc, cells)?;
+        let values = Values::new(alloc, cells)?;
         let heads = Vec::with_capacity(alloc, frames)?;
         Ok(Parked {
             stack: Loaded {
@@ -104,7 +105,7 @@ impl Loaded {
     pub fn clear(&mut self)
         ensures { self.new ≡ record self.old { frames = [] } }
     {
-        self.values.clear();
+        self.values.truncate(0);
         self.heads.clear();
     }
 
@@ -115,7 +116,7 @@ impl Loaded {
         requires room { used self.old.frames < self.old.room }
         ensures { self.new ≡ record self.old { frames = pushed x self.old.frames } }
     {
-        self.values.push(x).unwrap();
+        self.values.push(x);
     }
 
     /// Takes the top operand off the top frame.
@@ -125,7 +126,7 @@ impl Loaded {
         ensures operand { slice_get (top_operands self.old.frames) 0 ≡ Some result }
         ensures rest { self.new ≡ record self.old { frames = popped self.old.frames } }
     {
-        self.values.pop().unwrap()
+        self.values.pop()
     }
 
     /// The number of frames.
@@ -167,7 +168,7 @@ impl Loaded {
         requires { IsSome (cell_at self.now.frames f c) }
         ensures { cell_at self.now.frames f c ≡ Some result.now }
     {
-        &self.values[self.heads[f as usize].first + c as usize]
+        self.values.at(self.heads[f as usize].first + c as usize)
     }
 
     /// Writes cell `c` of frame `f`; the lowest frame is 0.
@@ -177,7 +178,7 @@ impl Loaded {
         ensures { self.new ≡ record self.old { frames = with_cell self.old.frames f c x } }
     {
         let at = self.heads[f as usize].first + c as usize;
-        self.values[at] = x;
+        self.values.set(at, x);
     }
 
     /// Operand `at` of frame `f`, the one that was pushed first being 0; the lowest frame is 0.
@@ -187,7 +188,8 @@ impl Loaded {
         ensures { operand_at self.now.frames f at ≡ Some result.now }
     {
         let head = self.heads[f as usize];
-        &self.values[head.first + head.cells as usize + at as usize]
+        self.values
+            .at(head.first + head.cells as usize + at as usize)
     }
 
     /// Makes a new top frame at instruction 0. Its first cells are the top `params` operands, in the order in which
@@ -231,12 +233,12 @@ fn values_end(heads: &[Head], f: u32, all: usize) -> usize
 }
 
 // Appends what a cell holds before it is written.
-fn fill(values: &mut Vec<Cell>, count: u32)
-    requires { length values.old.items + count ≤ vec_capacity values.old }
+fn fill(values: &mut Values, count: u32)
+    requires { length values.old.items + count ≤ values.old.room }
     ensures items { values.new.items ≡ values.old.items ++ replicate count unset }
-    ensures room { vec_capacity values.old ≤ vec_capacity values.new }
+    ensures room { values.new.room ≡ values.old.room }
 {
     for _ in 0..count {
-        values.push(Cell::default()).unwrap();
+        values.push(Cell::default());
     }
 }
