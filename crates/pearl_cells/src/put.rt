@@ -3,8 +3,12 @@
 
 ghost use Rattle.std.specs.Prelude.{◌≡◌};
 ghost use Rattle.pearl_value.specs.declared.cell.Cell.{Cell};
+ghost use Rattle.pearl_value.specs.Blanks.{blank_of};
+ghost use Rattle.pearl_value.specs.Kinds.{IsKind};
 
 use pearl_value::cell::{Cell, copy_of};
+use pearl_value::conversion::blank;
+use pearl_value::kind::Kind;
 
 /// Makes the cell this number.
 #[inline]
@@ -54,6 +58,21 @@ pub fn put_copy(place: &mut Cell, x: &Cell)
         Cell::Bits { len, value } => put_bits(place, *len, *value),
         _ => {
             *place = copy_of(x);
+        }
+    }
+}
+
+/// Makes the cell what is unset of the kind.
+#[inline]
+pub fn put_blank(place: &mut Cell, kind: Kind)
+    requires { IsKind kind }
+    ensures { place.new ≡ blank_of kind }
+{
+    match kind {
+        Kind::Fixed(len) => put_fixed(place, len, 0),
+        Kind::Bits(len) => put_bits(place, len, 0),
+        _ => {
+            *place = blank(kind);
         }
     }
 }

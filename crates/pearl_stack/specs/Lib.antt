@@ -4,3 +4,5 @@ pub mod Frames
 pub mod Memory
 -- what the calls on a stack mean to one another: operands, arguments, cells, and how many values there are
 pub mod Laws
+-- a row of values, and for how many there is memory
+pub mod Held

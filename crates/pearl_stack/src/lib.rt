@@ -3,3 +3,4 @@
 
 pub mod laws;
 pub mod stack;
+pub(crate) mod values;

@@ -1,7 +1,7 @@
-use Rattle.std.proofs.Common.{◌≡◌, ◌≤◌, ◌++◌, replicate, vec_capacity}
+use Rattle.std.proofs.Common.{◌≡◌, ◌++◌, replicate}
 use Rattle.pearl_stack.specs.Frames.{unset}
 use Rattle.pearl_stack.proofs.stack.fill.Given as goal
 
 abbrev pub invariant-loop : goal.invariant-loop
 invariant-loop l =
-    (l.values.items ≡ l.initial.values.items ++ replicate l.counter unset) × (vec_capacity l.initial.values ≤ vec_capacity l.values)
+    (l.values.items ≡ l.initial.values.items ++ replicate l.counter unset) × (l.values.room ≡ l.initial.values.room)

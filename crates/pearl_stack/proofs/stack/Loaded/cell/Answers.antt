@@ -22,17 +22,17 @@ overflow_add-index c =
     let holds : Holds heads values frames = record { shows = ap (λ s. s.frames) c.self.view_is; divides = c.self.invariant.6 } in
     let at = cell_lies heads values frames holds c.args.f c.args.c c.requires in
     let first = ap (λ h. h.first) (c.index.ensures ∙ at.head_is c.index.result.now) in
-    omega (arith, first, at.inside, c.self.inside.values.ok)
+    omega (arith, first, at.inside, c.self.invariant.4, c.self.invariant.2)
 
-pub index-requires-2 : goal.index-requires-2
-index-requires-2 c =
+pub at-requires : goal.at-requires
+at-requires c =
     let heads : List Head = c.self.inside.heads.items in
     let values : List Cell = c.self.inside.values.items in
     let frames : List Frame = c.args.self.now.frames in
     let holds : Holds heads values frames = record { shows = ap (λ s. s.frames) c.self.view_is; divides = c.self.invariant.6 } in
     let at = cell_lies heads values frames holds c.args.f c.args.c c.requires in
     let first = ap (λ h. h.first) (c.index.ensures ∙ at.head_is c.index.result.now) in
-    omega (arith, first, at.inside, c.self.inside.values.ok.0)
+    omega (arith, first, at.inside, c.self.invariant.4)
 
 pub returns : goal.returns
 returns c =
@@ -42,5 +42,5 @@ returns c =
     let holds : Holds heads values frames = record { shows = ap (λ s. s.frames) c.self.view_is; divides = c.self.invariant.6 } in
     let at = cell_lies heads values frames holds c.args.f c.args.c c.requires in
     let first = ap (λ h. h.first) (c.index.ensures ∙ at.head_is c.index.result.now) in
-    let x : Cell = c.index-2.result.now in
-    at.read x ∙ ap Some (sym (c.index-2.ensures ∙ ap (λ n. get_or values (n + c.args.c) x) first))
+    let x : Cell = c.at.result.now in
+    at.read x ∙ ap Some (sym (c.at.ensures ∙ ap (λ n. get_or values (n + c.args.c) x) first))

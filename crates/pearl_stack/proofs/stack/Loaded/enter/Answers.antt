@@ -14,7 +14,7 @@ overflow_sub-head c =
     let values : List Cell = c.self.inside.values.items in
     let frames : List Frame = c.args.self.now.frames in
     let holds : Holds heads values frames = record { shows = ap (λ s. s.frames) c.self.view_is; divides = c.self.invariant.6 } in
-    omega (arith, c.len.ensures, c.self.inside.values.ok.0, top_within heads values frames holds, c.requires.operands)
+    omega (arith, c.len.ensures, c.self.invariant.4, top_within heads values frames holds, c.requires.operands)
 
 pub fill-requires : goal.fill-requires
 fill-requires c =
@@ -45,7 +45,7 @@ invariant_of-self c =
     let room = ap (λ s. s.room) c.self.view_is in
     let most = ap (λ s. s.most) c.self.view_is in
     let within : length (top_operands frames) ≤ length values = top_within heads values frames holds in
-    let n : c.len.result ≡ length values = omega (arith, c.len.ensures, c.self.inside.values.ok.0) in
+    let n : c.len.result ≡ length values = omega (arith, c.len.ensures, c.self.invariant.4) in
     let zs : List Cell = replicate (c.args.cells - c.args.params) unset in
     let wide : length zs ≡ c.args.cells - c.args.params = length-replicate (c.args.cells - c.args.params) unset in
     let pushed_on : List Head = heads ++ record { routine = c.args.routine; cells = c.args.cells; instruction = 0; first = c.len.result - c.args.params } ∷ [] in
@@ -72,7 +72,7 @@ returns c =
     let room = ap (λ s. s.room) c.self.view_is in
     let most = ap (λ s. s.most) c.self.view_is in
     let within : length (top_operands frames) ≤ length values = top_within heads values frames holds in
-    let n : c.len.result ≡ length values = omega (arith, c.len.ensures, c.self.inside.values.ok.0) in
+    let n : c.len.result ≡ length values = omega (arith, c.len.ensures, c.self.invariant.4) in
     let zs : List Cell = replicate (c.args.cells - c.args.params) unset in
     let wide : length zs ≡ c.args.cells - c.args.params = length-replicate (c.args.cells - c.args.params) unset in
     let pushed_on : List Head = heads ++ record { routine = c.args.routine; cells = c.args.cells; instruction = 0; first = c.len.result - c.args.params } ∷ [] in

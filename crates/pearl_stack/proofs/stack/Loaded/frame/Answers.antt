@@ -26,7 +26,7 @@ overflow_sub-result c =
     let l = lies heads values frames holds c.args.f found.0 found.1 in
     let head : c.index-head.result.now ≡ l.head = c.index-head.ensures ∙ l.head_is c.index-head.result.now in
     let above : c.args.f + 1 ≡ suc c.args.f = omega arith in
-    let all : c.len.result ≡ length values = omega (arith, c.len.ensures, c.self.inside.values.ok.0) in
+    let all : c.len.result ≡ length values = omega (arith, c.len.ensures, c.self.invariant.4) in
     let end : c.values_end-end.result ≡ l.stop = c.values_end-end.ensures
     ∙ (ap (λ hs. first_or c.len.result (slice_get hs (c.args.f + 1))) c.as_slice.ensures.value
     ∙ (ap (λ n. first_or n (slice_get heads (c.args.f + 1))) all ∙ (ap (λ n. first_or (length values) (slice_get heads n)) above ∙ l.ends))) in
@@ -42,7 +42,7 @@ overflow_cast-result c =
     let l = lies heads values frames holds c.args.f found.0 found.1 in
     let head : c.index-head.result.now ≡ l.head = c.index-head.ensures ∙ l.head_is c.index-head.result.now in
     let above : c.args.f + 1 ≡ suc c.args.f = omega arith in
-    let all : c.len.result ≡ length values = omega (arith, c.len.ensures, c.self.inside.values.ok.0) in
+    let all : c.len.result ≡ length values = omega (arith, c.len.ensures, c.self.invariant.4) in
     let end : c.values_end-end.result ≡ l.stop = c.values_end-end.ensures
     ∙ (ap (λ hs. first_or c.len.result (slice_get hs (c.args.f + 1))) c.as_slice.ensures.value
     ∙ (ap (λ n. first_or n (slice_get heads (c.args.f + 1))) all ∙ (ap (λ n. first_or (length values) (slice_get heads n)) above ∙ l.ends))) in
@@ -58,7 +58,7 @@ overflow_sub-result-2 c =
     let l = lies heads values frames holds c.args.f found.0 found.1 in
     let head : c.index-head.result.now ≡ l.head = c.index-head.ensures ∙ l.head_is c.index-head.result.now in
     let above : c.args.f + 1 ≡ suc c.args.f = omega arith in
-    let all : c.len.result ≡ length values = omega (arith, c.len.ensures, c.self.inside.values.ok.0) in
+    let all : c.len.result ≡ length values = omega (arith, c.len.ensures, c.self.invariant.4) in
     let end : c.values_end-end.result ≡ l.stop = c.values_end-end.ensures
     ∙ (ap (λ hs. first_or c.len.result (slice_get hs (c.args.f + 1))) c.as_slice.ensures.value
     ∙ (ap (λ n. first_or n (slice_get heads (c.args.f + 1))) all ∙ (ap (λ n. first_or (length values) (slice_get heads n)) above ∙ l.ends))) in
@@ -74,7 +74,7 @@ returns c =
     let l = lies heads values frames holds c.args.f found.0 found.1 in
     let head : c.index-head.result.now ≡ l.head = c.index-head.ensures ∙ l.head_is c.index-head.result.now in
     let above : c.args.f + 1 ≡ suc c.args.f = omega arith in
-    let all : c.len.result ≡ length values = omega (arith, c.len.ensures, c.self.inside.values.ok.0) in
+    let all : c.len.result ≡ length values = omega (arith, c.len.ensures, c.self.invariant.4) in
     let end : c.values_end-end.result ≡ l.stop = c.values_end-end.ensures
     ∙ (ap (λ hs. first_or c.len.result (slice_get hs (c.args.f + 1))) c.as_slice.ensures.value
     ∙ (ap (λ n. first_or n (slice_get heads (c.args.f + 1))) all ∙ (ap (λ n. first_or (length values) (slice_get heads n)) above ∙ l.ends))) in
