@@ -7,8 +7,8 @@ use Rattle.pearl_value.specs.declared.cell.Cell.{Cell}
 use Rattle.pearl_stack.specs.declared.stack.Head.{Head}
 use Rattle.pearl_stack.specs.Frames.{Frame, Stack, frame_at, cell_at, operand_at, top_operands, used, sizes, pushed, popped, without, moved, with_cell}
 use Rattle.pearl_stack.specs.Memory.{frame_of, frames_of, first_or, Divides}
-use Rattle.pearl_stack.proofs.Heads.{last_of, reverse_last, last_is, set_last, heads_get}
-use Rattle.pearl_stack.proofs.Shown.{frames_long, frames_some, used_is, push_view, divides_more, operands_within, divides_cut, cut_view, top_operand, enter_view}
+use Rattle.pearl_stack.proofs.Heads.{last_of, reverse_last, last_is, set_last, cut_last, heads_get}
+use Rattle.pearl_stack.proofs.Shown.{frames_long, frames_some, used_is, push_view, divides_more, operands_long, operands_within, divides_cut, cut_view, top_operand, enter_view}
 use Rattle.pearl_stack.proofs.Spots.{spot}
 
 pub record Holds (heads : List Head) (values : List Cell) (frames : List Frame) : Type 0 where
@@ -39,6 +39,33 @@ pushes heads values frames h some x =
       divides = divides_more (reverse heads) (length values) (length (values ++ x ∷ [])) there h.divides (omega (arith, length-append values (x ∷ [])));
     }
 
+-- the top n operands are the last n values
+pub record Cuts (heads : List Head) (values : List Cell) (frames : List Frame) (n : ℕ) : Type 0 where
+  pub within : n ≤ length values
+  pub rest : Holds heads (take (length values - n) values) (without n frames)
+
+pub cuts : (heads : List Head) (values : List Cell) (frames : List Frame) → Holds heads values frames → (n : ℕ) → n ≤ length (top_operands frames) → Cuts heads values frames n
+cuts heads values frames h n less =
+    let hs : List Head = reverse heads in
+    let shown = ap (λ fs. length (top_operands fs)) h.shows in
+    let there : n ≤ length (top_operands (frames_of hs values)) = omega (arith, shown, less) in
+    let within = operands_within hs values in
+    let short : length (take (length values - n) values) ≡ length values - n = length-take-le (length values - n) values (omega arith) in
+    record {
+      within = omega (arith, within, there);
+      rest = record {
+        shows = cut_view hs values n there h.divides ∙ ap (without n) h.shows;
+        divides = subst (Divides hs) (sym short) (divides_cut hs values n there h.divides);
+      };
+    }
+
+-- the operand that has so many above it
+pub operand_above : (heads : List Head) (values : List Cell) (frames : List Frame) → Holds heads values frames → (n : ℕ) → n < length (top_operands frames) → (d : Cell) →
+    slice_get (top_operands frames) n ≡ Some (get_or values (length values - 1 - n) d)
+operand_above heads values frames h n less d =
+    let shown = ap (λ fs. length (top_operands fs)) h.shows in
+    ap (λ fs. slice_get (top_operands fs) n) (sym h.shows) ∙ top_operand (reverse heads) values n d (omega (arith, shown, less))
+
 pub record Pops (heads : List Head) (values : List Cell) (frames : List Frame) : Type 0 where
   pub some : 0 < length values
   pub operand : (d : Cell) → slice_get (top_operands frames) 0 ≡ Some (get_or values (length values - 1) d)
@@ -50,19 +77,42 @@ length_some (x ∷ xs) some = omega arith
 
 pub pops : (heads : List Head) (values : List Cell) (frames : List Frame) → Holds heads values frames → top_operands frames ≢ [] → Pops heads values frames
 pops heads values frames h some =
-    let hs : List Head = reverse heads in
-    let shown = ap (λ fs. length (top_operands fs)) h.shows in
-    let one : 1 ≤ length (top_operands (frames_of hs values)) = omega (arith, shown, length_some (top_operands frames) some) in
-    let within = operands_within hs values in
-    let short : length (take (length values - 1) values) ≡ length values - 1 = length-take-le (length values - 1) values (omega arith) in
+    let one = length_some (top_operands frames) some in
+    let cut = cuts heads values frames h 1 (omega (arith, one)) in
+    let last : length values - 1 - 0 ≡ length values - 1 = omega arith in
     record {
-      some = omega (arith, within, one);
-      operand = λ d. ap (λ fs. slice_get (top_operands fs) 0) (sym h.shows) ∙ top_operand hs values d one;
-      rest = record {
-        shows = cut_view hs values 1 one h.divides ∙ ap popped h.shows;
-        divides = subst (Divides hs) (sym short) (divides_cut hs values 1 one h.divides);
-      };
+      some = omega (arith, cut.within);
+      operand = λ d. operand_above heads values frames h 0 one d ∙ ap (λ i. Some (get_or values i d)) last;
+      rest = cut.rest;
     }
+
+-- the top frame is left
+pub leaves : (heads : List Head) (values : List Cell) (frames : List Frame) → Holds heads values frames → frames ≢ [] → (d : Head) →
+    Holds (take (length heads - 1) heads) (take (get_or heads (length heads - 1) d).first values) (drop 1 frames)
+leaves heads values frames h some d =
+    let l = last_of heads (some_heads heads values frames h some) in
+    let back : reverse heads ≡ l.last ∷ reverse l.init = reverse_last heads l in
+    let divides : Divides (l.last ∷ reverse l.init) (length values) = subst (λ hs. Divides hs (length values)) back h.divides in
+    let short : length (take l.last.first values) ≡ l.last.first = length-take-le l.last.first values (omega (arith, divides.0)) in
+    let first : (get_or heads (length heads - 1) d).first ≡ l.last.first = ap (λ h. h.first) (last_is heads l d) in
+    let now : Holds l.init (take l.last.first values) (drop 1 frames) = record {
+      shows = ap (λ hs. drop 1 (frames_of hs values)) (sym back) ∙ ap (drop 1) h.shows;
+      divides = subst (Divides (reverse l.init)) (sym short) divides.1;
+    } in
+    subst (λ n. Holds (take (length heads - 1) heads) (take n values) (drop 1 frames)) (sym first)
+    (subst (λ hs. Holds hs (take l.last.first values) (drop 1 frames)) (sym (cut_last heads l)) now)
+
+-- the values of the top frame with an operand begin before the end
+pub first_within : (heads : List Head) (values : List Cell) (frames : List Frame) → Holds heads values frames → frames ≢ [] → 0 < length (top_operands frames) → (d : Head) →
+    (get_or heads (length heads - 1) d).first < length values
+first_within heads values frames h some operand d =
+    let l = last_of heads (some_heads heads values frames h some) in
+    let back : reverse heads ≡ l.last ∷ reverse l.init = reverse_last heads l in
+    let shown : length (top_operands (frames_of (l.last ∷ reverse l.init) values)) ≡ length (top_operands frames) =
+    ap (λ hs. length (top_operands (frames_of hs values))) (sym back) ∙ ap (λ fs. length (top_operands fs)) h.shows in
+    let long = operands_long l.last (reverse l.init) values in
+    let first : (get_or heads (length heads - 1) d).first ≡ l.last.first = ap (λ h. h.first) (last_is heads l d) in
+    omega (arith, shown, long, first, operand)
 
 pub goes : (heads : List Head) (values : List Cell) (frames : List Frame) → Holds heads values frames → frames ≢ [] → (i : ℕ) (old : Head) →
     old ≡ get_or heads (length heads - 1) old → Holds (set heads (length heads - 1) (record old { instruction = i })) values (moved i frames)

@@ -1,5 +1,7 @@
+pub mod Written
 pub mod Heads
 pub mod Shown
 pub mod Spots
 pub mod Holds
 pub mod StackLaws
+pub mod Keeps

@@ -57,7 +57,7 @@ push_view hs vs x some d = grow_view hs vs (x ∷ []) some d ∙ same (frames_of
     same (f ∷ fs) = refl
 
 -- the top frame's operands are the values behind its cells
-operands_long : (h : Head) (hs : List Head) (vs : List Cell) → length (top_operands (frames_of (h ∷ hs) vs)) ≡ length vs - h.first - h.cells
+pub operands_long : (h : Head) (hs : List Head) (vs : List Cell) → length (top_operands (frames_of (h ∷ hs) vs)) ≡ length vs - h.first - h.cells
 operands_long h hs vs = length-reverse (drop h.cells (drop h.first vs)) ∙ (length-drop h.cells (drop h.first vs) ∙ ap (λ n. n - h.cells) (length-drop h.first vs))
 
 pub operands_within : (hs : List Head) (vs : List Cell) → length (top_operands (frames_of hs vs)) ≤ length vs
@@ -87,19 +87,19 @@ cut_view (h ∷ hs) vs n less d =
     (drop_at (reverse zs) (reverse (drop h.cells (drop h.first ws))) n long) in
     sym (ap (without n) all ∙ back)
 
-pub top_operand : (hs : List Head) (vs : List Cell) (d : Cell) → 0 < length (top_operands (frames_of hs vs)) →
-    slice_get (top_operands (frames_of hs vs)) 0 ≡ Some (get_or vs (length vs - 1) d)
-top_operand [] vs d h = absurd (omega (arith, h))
-top_operand (h ∷ hs) vs d less =
+pub top_operand : (hs : List Head) (vs : List Cell) (n : ℕ) (d : Cell) → n < length (top_operands (frames_of hs vs)) →
+    slice_get (top_operands (frames_of hs vs)) n ≡ Some (get_or vs (length vs - 1 - n) d)
+top_operand [] vs n d h = absurd (omega (arith, h))
+top_operand (h ∷ hs) vs n d less =
     let ys : List Cell = drop h.cells (drop h.first vs) in
     let long = operands_long h hs vs in
     let back : length (reverse ys) ≡ length ys = length-reverse ys in
-    let some : 0 < length ys = omega (arith, less, back) in
-    let at : get_or (reverse ys) 0 d ≡ get_or ys (length ys - 1 - 0) d = get_or-reverse ys 0 d some in
-    let down : get_or ys (length ys - 1 - 0) d ≡ get_or vs (h.first + (h.cells + (length ys - 1 - 0))) d =
-    get_or-drop h.cells (drop h.first vs) (length ys - 1 - 0) d ∙ get_or-drop h.first vs (h.cells + (length ys - 1 - 0)) d in
-    let place : h.first + (h.cells + (length ys - 1 - 0)) ≡ length vs - 1 = omega (arith, long, back, some) in
-    slice_get-get_or (reverse ys) 0 d less ∙ ap Some (at ∙ (down ∙ ap (λ k. get_or vs k d) place))
+    let some : n < length ys = omega (arith, less, back) in
+    let at : get_or (reverse ys) n d ≡ get_or ys (length ys - 1 - n) d = get_or-reverse ys n d some in
+    let down : get_or ys (length ys - 1 - n) d ≡ get_or vs (h.first + (h.cells + (length ys - 1 - n))) d =
+    get_or-drop h.cells (drop h.first vs) (length ys - 1 - n) d ∙ get_or-drop h.first vs (h.cells + (length ys - 1 - n)) d in
+    let place : h.first + (h.cells + (length ys - 1 - n)) ≡ length vs - 1 - n = omega (arith, long, back, some) in
+    slice_get-get_or (reverse ys) n d less ∙ ap Some (at ∙ (down ∙ ap (λ k. get_or vs k d) place))
 
 -- a called routine's frame
 

@@ -37,6 +37,11 @@ abbrev pub top_operands : List Frame → List Cell
 top_operands [] = []
 top_operands (f ∷ below) = f.operands
 
+-- the number of the top frame's instruction
+abbrev pub place_of : List Frame → ℕ
+place_of [] = 0
+place_of (f ∷ below) = f.place
+
 -- how many cells and operands there are
 abbrev pub used : List Frame → ℕ
 used [] = 0

@@ -3,4 +3,4 @@
 
 pub mod laws;
 pub mod stack;
-mod values;
+pub(crate) mod values;

@@ -1,11 +1,15 @@
 // One task's stack: parked while other tasks act, loaded while its own does.
 
 ghost use Rattle.std.specs.Prelude.{◌≡◌, ◌≢◌, ℕ, ◌+◌, ◌-◌, ◌≤◌, ◌<◌, ◌^◌, [], ◌++◌, IfOk, IsSome, Some, length, drop, reverse, replicate, option_map, slice_get, vec_capacity};
-ghost use Rattle.pearl_stack.specs.Frames.{Stack, frame_at, cell_at, operand_at, top_operands, used, sizes, unset, pushed, popped, moved, with_cell, entered};
+ghost use Rattle.pearl_value.specs.Blanks.{blank_of};
+ghost use Rattle.pearl_value.specs.Kinds.{IsKind};
+ghost use Rattle.pearl_value.specs.declared.cell.Cell.{Cell};
+ghost use Rattle.pearl_stack.specs.Frames.{Stack, frame_at, cell_at, operand_at, top_operands, place_of, used, sizes, unset, pushed, popped, without, moved, with_cell, entered};
 ghost use Rattle.pearl_stack.specs.Memory.{frames_of, first_or, Divides};
 
 use crate::values::Values;
 use pearl_value::cell::Cell;
+use pearl_value::kind::Kind;
 use std::alloc::{AllocError as NoMemory, Global};
 use std::marker::Model;
 
@@ -116,7 +120,48 @@ impl Loaded {
         requires room { used self.old.frames < self.old.room }
         ensures { self.new ≡ record self.old { frames = pushed x self.old.frames } }
     {
-        self.values.push(x);
+        self.values.push_copy(&x);
+    }
+
+    /// Puts a copy of a value on the top frame.
+    #[inline]
+    pub fn push_copy(&mut self, x: &Cell)
+        requires some { self.old.frames ≢ [] }
+        requires room { used self.old.frames < self.old.room }
+        ensures { self.new ≡ record self.old { frames = pushed x.now self.old.frames } }
+    {
+        self.values.push_copy(x);
+    }
+
+    /// Puts a FIXED number on the top frame.
+    #[inline]
+    pub fn push_fixed(&mut self, len: u8, value: i64)
+        requires some { self.old.frames ≢ [] }
+        requires room { used self.old.frames < self.old.room }
+        ensures { self.new ≡ record self.old { frames = pushed (Cell.Fixed len value) self.old.frames } }
+    {
+        self.values.push_fixed(len, value);
+    }
+
+    /// Puts a BIT on the top frame.
+    #[inline]
+    pub fn push_bits(&mut self, len: u8, value: u64)
+        requires some { self.old.frames ≢ [] }
+        requires room { used self.old.frames < self.old.room }
+        ensures { self.new ≡ record self.old { frames = pushed (Cell.Bits len value) self.old.frames } }
+    {
+        self.values.push_bits(len, value);
+    }
+
+    /// Puts a copy of cell `c` of frame `f` on the top frame; the lowest frame is 0.
+    #[inline]
+    pub fn push_cell(&mut self, f: u32, c: u32)
+        requires cell { IsSome (cell_at self.old.frames f c) }
+        requires room { used self.old.frames < self.old.room }
+        ensures { option_map (λ x. record self.old { frames = pushed x self.old.frames }) (cell_at self.old.frames f c) ≡ Some self.new }
+    {
+        let from = self.heads[f as usize].first + c as usize;
+        self.values.push_again(from);
     }
 
     /// Takes the top operand off the top frame.
@@ -127,6 +172,45 @@ impl Loaded {
         ensures rest { self.new ≡ record self.old { frames = popped self.old.frames } }
     {
         self.values.pop()
+    }
+
+    /// Takes so many operands off the top frame.
+    #[inline]
+    pub fn drop_top(&mut self, count: u32)
+        requires { count ≤ length (top_operands self.old.frames) }
+        ensures { self.new ≡ record self.old { frames = without count self.old.frames } }
+    {
+        let left = self.values.len() - count as usize;
+        self.values.truncate(left);
+    }
+
+    /// The operand of the top frame that has so many above it.
+    #[inline]
+    pub fn top(&self, above: u32) -> &Cell
+        requires { above < length (top_operands self.now.frames) }
+        ensures { slice_get (top_operands self.now.frames) above ≡ Some result.now }
+    {
+        self.values.at(self.values.len() - 1 - above as usize)
+    }
+
+    /// Makes the top operand this FIXED number.
+    #[inline]
+    pub fn put_top_fixed(&mut self, len: u8, value: i64)
+        requires { 0 < length (top_operands self.old.frames) }
+        ensures { self.new ≡ record self.old { frames = pushed (Cell.Fixed len value) (popped self.old.frames) } }
+    {
+        let last = self.values.len() - 1;
+        self.values.set_fixed(last, len, value);
+    }
+
+    /// Makes the top operand this BIT.
+    #[inline]
+    pub fn put_top_bits(&mut self, len: u8, value: u64)
+        requires { 0 < length (top_operands self.old.frames) }
+        ensures { self.new ≡ record self.old { frames = pushed (Cell.Bits len value) (popped self.old.frames) } }
+    {
+        let last = self.values.len() - 1;
+        self.values.set_bits(last, len, value);
     }
 
     /// The number of frames.
@@ -152,6 +236,15 @@ impl Loaded {
         }
     }
 
+    /// The number of the top frame's instruction.
+    #[inline]
+    pub fn place(&self) -> u64
+        requires { self.now.frames ≢ [] }
+        ensures { result ≡ place_of self.now.frames }
+    {
+        self.heads[self.heads.len() - 1].instruction
+    }
+
     /// Sets the top frame's instruction.
     #[inline]
     pub fn go(&mut self, instruction: u64)
@@ -160,6 +253,17 @@ impl Loaded {
     {
         let last = self.heads.len() - 1;
         self.heads[last].instruction = instruction;
+    }
+
+    /// Goes on to the top frame's next instruction.
+    #[inline]
+    pub fn go_on(&mut self)
+        requires some { self.old.frames ≢ [] }
+        requires next { place_of self.old.frames + 1 < 2 ^ 64 }
+        ensures { self.new ≡ record self.old { frames = moved (place_of self.old.frames + 1) self.old.frames } }
+    {
+        let next = self.place() + 1;
+        self.go(next);
     }
 
     /// Cell `c` of frame `f`; the lowest frame is 0.
@@ -178,7 +282,61 @@ impl Loaded {
         ensures { self.new ≡ record self.old { frames = with_cell self.old.frames f c x } }
     {
         let at = self.heads[f as usize].first + c as usize;
-        self.values.set(at, x);
+        self.values.set_copy(at, &x);
+    }
+
+    /// Writes a copy of a value into cell `c` of frame `f`; the lowest frame is 0.
+    #[inline]
+    pub fn set_cell_copy(&mut self, f: u32, c: u32, x: &Cell)
+        requires { IsSome (cell_at self.old.frames f c) }
+        ensures { self.new ≡ record self.old { frames = with_cell self.old.frames f c x.now } }
+    {
+        let at = self.heads[f as usize].first + c as usize;
+        self.values.set_copy(at, x);
+    }
+
+    /// Writes a FIXED number into cell `c` of frame `f`; the lowest frame is 0.
+    #[inline]
+    pub fn set_cell_fixed(&mut self, f: u32, c: u32, len: u8, value: i64)
+        requires { IsSome (cell_at self.old.frames f c) }
+        ensures { self.new ≡ record self.old { frames = with_cell self.old.frames f c (Cell.Fixed len value) } }
+    {
+        let at = self.heads[f as usize].first + c as usize;
+        self.values.set_fixed(at, len, value);
+    }
+
+    /// Writes what is unset of the kind into cell `c` of frame `f`; the lowest frame is 0.
+    #[inline]
+    pub fn set_cell_blank(&mut self, f: u32, c: u32, kind: Kind)
+        requires cell { IsSome (cell_at self.old.frames f c) }
+        requires kind { IsKind kind }
+        ensures { self.new ≡ record self.old { frames = with_cell self.old.frames f c (blank_of kind) } }
+    {
+        let at = self.heads[f as usize].first + c as usize;
+        self.values.set_blank(at, kind);
+    }
+
+    // Copies the top operand into cell `c` of frame `f`.
+    #[inline]
+    fn copy_top(&mut self, f: u32, c: u32)
+        requires operand { 0 < length (top_operands self.old.frames) }
+        requires cell { IsSome (cell_at self.old.frames f c) }
+        ensures { option_map (λ x. record self.old { frames = with_cell self.old.frames f c x }) (slice_get (top_operands self.old.frames) 0) ≡ Some self.new }
+    {
+        let at = self.heads[f as usize].first + c as usize;
+        let last = self.values.len() - 1;
+        self.values.set_again(at, last);
+    }
+
+    /// Puts the top operand of the top frame into cell `c` of frame `f`, and takes it off; the lowest frame is 0.
+    #[inline]
+    pub fn store_top(&mut self, f: u32, c: u32)
+        requires operand { 0 < length (top_operands self.old.frames) }
+        requires cell { IsSome (cell_at self.old.frames f c) }
+        ensures { option_map (λ x. record self.old { frames = popped (with_cell self.old.frames f c x) }) (slice_get (top_operands self.old.frames) 0) ≡ Some self.new }
+    {
+        self.copy_top(f, c);
+        self.drop_top(1);
     }
 
     /// Operand `at` of frame `f`, the one that was pushed first being 0; the lowest frame is 0.
@@ -188,8 +346,7 @@ impl Loaded {
         ensures { operand_at self.now.frames f at ≡ Some result.now }
     {
         let head = self.heads[f as usize];
-        self.values
-            .at(head.first + head.cells as usize + at as usize)
+        self.values.at(head.first + head.cells as usize + at as usize)
     }
 
     /// Makes a new top frame at instruction 0. Its first cells are the top `params` operands, in the order in which
@@ -220,6 +377,20 @@ impl Loaded {
         self.values.truncate(self.heads[below].first);
         self.heads.truncate(below);
     }
+
+    /// Drops the top frame but for its top operand, which the frame below has on top then.
+    pub fn leave_with_top(&mut self)
+        requires operand { 0 < length (top_operands self.old.frames) }
+        requires below { drop 1 self.old.frames ≢ [] }
+        ensures { option_map (λ x. record self.old { frames = pushed x (drop 1 self.old.frames) }) (slice_get (top_operands self.old.frames) 0) ≡ Some self.new }
+    {
+        let below = self.heads.len() - 1;
+        let first = self.heads[below].first;
+        let last = self.values.len() - 1;
+        self.values.set_again(first, last);
+        self.values.truncate(first + 1);
+        self.heads.truncate(below);
+    }
 }
 
 // Where the values of frame `f` end: where those of the frame above it begin, or at the end of all.
@@ -239,6 +410,6 @@ fn fill(values: &mut Values, count: u32)
     ensures room { values.new.room ≡ values.old.room }
 {
     for _ in 0..count {
-        values.push(Cell::default());
+        values.push_fixed(31, 0);
     }
 }

@@ -1,10 +1,14 @@
-// A row of values whose memory is full from the start: a value is written over an old one, and none is moved into
-// memory that holds nothing.
+// A row of values whose memory is full from the start: a value is written over an old one, where that lies.
 
-ghost use Rattle.std.specs.Prelude.{◌≡◌, ◌+◌, ◌-◌, ◌≤◌, ◌<◌, ◌^◌, [], ◌∷◌, ◌++◌, IfOk, length, take, slice_index_or, slice_set};
+ghost use Rattle.std.specs.Prelude.{◌≡◌, ◌+◌, ◌-◌, ◌≤◌, ◌<◌, ◌^◌, [], ◌∷◌, ◌++◌, IfOk, length, take, slice_get, slice_index_or, slice_set, option_map, Some};
+ghost use Rattle.pearl_value.specs.declared.cell.Cell.{Cell};
+ghost use Rattle.pearl_value.specs.Blanks.{blank_of};
+ghost use Rattle.pearl_value.specs.Kinds.{IsKind};
 ghost use Rattle.pearl_stack.specs.Held.{Held};
 
+use pearl_cells::put::{put_bits, put_blank, put_copy, put_fixed};
 use pearl_value::cell::{Cell, copy_of};
+use pearl_value::kind::Kind;
 use std::alloc::{AllocError as NoMemory, Global};
 use std::marker::Model;
 
@@ -47,14 +51,13 @@ impl Values {
         self.used
     }
 
-    /// One more value.
+    /// A value.
     #[inline]
-    pub fn push(&mut self, x: Cell)
-        requires { length self.old.items < self.old.room }
-        ensures { self.new ≡ record self.old { items = self.old.items ++ x ∷ [] } }
+    pub fn at(&self, i: usize) -> &Cell
+        requires { i < length self.now.items }
+        ensures { result.now ≡ slice_index_or self.now.items i result.now }
     {
-        self.cells[self.used] = x;
-        self.used += 1;
+        &self.cells[i]
     }
 
     /// A copy of a value, as one more.
@@ -63,8 +66,86 @@ impl Values {
         requires { length self.old.items < self.old.room }
         ensures { self.new ≡ record self.old { items = self.old.items ++ x.now ∷ [] } }
     {
-        self.cells[self.used] = copy_of(x);
+        put_copy(&mut self.cells[self.used], x);
         self.used += 1;
+    }
+
+    /// A FIXED number, as one more.
+    #[inline]
+    pub fn push_fixed(&mut self, len: u8, value: i64)
+        requires { length self.old.items < self.old.room }
+        ensures { self.new ≡ record self.old { items = self.old.items ++ Cell.Fixed len value ∷ [] } }
+    {
+        put_fixed(&mut self.cells[self.used], len, value);
+        self.used += 1;
+    }
+
+    /// A BIT, as one more.
+    #[inline]
+    pub fn push_bits(&mut self, len: u8, value: u64)
+        requires { length self.old.items < self.old.room }
+        ensures { self.new ≡ record self.old { items = self.old.items ++ Cell.Bits len value ∷ [] } }
+    {
+        put_bits(&mut self.cells[self.used], len, value);
+        self.used += 1;
+    }
+
+    /// A copy of the value at a number, as one more.
+    #[inline]
+    pub fn push_again(&mut self, from: usize)
+        requires there { from < length self.old.items }
+        requires room { length self.old.items < self.old.room }
+        ensures { option_map (λ x. record self.old { items = self.old.items ++ x ∷ [] }) (slice_get self.old.items from) ≡ Some self.new }
+    {
+        copy_at(&mut self.cells, from, self.used);
+        self.used += 1;
+    }
+
+    /// Writes a copy of a value.
+    #[inline]
+    pub fn set_copy(&mut self, i: usize, x: &Cell)
+        requires { i < length self.old.items }
+        ensures { self.new ≡ record self.old { items = slice_set self.old.items i x.now } }
+    {
+        put_copy(&mut self.cells[i], x);
+    }
+
+    /// Writes a FIXED number.
+    #[inline]
+    pub fn set_fixed(&mut self, i: usize, len: u8, value: i64)
+        requires { i < length self.old.items }
+        ensures { self.new ≡ record self.old { items = slice_set self.old.items i (Cell.Fixed len value) } }
+    {
+        put_fixed(&mut self.cells[i], len, value);
+    }
+
+    /// Writes a BIT.
+    #[inline]
+    pub fn set_bits(&mut self, i: usize, len: u8, value: u64)
+        requires { i < length self.old.items }
+        ensures { self.new ≡ record self.old { items = slice_set self.old.items i (Cell.Bits len value) } }
+    {
+        put_bits(&mut self.cells[i], len, value);
+    }
+
+    /// Writes what is unset of the kind.
+    #[inline]
+    pub fn set_blank(&mut self, i: usize, kind: Kind)
+        requires there { i < length self.old.items }
+        requires kind { IsKind kind }
+        ensures { self.new ≡ record self.old { items = slice_set self.old.items i (blank_of kind) } }
+    {
+        put_blank(&mut self.cells[i], kind);
+    }
+
+    /// Writes a copy of the value at a number.
+    #[inline]
+    pub fn set_again(&mut self, i: usize, from: usize)
+        requires there { i < length self.old.items }
+        requires from { from < length self.old.items }
+        ensures { option_map (λ x. record self.old { items = slice_set self.old.items i x }) (slice_get self.old.items from) ≡ Some self.new }
+    {
+        copy_at(&mut self.cells, from, i);
     }
 
     /// The last value, which is no longer in use.
@@ -78,24 +159,6 @@ impl Values {
         copy_of(&self.cells[self.used])
     }
 
-    /// A value.
-    #[inline]
-    pub fn at(&self, i: usize) -> &Cell
-        requires { i < length self.now.items }
-        ensures { result.now ≡ slice_index_or self.now.items i result.now }
-    {
-        &self.cells[i]
-    }
-
-    /// Writes a value.
-    #[inline]
-    pub fn set(&mut self, i: usize, x: Cell)
-        requires { i < length self.old.items }
-        ensures { self.new ≡ record self.old { items = slice_set self.old.items i x } }
-    {
-        self.cells[i] = x;
-    }
-
     /// Leaves so many values in use.
     #[inline]
     pub fn truncate(&mut self, n: usize)
@@ -103,5 +166,28 @@ impl Values {
         ensures { self.new ≡ record self.old { items = take n self.old.items } }
     {
         self.used = n;
+    }
+}
+
+// Writes a copy of one cell over another.
+#[inline]
+fn copy_at(cells: &mut Vec<Cell>, from: usize, to: usize)
+    requires from { from < length cells.old.items }
+    requires to { to < length cells.old.items }
+    ensures { option_map (λ x. slice_set cells.old.items to x) (slice_get cells.old.items from) ≡ Some cells.new.items }
+{
+    match &cells[from] {
+        Cell::Fixed { len, value } => {
+            let (len, value) = (*len, *value);
+            put_fixed(&mut cells[to], len, value);
+        }
+        Cell::Bits { len, value } => {
+            let (len, value) = (*len, *value);
+            put_bits(&mut cells[to], len, value);
+        }
+        other => {
+            let x = copy_of(other);
+            cells[to] = x;
+        }
     }
 }

@@ -1,0 +1,8 @@
+use Rattle.std.proofs.Common.{set, ap, ◌∙◌}
+use Rattle.pearl_stack.proofs.Written.{held, set_shown}
+use Rattle.pearl_stack.proofs.values.Values.set_blank.Goals as goal
+
+pub returns : goal.returns
+returns c =
+    set_shown c.self.inside.cells.items c.self.inside.used c.args.i c.put_blank.new.place c.args.self.now c.self.view_is c.self.invariant c.requires.there
+    ∙ ap (λ x. held (set c.args.self.now.items c.args.i x) c.args.self.now.room) c.put_blank.ensures
