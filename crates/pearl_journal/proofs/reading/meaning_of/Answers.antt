@@ -11,7 +11,7 @@ returns-then-line-gt-LINE_LIMIT-clause-meaning c lines = search rules
 
 means : goal.returns-clause-meaning
 unfolding meaning
-means c lines = search rules
+means c lines = search (rules, c.meaning_of_text.ensures lines)
 
 pub returns-clause-meaning : goal.returns-clause-meaning
 returns-clause-meaning c = means c
