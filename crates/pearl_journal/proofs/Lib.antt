@@ -7,3 +7,4 @@ pub mod NumberLaws
 pub mod BlankLaws
 pub mod MeaningLaws
 pub mod CodeLaws
+pub mod PieceLaws
