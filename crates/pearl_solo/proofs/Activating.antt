@@ -20,11 +20,11 @@ use Rattle.pearl_instructions.specs.declared.schedule.StartForm.{StartForm}
 use Rattle.pearl_instructions.specs.declared.schedule.StartForm.TheVariants as form
 use Rattle.pearl_instructions.specs.Offers.{start_kinds, repeat_kinds, activation_count, started, repeated, with_priority, activate}
 use Rattle.pearl_instructions.specs.Steps.{Step, needed, traps, acts}
-use Rattle.pearl_solo.specs.declared.stepped.Stepped.{Stepped}
-use Rattle.pearl_solo.specs.declared.stepped.Stepped.TheVariants as stepped
+use Rattle.pearl_silent.specs.Steps.{Stepped}
+use Rattle.pearl_silent.specs.Steps.{GoesOn, Halts}
 use Rattle.pearl_solo.specs.Plans.{begins_with, if_lasting, repeats_with, urgent_with, then_told, activation_of}
-use Rattle.pearl_solo.specs.Steps.{on_top, Applies, Does}
-use Rattle.pearl_solo.proofs.Applied.{needed_true}
+use Rattle.pearl_silent.specs.Steps.{on_top, Applies, Does}
+use Rattle.pearl_silent.proofs.Applied.{needed_true}
 
 -- what goes on with what is told, or the trap
 abbrev on_told : {A : Type 0} → (A → Step) → Frame → List Frame → Result A Trap → Step
@@ -233,8 +233,8 @@ module _ (a : Activation) (f : Frame) (lower : List Frame) (values left : List C
 
 -- what is offered
 abbrev pub told_step : Result Action Trap → Stepped
-told_step (Ok action) = stepped.Offers action
-told_step (Err trap) = stepped.Offers (action.Trap trap)
+told_step (Ok action) = Halts action
+told_step (Err trap) = Halts (action.Trap trap)
 
 told_does : (f : Frame) (lower : List Frame) (left : List Cell) (s : Stack) (row : Step) (told : Result Action Trap) →
     row ≡ on_told (λ action. acts action f lower left) f lower told → Does row s s (told_step told)

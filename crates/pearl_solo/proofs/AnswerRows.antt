@@ -3,7 +3,7 @@ use Rattle.std.proofs.Common.{◌≡◌, ◌+◌, List, [], ◌∷◌, ℕ, ap}
 use Rattle.pearl_value.specs.declared.cell.Cell.{Cell}
 use Rattle.pearl_stack.specs.declared.stack.Frame as size
 use Rattle.pearl_stack.specs.Frames.{Frame, pushed, moved, without}
-use Rattle.pearl_solo.specs.Steps.{IsSizes}
+use Rattle.pearl_silent.specs.Steps.{IsSizes}
 use Rattle.pearl_solo.specs.Answered.{gone_on, gone_on_with}
 
 pub gone_on_is : (frames : List Frame) (here : size.Frame) (n : ℕ) → IsSizes here frames → moved (here.instruction + 1) (without n frames) ≡ gone_on n frames

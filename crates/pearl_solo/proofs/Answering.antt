@@ -31,15 +31,15 @@ use Rattle.pearl_instructions.specs.Steps.{Step, Silent, Offers, Missing, given,
 use Rattle.pearl_instructions.specs.Valid.{IsValid}
 use Rattle.pearl_solo.specs.Answered.{CanHear, gone_on, gone_on_with}
 use Rattle.pearl_solo.specs.Hearing.{HearsAt, Enters, HasFew, HasFormat, read_on}
-use Rattle.pearl_solo.specs.Known.{Known}
-use Rattle.pearl_solo.specs.Standing.{act_on, StandsAt}
-use Rattle.pearl_solo.specs.Steps.{on_top, top_cells}
+use Rattle.pearl_silent.specs.Known.{Known}
+use Rattle.pearl_silent.specs.Standing.{act_on, StandsAt}
+use Rattle.pearl_silent.specs.Steps.{on_top, top_cells}
 use Rattle.pearl_solo.specs.Texts.{MakesText}
 use Rattle.pearl_solo.proofs.Begins.{depth_small}
 use Rattle.pearl_solo.proofs.Getting.{reads, kinds_few}
 use Rattle.pearl_solo.proofs.Hearing.{Heard, GoesOn, TakesUp}
 use Rattle.pearl_solo.proofs.Small.{puts}
-use Rattle.pearl_solo.proofs.Stands.{room_of_task, row_stays, task_is, same_room, frames_some}
+use Rattle.pearl_silent.proofs.Stands.{room_of_task, row_stays, task_is, same_room, frames_some}
 
 -- the stack after an answer that suits
 

@@ -17,8 +17,9 @@ use Rattle.pearl_instructions.specs.Laws.{Begins, KeepsDepth}
 use Rattle.pearl_instructions.specs.Rows.{fresh_cells, begun}
 use Rattle.pearl_instructions.specs.Stacks.{IsStack, depth_or_none, room}
 use Rattle.pearl_instructions.specs.Valid.{keep, judged_at, judged_whole, is_closed, unsound_in, IsValid}
-use Rattle.pearl_solo.specs.Steps.{top_cells, with_cells}
-use Rattle.pearl_solo.proofs.Filling.{all_given}
+use Rattle.pearl_silent.specs.Steps.{top_cells, with_cells}
+use Rattle.pearl_silent.proofs.Filling.{all_given}
+use Rattle.pearl_silent.proofs.Stands.{keeps}
 
 behind : {A B C : Type 0} (f : A → C) (g : B → C) (xs : List A) (ys : List B) (k t : ℕ) → k ≡ length xs + t → slice_get (map f xs ++ map g ys) k ≡ slice_get (map g ys) t
 behind f g [] ys k t e = ap (slice_get (map g ys)) (omega (arith, e))
@@ -28,10 +29,6 @@ behind f g (x ∷ xs) ys (suc k) t e = behind f g xs ys k t (omega (arith, e))
 some_mapped : {A B : Type 0} (f : A → B) (o : Option A) (y : B) → option_map f o ≡ Some y → (x : A) × (o ≡ Some x) × (f x ≡ y)
 some_mapped f None y e = cc
 some_mapped f (Some x) y e = (x, refl, same_Some (f x) y e)
-
-pub keeps : (b : Bool) (rule : ℕ) (more : Option ℕ) → keep b rule more ≡ None → (b ≡ true) × (more ≡ None)
-keeps true rule more e = (refl, e)
-keeps false rule more e = cc
 
 -- the stated depth of a routine of a valid object is at most 4,096
 pub depth_small : (o : Object) (r : ℕ) (code : Code) → IsValid o → routine_at o r ≡ Some code → code.depth ≤ 4096

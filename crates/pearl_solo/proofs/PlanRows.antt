@@ -16,7 +16,7 @@ use Rattle.pearl_instructions.specs.declared.schedule.StartForm.TheVariants as f
 use Rattle.pearl_instructions.specs.Offers.{start_kinds, started, lasting}
 use Rattle.pearl_instructions.specs.Steps.{Step, Offers, needed, taken, traps, acts}
 use Rattle.pearl_solo.specs.Plans.{begins_with, if_lasting, planned_on}
-use Rattle.pearl_solo.specs.Steps.{Applies}
+use Rattle.pearl_silent.specs.Steps.{Applies}
 
 -- what a plan does once it is told when it begins
 abbrev planned : (Start → Step) → Frame → List Frame → Result Start Trap → Step

@@ -27,10 +27,10 @@ use Rattle.pearl_instructions.specs.Operands.{Shape}
 use Rattle.pearl_instructions.specs.Stacks.{Suits as SuitsCell}
 use Rattle.pearl_instructions.specs.Steps.{Offers, given, needed, taken, value_kind}
 use Rattle.pearl_instructions.specs.Valid.{plain_kinds, suits_format, values_suit}
-use Rattle.pearl_solo.specs.Steps.{on_top, Applies}
+use Rattle.pearl_silent.specs.Steps.{on_top, Applies}
 use Rattle.pearl_solo.specs.Texts.{MakesText}
-use Rattle.pearl_solo.proofs.Applied.{given_some, needed_true, and_true}
-use Rattle.pearl_solo.proofs.Filling.{all_given}
+use Rattle.pearl_silent.proofs.Applied.{given_some, needed_true, and_true}
+use Rattle.pearl_silent.proofs.Filling.{all_given}
 use mathlib.Core.List.{reverse_aux}
 
 -- an item of lawful width takes the kind that it suits

@@ -15,8 +15,8 @@ use Rattle.pearl_instructions.specs.Steps as step
 use Rattle.pearl_instructions.specs.Steps.{Step, Silent, Offers, given, next, leaves, asks, acts}
 use Rattle.pearl_instructions.specs.Cells.{read_reference, write_reference}
 use Rattle.pearl_solo.specs.Answered.{place_in}
-use Rattle.pearl_solo.specs.Steps.{on_top, Applies, IsSizes, made_on}
-use Rattle.pearl_solo.proofs.Applied.{given_some}
+use Rattle.pearl_silent.specs.Steps.{on_top, Applies, IsSizes, made_on}
+use Rattle.pearl_silent.proofs.Applied.{given_some}
 
 some_of : {A : Type 0} (o : Option A) (x : A) → o ≡ Some x → IsSome o
 some_of None x e = cc

@@ -15,8 +15,8 @@ use Rattle.pearl_instructions.specs.Steps as step
 use Rattle.pearl_instructions.specs.Steps.{Step, Offers, given, leaves, acts, traps, within}
 use Rattle.pearl_instructions.specs.Cells.{writes, slot_reference}
 use Rattle.pearl_instructions.specs.Slots.{IsLeafAt}
-use Rattle.pearl_solo.specs.Steps.{on_top, Applies, made_on, offset_below}
-use Rattle.pearl_solo.proofs.CellRows.{within_some, within_none}
+use Rattle.pearl_silent.specs.Steps.{on_top, Applies, made_on, offset_below}
+use Rattle.pearl_silent.proofs.CellRows.{within_some, within_none}
 
 -- writing at an offset
 

@@ -16,8 +16,8 @@ use Rattle.pearl_instructions.specs.Steps as step
 use Rattle.pearl_instructions.specs.Steps.{Step, Offers, given, leaves, asks, acts, traps, within}
 use Rattle.pearl_instructions.specs.Cells.{reads, writes, slot_reference}
 use Rattle.pearl_instructions.specs.Slots.{IsLeafAt}
-use Rattle.pearl_solo.specs.Steps.{on_top, Applies, IsSizes, made_on, offset_below}
-use Rattle.pearl_solo.proofs.CellRows.{within_some, within_none}
+use Rattle.pearl_silent.specs.Steps.{on_top, Applies, IsSizes, made_on, offset_below}
+use Rattle.pearl_silent.proofs.CellRows.{within_some, within_none}
 
 -- the leaf is there
 leaf_row : (o : Object) (v : ℕ) (leaf : Leaf) (first : ℕ) (go : Leaf → Step) → IsLeafAt o v leaf first → given (slice_get o.leaves v) go ≡ go leaf

@@ -17,7 +17,7 @@ use Rattle.pearl_instructions.specs.Rows.{after}
 use Rattle.pearl_instructions.specs.Stacks.{task_of}
 use Rattle.pearl_instructions.specs.Steps.{next}
 use Rattle.pearl_solo.specs.Answered.{CanHear}
-use Rattle.pearl_solo.specs.Standing.{act_on, StandsAt}
+use Rattle.pearl_silent.specs.Standing.{act_on, StandsAt}
 
 -- the stack stands at this instruction, whose action the answer suits, and there is memory for the stack after it
 pub record HearsAt (o : Object) (instr : Instr) (here : size.Frame) (s : Stack) (answer : Answer) : Type 0 where

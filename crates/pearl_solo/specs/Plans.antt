@@ -18,7 +18,7 @@ use Rattle.pearl_instructions.specs.declared.schedule.RepeatForm.{RepeatForm}
 use Rattle.pearl_instructions.specs.declared.schedule.RepeatForm.TheVariants as again
 use Rattle.pearl_instructions.specs.Offers.{start_kinds, repeat_kinds, started}
 use Rattle.pearl_instructions.specs.Steps.{Step, taken, acts}
-use Rattle.pearl_solo.specs.Steps.{on_top}
+use Rattle.pearl_silent.specs.Steps.{on_top}
 
 -- a length of time that isn't negative, else Range is trapped
 abbrev pub if_lasting : ℤ → Start → Result Start Trap

@@ -1,5 +1,5 @@
 -- Silent rows, one after the other, up to the row that offers an action.
-use Rattle.std.specs.Prelude.{◌≡◌, ℕ, zero, suc, ◌<◌, List}
+use Rattle.std.specs.Prelude.{◌≡◌, ℕ, ◌<◌, List}
 use Rattle.pearl_rules.specs.declared.action.Action.{Action}
 use Rattle.pearl_rules.specs.declared.action.Answer.{Answer}
 use Rattle.pearl_stack.specs.Frames.{Frame}
@@ -7,12 +7,8 @@ use Rattle.pearl_instructions.specs.declared.object.Object.{Object}
 use Rattle.pearl_instructions.specs.Objects.{routines}
 use Rattle.pearl_instructions.specs.Rows.{row}
 use Rattle.pearl_instructions.specs.Stacks.{all_rows}
-use Rattle.pearl_instructions.specs.Steps.{Silent, Offers}
-
--- so many silent rows lead from one stack to another
-abbrev pub Silently : Object → ℕ → List Frame → List Frame → Type 0
-Silently o zero frames last = frames ≡ last
-Silently o (suc n) frames last = (middle : List Frame) × Silently o n frames middle × (row o middle ≡ Silent last)
+use Rattle.pearl_instructions.specs.Steps.{Offers}
+use Rattle.pearl_silent.specs.Settling.{Silently}
 
 -- silent rows lead to a stack whose row offers this action, and with that row they are no more than the object has instructions
 pub record Settles (o : Object) (frames last : List Frame) (action : Action) : Type 0 where

@@ -11,20 +11,20 @@ ghost use Rattle.pearl_instructions.specs.Stacks.{IsStack, task_of, room};
 ghost use Rattle.pearl_instructions.specs.Steps.{heard as heard_of, all_heard as all_heard_of};
 ghost use Rattle.pearl_solo.specs.Answered.{count_or_none, gone_on, gone_on_with, taken_of, CanHear};
 ghost use Rattle.pearl_solo.specs.Hearing.{read_on, Enters, HasFew, HasFormat, HearsAt};
-ghost use Rattle.pearl_solo.specs.Standing.{act_on};
-ghost use Rattle.pearl_solo.specs.Steps.{top_cells, with_cells, IsHere, IsSizes};
+ghost use Rattle.pearl_silent.specs.Standing.{act_on};
+ghost use Rattle.pearl_silent.specs.Steps.{top_cells, with_cells, IsHere, IsSizes};
 
 use crate::calls::enter;
-use crate::cells::element;
 use crate::devices::{data_count, items_at};
-use crate::known::laws_hold;
 use crate::plans::{activation_count, as_start, start_count, start_or_free};
-use crate::table::instr_at;
-use crate::top::{drop_top, set_own_cell};
 use arrayvec::ArrayVec;
 use pearl_instructions::instr::Instr;
 use pearl_instructions::valid::Valid;
 use pearl_rules::action::Answer;
+use pearl_silent::elements::element;
+use pearl_silent::known::laws_hold;
+use pearl_silent::table::instr_at;
+use pearl_silent::top::{drop_top, set_own_cell};
 use pearl_stack::stack::{Frame, Loaded};
 use pearl_value::cell::Cell;
 
@@ -69,7 +69,7 @@ fn set_values(stack: &mut Loaded, here: Frame, first: u64, values: ArrayVec<Cell
 {
     let mut left = values;
     while let Some(x) = left.pop() {
-        let c = element(here, first, left.len() as u64);
+        let c = element(&here, first, left.len() as u64);
         set_own_cell(stack, c as u32, x);
     }
 }
@@ -166,6 +166,6 @@ pub fn answer(code: &Valid, stack: &mut Loaded, answer: Answer)
 {
     laws_hold(code);
     let here = stack.frame(stack.frames() - 1);
-    let instr = instr_at(code, here);
+    let instr = instr_at(code, &here);
     hear_at(code, stack, here, instr, answer);
 }

@@ -6,16 +6,18 @@ ghost use Rattle.pearl_stack.specs.Frames.{top_operands};
 ghost use Rattle.pearl_instructions.specs.Objects.{items_at as items_of};
 ghost use Rattle.pearl_instructions.specs.Offers.{value_kinds, cells_from, put_values as put_row, get_values as get_row};
 ghost use Rattle.pearl_solo.specs.Texts.{MakesText};
-ghost use Rattle.pearl_solo.specs.Steps.{on_top, Does, Applies, IsHere, top_cells};
+ghost use Rattle.pearl_silent.specs.Steps.{on_top, Does, Applies, IsHere, top_cells};
+ghost use Rattle.pearl_solo.specs.Gives.{gave};
 
-use crate::stepped::Stepped;
-use crate::top::{own_cell, top_values};
+use crate::stepped::Gave;
+use crate::values::top_values;
 use arrayvec::ArrayVec;
 use pearl_format::item::{Item, ItemCode};
 use pearl_format::put::put_text;
 use pearl_instructions::instr::Reading;
 use pearl_instructions::valid::Valid;
 use pearl_rules::action::Action;
+use pearl_silent::top::own_cell;
 use pearl_stack::stack::{Frame, Loaded};
 use pearl_value::conversion::kind;
 use pearl_value::kind::Kind;
@@ -52,33 +54,47 @@ pub fn data_count(items: &[Item]) -> u32
 }
 
 // Put. The values are copied, since they stay up to the answer.
-pub fn put(code: &Valid, stack: &Loaded, here: Frame, device: u64, format: u64) -> Stepped
-    requires here { IsHere here stack.now.frames }
+pub fn put(
+    code: &Valid,
+    stack: &Loaded,
+    here: &Frame,
+    device: u64,
+    format: u64,
+    into: &mut Action,
+) -> Gave
+    requires here { IsHere here.now stack.now.frames }
     requires device { device < 2 ^ 32 }
     requires text { MakesText (items_of code.now format) (top_operands stack.now.frames) }
     requires ready { Applies (on_top (λ f lower. put_row code.now device format f lower) stack.now.frames) stack.now.room }
-    ensures { Does (on_top (λ f lower. put_row code.now device format f lower) stack.now.frames) stack.now stack.now result }
+    ensures { Does (on_top (λ f lower. put_row code.now device format f lower) stack.now.frames) stack.now stack.now (gave result into.new) }
 {
     let items = items_at(code, format);
     let count = data_count(items);
     let values = top_values(stack, here, count);
     let mut text: ArrayVec<u8, 1024> = ArrayVec::new();
     match put_text(items, values.as_slice(), &mut text) {
-        Ok(()) => Stepped::Offers(Action::Put {
-            device: device as u32,
-            text,
-        }),
-        Err(trap) => Stepped::Offers(Action::Trap(trap)),
+        Ok(()) => {
+            *into = Action::Put {
+                device: device as u32,
+                text,
+            };
+            Gave::Offered
+        }
+        Err(trap) => {
+            *into = Action::Trap(trap);
+            Gave::Offered
+        }
     }
 }
 
 // The kinds of so many cells of the top frame.
-fn kinds_from(stack: &Loaded, here: Frame, first: u64, count: u32) -> ArrayVec<Kind, 64>
-    requires here { IsHere here stack.now.frames }
+fn kinds_from(stack: &Loaded, here: &Frame, first: u64, count: u32) -> ArrayVec<Kind, 64>
+    requires here { IsHere here.now stack.now.frames }
     requires few { count ≤ 64 }
     requires there { IsSome (option_and_then value_kinds (cells_from (top_cells stack.now.frames) first count)) }
     ensures { option_and_then value_kinds (cells_from (top_cells stack.now.frames) first count) ≡ Some result.items }
 {
+    let _cells = here.cells;
     let mut kinds = ArrayVec::new();
     for i in 0..count {
         kinds.push(kind(own_cell(stack, here, first + i as u64)));
@@ -87,20 +103,21 @@ fn kinds_from(stack: &Loaded, here: Frame, first: u64, count: u32) -> ArrayVec<K
 }
 
 // Get.
-pub fn get(code: &Valid, stack: &Loaded, here: Frame, reading: &Reading) -> Stepped
-    requires here { IsHere here stack.now.frames }
+pub fn get(code: &Valid, stack: &Loaded, here: &Frame, reading: &Reading, into: &mut Action) -> Gave
+    requires here { IsHere here.now stack.now.frames }
     requires device { reading.now.device < 2 ^ 32 }
     requires format { reading.now.format < 2 ^ 32 }
     requires few { IfSome (items_of code.now reading.now.format) (λ items. count_of items ≤ 64) }
     requires ready { Applies (on_top (λ f lower. get_row code.now reading.now f lower) stack.now.frames) stack.now.room }
-    ensures { Does (on_top (λ f lower. get_row code.now reading.now f lower) stack.now.frames) stack.now stack.now result }
+    ensures { Does (on_top (λ f lower. get_row code.now reading.now f lower) stack.now.frames) stack.now stack.now (gave result into.new) }
 {
     let items = items_at(code, reading.format);
     let count = data_count(items);
     let kinds = kinds_from(stack, here, reading.first, count);
-    Stepped::Offers(Action::Get {
+    *into = Action::Get {
         device: reading.device as u32,
         format: reading.format as u32,
         kinds,
-    })
+    };
+    Gave::Offered
 }

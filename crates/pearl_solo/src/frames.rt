@@ -6,12 +6,12 @@ ghost use Rattle.pearl_instructions.specs.Flow.{fresh as fresh_of};
 ghost use Rattle.pearl_instructions.specs.Lawful.{IsCellKind};
 ghost use Rattle.pearl_instructions.specs.Rows.{begun};
 ghost use Rattle.pearl_instructions.specs.Stacks.{IsStack, task_of, room};
-ghost use Rattle.pearl_solo.specs.Steps.{top_cells, with_cells};
+ghost use Rattle.pearl_silent.specs.Steps.{top_cells, with_cells};
 
-use crate::known::laws_hold;
-use crate::top::set_own_cell;
 use pearl_instructions::laws;
 use pearl_instructions::valid::Valid;
+use pearl_silent::known::laws_hold;
+use pearl_silent::top::set_own_cell;
 use pearl_stack::stack::Loaded;
 use pearl_value::cell::Cell;
 use pearl_value::conversion::blank;

@@ -1,18 +1,15 @@
-// One task's execution: what each instruction does to a stack in memory.
+//! One task's execution on its stack in memory: its first frame, one instruction, all up to an action, and the stack
+//! after its answer.
+//!
+//! [`frames::begin`] leaves the first frame, [`settle::settle`] carries out instructions until one offers an action, and
+//! [`answers::answer`] goes on after what came of it. [`step::step`] carries out one instruction.
 #![tactic(auto)]
 
-mod advances;
 pub mod answers;
 mod calls;
-mod cells;
 mod devices;
-mod flow;
 pub mod frames;
-mod indices;
-mod known;
-mod loops;
 mod offers;
-mod operators;
 mod own;
 mod plans;
 mod references;
@@ -20,5 +17,5 @@ pub mod settle;
 pub mod step;
 pub mod stepped;
 mod table;
-mod top;
+mod values;
 mod variables;

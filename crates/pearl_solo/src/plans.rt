@@ -5,13 +5,15 @@ ghost use Rattle.pearl_rules.specs.declared.action.Action.{Action};
 ghost use Rattle.pearl_stack.specs.Frames.{top_operands};
 ghost use Rattle.pearl_instructions.specs.Offers.{as_start as as_start_of, start_or_free as start_or_free_of, start_kinds, repeat_kinds, activation_count as count_of, activate as activate_row, continue as continue_row};
 ghost use Rattle.pearl_solo.specs.Plans.{begins_with, repeats_with, urgent_with, activation_of, planned_on, span_of, clock_of, NamesSmall};
-ghost use Rattle.pearl_solo.specs.Steps.{on_top, Does, Applies, IsHere};
+ghost use Rattle.pearl_silent.specs.Steps.{on_top, Does, Applies, IsHere};
+ghost use Rattle.pearl_solo.specs.Gives.{gave};
 
-use crate::stepped::Stepped;
-use crate::top::{operand, top_values};
+use crate::stepped::Gave;
+use crate::values::top_values;
 use pearl_instructions::instr::{Activation, Continuation};
 use pearl_instructions::schedule::{OnceForm, RepeatForm, StartForm};
 use pearl_rules::action::{Action, Repeat, Start};
+use pearl_silent::top::operand;
 use pearl_stack::stack::{Frame, Loaded};
 use pearl_value::cell::Cell;
 use pearl_value::trap::Trap;
@@ -45,8 +47,8 @@ fn start_at(form: StartForm, x: &Cell) -> Result<Start, Trap>
 }
 
 // When a plan begins.
-fn start(stack: &Loaded, here: Frame, form: StartForm) -> Result<Start, Trap>
-    requires here { IsHere here stack.now.frames }
+fn start(stack: &Loaded, here: &Frame, form: StartForm) -> Result<Start, Trap>
+    requires here { IsHere here.now stack.now.frames }
     requires small { NamesSmall form }
     requires some { IsSome (begins_with form (top_operands stack.now.frames)) }
     ensures { begins_with form (top_operands stack.now.frames) ≡ Some result }
@@ -75,28 +77,46 @@ pub fn as_start(form: OnceForm) -> StartForm
 }
 
 // Resume.
-pub fn resume(stack: &Loaded, here: Frame, form: OnceForm) -> Stepped
-    requires here { IsHere here stack.now.frames }
+pub fn resume(stack: &Loaded, here: &Frame, form: OnceForm, into: &mut Action) -> Gave
+    requires here { IsHere here.now stack.now.frames }
     requires small { NamesSmall (as_start_of form) }
     requires ready { Applies (planned_on (λ when. Action.Resume when) (as_start_of form) stack.now.frames) stack.now.room }
-    ensures { Does (planned_on (λ when. Action.Resume when) (as_start_of form) stack.now.frames) stack.now stack.now result }
+    ensures { Does (planned_on (λ when. Action.Resume when) (as_start_of form) stack.now.frames) stack.now stack.now (gave result into.new) }
 {
     match start(stack, here, as_start(form)) {
-        Ok(when) => Stepped::Offers(Action::Resume(when)),
-        Err(trap) => Stepped::Offers(Action::Trap(trap)),
+        Ok(when) => {
+            *into = Action::Resume(when);
+            Gave::Offered
+        }
+        Err(trap) => {
+            *into = Action::Trap(trap);
+            Gave::Offered
+        }
     }
 }
 
 // Continue, of a task by its number.
-fn continue_task(stack: &Loaded, here: Frame, task: u32, form: StartForm) -> Stepped
-    requires here { IsHere here stack.now.frames }
+fn continue_task(
+    stack: &Loaded,
+    here: &Frame,
+    task: u32,
+    form: StartForm,
+    into: &mut Action,
+) -> Gave
+    requires here { IsHere here.now stack.now.frames }
     requires small { NamesSmall form }
     requires ready { Applies (planned_on (λ when. Action.Continue task when) form stack.now.frames) stack.now.room }
-    ensures { Does (planned_on (λ when. Action.Continue task when) form stack.now.frames) stack.now stack.now result }
+    ensures { Does (planned_on (λ when. Action.Continue task when) form stack.now.frames) stack.now stack.now (gave result into.new) }
 {
     match start(stack, here, form) {
-        Ok(when) => Stepped::Offers(Action::Continue { task, start: when }),
-        Err(trap) => Stepped::Offers(Action::Trap(trap)),
+        Ok(when) => {
+            *into = Action::Continue { task, start: when };
+            Gave::Offered
+        }
+        Err(trap) => {
+            *into = Action::Trap(trap);
+            Gave::Offered
+        }
     }
 }
 
@@ -110,14 +130,14 @@ pub fn start_or_free(form: Option<OnceForm>) -> StartForm
 }
 
 // Continue.
-pub fn go_on_later(stack: &Loaded, here: Frame, c: &Continuation) -> Stepped
-    requires here { IsHere here stack.now.frames }
+pub fn go_on_later(stack: &Loaded, here: &Frame, c: &Continuation, into: &mut Action) -> Gave
+    requires here { IsHere here.now stack.now.frames }
     requires task { c.now.task < 2 ^ 32 }
     requires small { NamesSmall (start_or_free_of c.now.once) }
     requires ready { Applies (on_top (λ f lower. continue_row c.now f lower) stack.now.frames) stack.now.room }
-    ensures { Does (on_top (λ f lower. continue_row c.now f lower) stack.now.frames) stack.now stack.now result }
+    ensures { Does (on_top (λ f lower. continue_row c.now f lower) stack.now.frames) stack.now stack.now (gave result into.new) }
 {
-    continue_task(stack, here, c.task as u32, start_or_free(c.once))
+    continue_task(stack, here, c.task as u32, start_or_free(c.once), into)
 }
 
 // A length of time.
@@ -267,16 +287,22 @@ fn activation(a: &Activation, values: &[Cell]) -> Result<Action, Trap>
 }
 
 // Activate.
-pub fn activate(stack: &Loaded, here: Frame, a: &Activation) -> Stepped
-    requires here { IsHere here stack.now.frames }
+pub fn activate(stack: &Loaded, here: &Frame, a: &Activation, into: &mut Action) -> Gave
+    requires here { IsHere here.now stack.now.frames }
     requires task { a.now.task < 2 ^ 32 }
     requires small { NamesSmall a.now.start }
     requires ready { Applies (on_top (λ f lower. activate_row a.now f lower) stack.now.frames) stack.now.room }
-    ensures { Does (on_top (λ f lower. activate_row a.now f lower) stack.now.frames) stack.now stack.now result }
+    ensures { Does (on_top (λ f lower. activate_row a.now f lower) stack.now.frames) stack.now stack.now (gave result into.new) }
 {
     let values = top_values(stack, here, activation_count(a));
     match activation(a, values.as_slice()) {
-        Ok(action) => Stepped::Offers(action),
-        Err(trap) => Stepped::Offers(Action::Trap(trap)),
+        Ok(action) => {
+            *into = action;
+            Gave::Offered
+        }
+        Err(trap) => {
+            *into = Action::Trap(trap);
+            Gave::Offered
+        }
     }
 }

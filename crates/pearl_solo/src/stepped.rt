@@ -1,11 +1,29 @@
 // What an instruction did.
 
-use pearl_rules::action::Action;
+ghost use Rattle.std.specs.Prelude.{◌≡◌};
+ghost use Rattle.pearl_silent.specs.Steps.{told};
+ghost use Rattle.pearl_solo.specs.Gives.{gave};
 
-/// What an instruction did: it left the stack with which its task goes on, or it offers an action, and
-/// nothing changed.
-#[derive(Drop)]
-pub enum Stepped {
+use pearl_rules::action::Action;
+use pearl_silent::stepped::Did;
+
+/// What an instruction did: it left the stack with which its task goes on, or it offers an action, which lies beside
+/// it, and nothing changed.
+#[derive(Clone, Copy)]
+pub enum Gave {
     Silent,
-    Offers(Action),
+    Offered,
+}
+
+// What that is of what an instruction can do.
+pub(crate) fn tell(did: Did, into: &mut Action) -> Gave
+    ensures { gave result into.new ≡ told did }
+{
+    match did {
+        Did::Silent => Gave::Silent,
+        Did::Trapped(trap) => {
+            *into = Action::Trap(trap);
+            Gave::Offered
+        }
+    }
 }

@@ -5,55 +5,78 @@ ghost use Rattle.std.specs.Prelude.{◌≡◌, ◌+◌, ◌<◌, ◌≤◌, slic
 ghost use Rattle.pearl_instructions.specs.Cells.{reads as reads_row, writes as writes_row, slot_reference};
 ghost use Rattle.pearl_instructions.specs.Steps.{given as given_row, popped as popped_row, within as within_row};
 ghost use Rattle.pearl_instructions.specs.Slots.{IsLeafAt};
-ghost use Rattle.pearl_solo.specs.Steps.{on_top, Does, Applies, IsHere};
+ghost use Rattle.pearl_silent.specs.Steps.{on_top, Does, Applies, IsHere};
+ghost use Rattle.pearl_solo.specs.Gives.{gave};
 
-use crate::cells::offset;
-use crate::stepped::Stepped;
-use crate::top::{finish, operand};
+use crate::stepped::{Gave, tell};
 use pearl_instructions::object::Leaf;
 use pearl_instructions::valid::Valid;
 use pearl_rules::action::Action;
+use pearl_silent::elements::offset;
+use pearl_silent::top::{finish, operand};
 use pearl_stack::stack::{Frame, Loaded};
 use pearl_value::cell::{Cell, Place, copy_of};
 use pearl_value::trap::Trap;
 
 // Read.
-pub fn read(code: &Valid, stack: &Loaded, here: Frame, v: u64, leaf: &Leaf, first: u32) -> Stepped
-    requires here { IsHere here stack.now.frames }
+pub fn read(
+    code: &Valid,
+    stack: &Loaded,
+    here: &Frame,
+    v: u64,
+    leaf: &Leaf,
+    first: u32,
+    into: &mut Action,
+) -> Gave
+    requires here { IsHere here.now stack.now.frames }
     requires leaf { IsLeafAt code.now v leaf.now first }
-    ensures { Does (on_top (λ f lower. given_row (slice_get code.now.leaves v) (λ leaf. reads_row code.now v 0 f lower f.operands)) stack.now.frames) stack.now stack.now result }
+    ensures { Does (on_top (λ f lower. given_row (slice_get code.now.leaves v) (λ leaf. reads_row code.now v 0 f lower f.operands)) stack.now.frames) stack.now stack.now (gave result into.new) }
 {
-    Stepped::Offers(Action::Read(first))
+    *into = Action::Read(first);
+    Gave::Offered
 }
 
 // Write: offers the value on top, which is copied since it stays there up to the answer.
-pub fn write(code: &Valid, stack: &Loaded, here: Frame, v: u64, leaf: &Leaf, first: u32) -> Stepped
-    requires here { IsHere here stack.now.frames }
+pub fn write(
+    code: &Valid,
+    stack: &Loaded,
+    here: &Frame,
+    v: u64,
+    leaf: &Leaf,
+    first: u32,
+    into: &mut Action,
+) -> Gave
+    requires here { IsHere here.now stack.now.frames }
     requires leaf { IsLeafAt code.now v leaf.now first }
     requires ready { Applies (on_top (λ f lower. given_row (slice_get code.now.leaves v) (λ leaf. popped_row f.operands (λ x left. writes_row code.now v 0 x f lower left))) stack.now.frames) stack.now.room }
-    ensures { Does (on_top (λ f lower. given_row (slice_get code.now.leaves v) (λ leaf. popped_row f.operands (λ x left. writes_row code.now v 0 x f lower left))) stack.now.frames) stack.now stack.now result }
+    ensures { Does (on_top (λ f lower. given_row (slice_get code.now.leaves v) (λ leaf. popped_row f.operands (λ x left. writes_row code.now v 0 x f lower left))) stack.now.frames) stack.now stack.now (gave result into.new) }
 {
     let x = copy_of(operand(stack, here, 0));
-    Stepped::Offers(Action::Write(first, x))
+    *into = Action::Write(first, x);
+    Gave::Offered
 }
 
 // RefSlot.
 pub fn ref_slot(
     code: &Valid,
     stack: &mut Loaded,
-    here: Frame,
+    here: &Frame,
     v: u64,
     leaf: &Leaf,
     first: u32,
-) -> Stepped
-    requires here { IsHere here stack.old.frames }
+    into: &mut Action,
+) -> Gave
+    requires here { IsHere here.now stack.old.frames }
     requires leaf { IsLeafAt code.now v leaf.now first }
     requires ready { Applies (on_top (λ f lower. given_row (slice_get code.now.leaves v) (λ leaf. slot_reference code.now v leaf 0 f lower f.operands)) stack.old.frames) stack.old.room }
-    ensures { Does (on_top (λ f lower. given_row (slice_get code.now.leaves v) (λ leaf. slot_reference code.now v leaf 0 f lower f.operands)) stack.old.frames) stack.old stack.new result }
+    ensures { Does (on_top (λ f lower. given_row (slice_get code.now.leaves v) (λ leaf. slot_reference code.now v leaf 0 f lower f.operands)) stack.old.frames) stack.old stack.new (gave result into.new) }
 {
     let of = leaf.kind;
     let place = Place::Slot(first);
-    finish(stack, here, 0, Ok(Cell::Ref { kind: of, place }))
+    tell(
+        finish(stack, here, 0, Ok(Cell::Ref { kind: of, place })),
+        into,
+    )
 }
 
 // The slot at an offset.
@@ -69,22 +92,27 @@ fn slot(leaf: &Leaf, first: u32, o: u64) -> u32
 pub fn read_at(
     code: &Valid,
     stack: &Loaded,
-    here: Frame,
+    here: &Frame,
     v: u64,
     leaf: &Leaf,
     first: u32,
-) -> Stepped
-    requires here { IsHere here stack.now.frames }
+    into: &mut Action,
+) -> Gave
+    requires here { IsHere here.now stack.now.frames }
     requires leaf { IsLeafAt code.now v leaf.now first }
     requires ready { Applies (on_top (λ f lower. given_row (slice_get code.now.leaves v) (λ leaf. popped_row f.operands (λ n left. within_row leaf.slots n f lower (λ n. reads_row code.now v n f lower left)))) stack.now.frames) stack.now.room }
-    ensures { Does (on_top (λ f lower. given_row (slice_get code.now.leaves v) (λ leaf. popped_row f.operands (λ n left. within_row leaf.slots n f lower (λ n. reads_row code.now v n f lower left)))) stack.now.frames) stack.now stack.now result }
+    ensures { Does (on_top (λ f lower. given_row (slice_get code.now.leaves v) (λ leaf. popped_row f.operands (λ n left. within_row leaf.slots n f lower (λ n. reads_row code.now v n f lower left)))) stack.now.frames) stack.now stack.now (gave result into.new) }
 {
     match offset(operand(stack, here, 0), leaf.slots as u64) {
         Some(o) => {
             let at = slot(leaf, first, o);
-            Stepped::Offers(Action::Read(at))
+            *into = Action::Read(at);
+            Gave::Offered
         }
-        None => Stepped::Offers(Action::Trap(Trap::Index)),
+        None => {
+            *into = Action::Trap(Trap::Index);
+            Gave::Offered
+        }
     }
 }
 
@@ -92,23 +120,28 @@ pub fn read_at(
 pub fn write_at(
     code: &Valid,
     stack: &Loaded,
-    here: Frame,
+    here: &Frame,
     v: u64,
     leaf: &Leaf,
     first: u32,
-) -> Stepped
-    requires here { IsHere here stack.now.frames }
+    into: &mut Action,
+) -> Gave
+    requires here { IsHere here.now stack.now.frames }
     requires leaf { IsLeafAt code.now v leaf.now first }
     requires ready { Applies (on_top (λ f lower. given_row (slice_get code.now.leaves v) (λ leaf. popped_row f.operands (λ x more. popped_row more (λ n left. within_row leaf.slots n f lower (λ n. writes_row code.now v n x f lower left))))) stack.now.frames) stack.now.room }
-    ensures { Does (on_top (λ f lower. given_row (slice_get code.now.leaves v) (λ leaf. popped_row f.operands (λ x more. popped_row more (λ n left. within_row leaf.slots n f lower (λ n. writes_row code.now v n x f lower left))))) stack.now.frames) stack.now stack.now result }
+    ensures { Does (on_top (λ f lower. given_row (slice_get code.now.leaves v) (λ leaf. popped_row f.operands (λ x more. popped_row more (λ n left. within_row leaf.slots n f lower (λ n. writes_row code.now v n x f lower left))))) stack.now.frames) stack.now stack.now (gave result into.new) }
 {
     match offset(operand(stack, here, 1), leaf.slots as u64) {
         Some(o) => {
             let at = slot(leaf, first, o);
             let x = copy_of(operand(stack, here, 0));
-            Stepped::Offers(Action::Write(at, x))
+            *into = Action::Write(at, x);
+            Gave::Offered
         }
-        None => Stepped::Offers(Action::Trap(Trap::Index)),
+        None => {
+            *into = Action::Trap(Trap::Index);
+            Gave::Offered
+        }
     }
 }
 
@@ -116,23 +149,30 @@ pub fn write_at(
 pub fn ref_slot_at(
     code: &Valid,
     stack: &mut Loaded,
-    here: Frame,
+    here: &Frame,
     v: u64,
     leaf: &Leaf,
     first: u32,
-) -> Stepped
-    requires here { IsHere here stack.old.frames }
+    into: &mut Action,
+) -> Gave
+    requires here { IsHere here.now stack.old.frames }
     requires leaf { IsLeafAt code.now v leaf.now first }
     requires ready { Applies (on_top (λ f lower. given_row (slice_get code.now.leaves v) (λ leaf. popped_row f.operands (λ n left. within_row leaf.slots n f lower (λ n. slot_reference code.now v leaf n f lower left)))) stack.old.frames) stack.old.room }
-    ensures { Does (on_top (λ f lower. given_row (slice_get code.now.leaves v) (λ leaf. popped_row f.operands (λ n left. within_row leaf.slots n f lower (λ n. slot_reference code.now v leaf n f lower left)))) stack.old.frames) stack.old stack.new result }
+    ensures { Does (on_top (λ f lower. given_row (slice_get code.now.leaves v) (λ leaf. popped_row f.operands (λ n left. within_row leaf.slots n f lower (λ n. slot_reference code.now v leaf n f lower left)))) stack.old.frames) stack.old stack.new (gave result into.new) }
 {
     match offset(operand(stack, here, 0), leaf.slots as u64) {
         Some(o) => {
             let of = leaf.kind;
             let at = slot(leaf, first, o);
             let place = Place::Slot(at);
-            finish(stack, here, 1, Ok(Cell::Ref { kind: of, place }))
+            tell(
+                finish(stack, here, 1, Ok(Cell::Ref { kind: of, place })),
+                into,
+            )
         }
-        None => Stepped::Offers(Action::Trap(Trap::Index)),
+        None => {
+            *into = Action::Trap(Trap::Index);
+            Gave::Offered
+        }
     }
 }

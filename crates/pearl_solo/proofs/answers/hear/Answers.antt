@@ -1,7 +1,7 @@
 use Rattle.std.proofs.Common.{◌+◌, ap, ◌∙◌}
 use Rattle.pearl_stack.specs.Frames.{Stack, pushed, moved, without}
 use Rattle.pearl_solo.specs.Answered.{gone_on_with}
-use Rattle.pearl_solo.proofs.Tops.{top_some, without_some, pushed_some}
+use Rattle.pearl_silent.proofs.Tops.{top_some, without_some, pushed_some}
 use Rattle.pearl_solo.proofs.AnswerRows.{gone_on_with_is}
 use Rattle.pearl_solo.proofs.answers.hear.Goals as goal
 

@@ -7,8 +7,8 @@ use Rattle.pearl_instructions.specs.Stacks.{task_of}
 use Rattle.pearl_instructions.specs.Steps.{all_heard}
 use Rattle.pearl_solo.specs.Answered.{CanHear, gone_on, taken_of}
 use Rattle.pearl_solo.specs.Hearing.{read_on}
-use Rattle.pearl_solo.specs.Standing.{act_on}
-use Rattle.pearl_solo.specs.Steps.{top_cells}
+use Rattle.pearl_silent.specs.Standing.{act_on}
+use Rattle.pearl_silent.specs.Steps.{top_cells}
 use Rattle.pearl_solo.proofs.Answering.{value_at, on_at, reads_on, has_format}
 use Rattle.pearl_solo.proofs.Hearing.{goes_after, read_after, read_at_after, read_ref_after, now_after, try_after, take_after}
 use Rattle.pearl_solo.proofs.answers.hear_at.Goals as goal

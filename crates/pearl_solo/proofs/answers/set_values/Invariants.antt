@@ -1,7 +1,7 @@
 use Rattle.std.proofs.Common.{length}
-use Rattle.pearl_solo.specs.Steps.{top_cells}
+use Rattle.pearl_silent.specs.Steps.{top_cells}
 use Rattle.pearl_solo.proofs.Answering.{Writes}
-use Rattle.pearl_solo.proofs.Filling.{KeepsRest}
+use Rattle.pearl_silent.proofs.Filling.{KeepsRest}
 use Rattle.pearl_solo.proofs.answers.set_values.Given as goal
 
 abbrev pub invariant-loop-x : goal.invariant-loop-x

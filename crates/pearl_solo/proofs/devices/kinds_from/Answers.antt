@@ -2,7 +2,7 @@ use Rattle.std.proofs.Common.{◌≡◌, ℕ, suc, ◌+◌, ◌++◌, [], ◌∷
 use Rattle.pearl_value.specs.declared.cell.Cell.{Cell}
 use Rattle.pearl_value.specs.declared.kind.Kind.{Kind}
 use Rattle.pearl_instructions.specs.Offers.{value_kinds}
-use Rattle.pearl_solo.specs.Steps.{top_cells}
+use Rattle.pearl_silent.specs.Steps.{top_cells}
 use Rattle.pearl_solo.proofs.Getting.{reads, dropped_at, each_some, kind_is, kinds_more}
 use Rattle.pearl_solo.proofs.devices.kinds_from.Goals as goal
 

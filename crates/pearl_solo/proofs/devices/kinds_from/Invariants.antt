@@ -1,6 +1,6 @@
 use Rattle.std.proofs.Common.{◌≡◌, ◌≤◌, drop, take, length, Some}
 use Rattle.pearl_instructions.specs.Offers.{value_kinds}
-use Rattle.pearl_solo.specs.Steps.{top_cells}
+use Rattle.pearl_silent.specs.Steps.{top_cells}
 use Rattle.pearl_solo.proofs.devices.kinds_from.Given as goal
 
 abbrev pub invariant-loop-i : goal.invariant-loop-i

@@ -3,7 +3,7 @@ use Rattle.pearl_stack.specs.Frames.{Stack, entered}
 use Rattle.pearl_instructions.specs.declared.object.Object.{Object}
 use Rattle.pearl_instructions.specs.Flow as flow
 use Rattle.pearl_instructions.specs.Stacks.{IsStack, task_of, room}
-use Rattle.pearl_solo.specs.Steps.{top_cells, with_cells}
+use Rattle.pearl_silent.specs.Steps.{top_cells, with_cells}
 use Rattle.pearl_solo.proofs.Begins.{starts}
 use Rattle.pearl_solo.proofs.frames.begin.Goals as goal
 

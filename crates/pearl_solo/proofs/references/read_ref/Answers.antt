@@ -1,6 +1,7 @@
+use Rattle.pearl_silent.specs.Steps.{told}
 use Rattle.std.proofs.Common.{Some, refl, sym, ap, ◌∙◌, arith}
-use Rattle.pearl_solo.proofs.Made.{same_applies, same_does}
-use Rattle.pearl_solo.proofs.Applied.{one_there}
+use Rattle.pearl_silent.proofs.Made.{same_applies, same_does}
+use Rattle.pearl_silent.proofs.Applied.{one_there}
 use Rattle.pearl_solo.proofs.ReferenceRows.{read_place, read_slot, read_cell}
 use Rattle.pearl_solo.proofs.references.read_ref.Goals as goal
 
@@ -33,4 +34,4 @@ pub returns-in-Cell : goal.returns-in-Cell
 returns-in-Cell c =
     let at = read_cell c.args.stack.now.frames c.args.stack.now.room c.in-Cell.frame c.in-Cell.cell c.operand.result.now c.requires.ready c.operand.ensures
     (c.referred-place.ensures ∙ ap Some c.in-Cell.is) in
-    same_does _ _ c.args.stack.now c.finish.new.stack c.finish.result (at.is c.copy_of-x.result (c.cell.ensures ∙ ap Some (sym c.copy_of-x.ensures))) c.finish.ensures
+    rw c.tell.ensures (same_does _ _ c.args.stack.now c.finish.new.stack (told c.finish.result) (at.is c.copy_of-x.result (c.cell.ensures ∙ ap Some (sym c.copy_of-x.ensures))) c.finish.ensures)

@@ -1,8 +1,8 @@
 use Rattle.std.proofs.Common.{Ok, sym, ap, ◌∙◌, arith}
 use Rattle.pearl_value.specs.declared.cell.Cell.TheVariants.{Ref}
 use Rattle.pearl_value.specs.declared.cell.Place.TheVariants as place
-use Rattle.pearl_solo.specs.Steps.{made_on}
-use Rattle.pearl_solo.proofs.Made.{same_applies, same_does, offers_does}
+use Rattle.pearl_silent.specs.Steps.{told, made_on}
+use Rattle.pearl_silent.proofs.Made.{same_applies, same_does, offers_does}
 use Rattle.pearl_solo.proofs.SlotRows.{ref_at_there, ref_at_some, ref_at_none}
 use Rattle.pearl_solo.proofs.variables.ref_slot_at.Goals as goal
 
@@ -32,8 +32,8 @@ pub returns-in-Some : goal.returns-in-Some
 returns-in-Some c =
     let at = ref_at_some c.args.stack.now.frames c.args.code.now c.args.v c.args.leaf.now c.args.first c.args.stack.now.room c.in-Some.o c.operand.result.now c.requires.leaf c.requires.ready
     c.operand.ensures (sym c.offset.ensures ∙ c.in-Some.is) in
-    same_does _ _ c.args.stack.now c.finish.new.stack c.finish.result
-    (at.is ∙ ap (λ s. made_on 1 (Ok (Ref c.args.leaf.now.kind (place.Slot s))) c.args.stack.now.frames) (sym c.slot-at.ensures)) c.finish.ensures
+    rw c.tell.ensures (same_does _ _ c.args.stack.now c.finish.new.stack (told c.finish.result)
+    (at.is ∙ ap (λ s. made_on 1 (Ok (Ref c.args.leaf.now.kind (place.Slot s))) c.args.stack.now.frames) (sym c.slot-at.ensures)) c.finish.ensures)
 
 pub returns-in-None : goal.returns-in-None
 returns-in-None c =

@@ -1,0 +1,17 @@
+pub mod Tops
+pub mod Made
+pub mod Applied
+pub mod InOrder
+pub mod OperatorRows
+pub mod CellRows
+pub mod FlowRows
+pub mod Filling
+pub mod CallRows
+pub mod LoopRows
+pub mod AdvanceRows
+pub mod Standing
+pub mod Families
+pub mod Stands
+pub mod Indexed
+pub mod Settling
+pub mod Tried

@@ -1,5 +1,0 @@
-use Rattle.std.proofs.Common.{length}
-use Rattle.pearl_solo.proofs.indices.+offset_from.Given as goal
-
-abbrev pub decreases-offset_from : goal.decreases-offset_from
-decreases-offset_from l = length l.bounds.now
