@@ -221,6 +221,14 @@ impl Loaded {
         self.heads.len() as u32
     }
 
+    /// The number of cells and operands of all frames.
+    #[inline]
+    pub fn size(&self) -> u32
+        ensures { result ≡ used self.now.frames }
+    {
+        self.values.len() as u32
+    }
+
     /// Where frame `f` stands, and how large it is; the lowest frame is 0.
     pub fn frame(&self, f: u32) -> Frame
         requires { IsSome (frame_at self.now.frames f) }
@@ -281,8 +289,8 @@ impl Loaded {
         requires { IsSome (cell_at self.old.frames f c) }
         ensures { self.new ≡ record self.old { frames = with_cell self.old.frames f c x } }
     {
-        let at = self.heads[f as usize].first + c as usize;
-        self.values.set_copy(at, &x);
+        let spot = self.heads[f as usize].first + c as usize;
+        self.values.set_copy(spot, &x);
     }
 
     /// Writes a copy of a value into cell `c` of frame `f`; the lowest frame is 0.
@@ -346,7 +354,8 @@ impl Loaded {
         ensures { operand_at self.now.frames f at ≡ Some result.now }
     {
         let head = self.heads[f as usize];
-        self.values.at(head.first + head.cells as usize + at as usize)
+        self.values
+            .at(head.first + head.cells as usize + at as usize)
     }
 
     /// Makes a new top frame at instruction 0. Its first cells are the top `params` operands, in the order in which

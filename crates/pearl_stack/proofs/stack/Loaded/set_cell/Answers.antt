@@ -7,8 +7,8 @@ index-requires c =
     let at = lies_of c.self.inside.heads.items (vec_capacity c.self.inside.heads) c.self.inside.values c.self.inside.room c.self.inside.most c.args.self.now c.self.view_is c.self.invariant c.args.f c.args.c c.requires in
     omega (arith, at.within, c.self.inside.heads.ok.0)
 
-pub overflow_add-at : goal.overflow_add-at
-overflow_add-at c =
+pub overflow_add-spot : goal.overflow_add-spot
+overflow_add-spot c =
     let at = lies_of c.self.inside.heads.items (vec_capacity c.self.inside.heads) c.self.inside.values c.self.inside.room c.self.inside.most c.args.self.now c.self.view_is c.self.invariant c.args.f c.args.c c.requires in
     let first = ap (λ h. h.first) (c.index.ensures ∙ at.head_is c.index.result.now) in
     omega (arith, first, at.inside, c.self.invariant.4, c.self.invariant.2)
