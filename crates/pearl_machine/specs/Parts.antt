@@ -11,6 +11,10 @@ use Rattle.pearl_instructions.specs.Rows.{begun}
 use Rattle.pearl_instructions.specs.Stacks.{room}
 use Rattle.pearl_engine.specs.Engines.{engine}
 use Rattle.pearl_engine.specs.Owners.{IsStackOf}
+use Rattle.pearl_exchange.specs.declared.offer.Offer.{Offer}
+use Rattle.pearl_exchange.specs.Offers.{action_of}
+use Rattle.pearl_solo.specs.declared.stepped.Gave.{Gave}
+use Rattle.pearl_solo.specs.declared.stepped.Gave.TheVariants as gives
 use Rattle.pearl_solo.specs.Settling.{Settles}
 use Rattle.pearl_machine.specs.declared.part.Part.{Part}
 
@@ -88,6 +92,11 @@ IsShallow task = task.code.depth ≤ 4096
 abbrev pub is_none_offered : Option Action → Bool
 is_none_offered None = true
 is_none_offered (Some action) = false
+
+-- what an instruction offers, where its action lies beside it
+abbrev pub offered_by : Gave → Offer → Option Action
+offered_by gives.Silent offer = None
+offered_by gives.Offered offer = Some (action_of offer)
 
 -- an instruction was silent and left this stack, or it offers an action and changed nothing
 abbrev pub Does : Object → ℕ → List Frame → List Frame → Option Action → Type 0

@@ -1,6 +1,6 @@
 //! The machine, from the start of a run to its end.
 
-ghost use Rattle.std.specs.Prelude.{◌≡◌, ◌≢◌, ◌⊎◌, ℕ, ◌+◌, ◌<◌, ◌≤◌, List, [], ◌∷◌, ◌++◌, None};
+ghost use Rattle.std.specs.Prelude.{◌≡◌, ◌≢◌, ◌⊎◌, ℕ, ◌+◌, ◌<◌, ◌≤◌, List, [], ◌∷◌, ◌++◌, None, true};
 ghost use Rattle.std.specs.Prelude.{IfOk, OnOk, OnErr, is_some, length};
 ghost use Rattle.pearl_rules.specs.Core.{Report};
 ghost use Rattle.pearl_rules.specs.Pick.{states};
@@ -23,12 +23,15 @@ use crate::lines::state_of;
 use crate::part::{Part, answer_part, new_parts, settle_part, step_part};
 use crate::tables::tables;
 use arrayvec::ArrayVec;
+use pearl_exchange::heard::Beside;
+use pearl_exchange::offer::Offer;
 use pearl_instructions::valid::Valid;
 use pearl_io::{Sink, WriteFault, put_all};
 use pearl_kernel::{Acted, Kernel};
 use pearl_rules::entry::Entry;
 use pearl_rules::setup::Setup;
 use pearl_script::transcript::{close_line, event_line};
+use pearl_solo::stepped::Gave;
 use std::alloc::{AllocError, Global};
 use std::marker::Model;
 
@@ -40,6 +43,9 @@ pub struct Machine {
     setup: Setup,
     kernel: Kernel,
     parts: Vec<Part>,
+    // The place of the action that a task offers, and of the values that it hears.
+    offer: Offer,
+    beside: Beside,
     // The task of which a state line comes next; where none is due, how many tasks there are.
     due: u32,
 }
@@ -71,6 +77,8 @@ impl Machine {
             setup,
             kernel,
             parts,
+            offer: Offer::new(),
+            beside: Beside::new(),
             due,
         })
     }
@@ -104,8 +112,9 @@ impl Machine {
         ensures { self.new ≡ record self.old { state = machine_step (engine self.old.object) self.old.state } }
     {
         let task = self.kernel.unsettled().unwrap();
-        if let Some(action) = step_part(&self.code, &mut self.parts, task) {
-            self.kernel.offered(task, action);
+        match step_part(&self.code, &mut self.parts, task, &mut self.offer) {
+            Gave::Silent => {}
+            Gave::Offered => self.kernel.offered(task, &self.offer),
         }
     }
 
@@ -212,8 +221,8 @@ impl Machine {
         let Some(task) = self.kernel.unsettled() else {
             return false;
         };
-        let action = settle_part(&self.code, &mut self.parts, task);
-        self.kernel.offered(task, action);
+        settle_part(&self.code, &mut self.parts, task, &mut self.offer);
+        self.kernel.offered(task, &self.offer);
         true
     }
 
@@ -237,10 +246,10 @@ impl Machine {
         ensures acted { ActedBy self.old self.new result }
     {
         laws_hold(&self.code);
-        match self.kernel.act() {
+        match self.kernel.act(&mut self.beside) {
             Acted::Idle => false,
-            Acted::Went(task, answer) => {
-                answer_part(&self.code, &mut self.parts, task, answer);
+            Acted::Went(task, heard) => {
+                answer_part(&self.code, &mut self.parts, task, heard, &self.beside);
                 true
             }
             Acted::Ended(_) => true,
@@ -473,6 +482,16 @@ impl Machine {
         }
     }
 
+    // Whether nothing is told that isn't written.
+    fn is_told(&self) -> bool
+        ensures { result ≡ true → self.now.state.core.told ≡ [] }
+    {
+        if self.due < self.kernel.tasks() {
+            return false;
+        }
+        self.kernel.is_told()
+    }
+
     // Hands the sink the line of all that is told and not written.
     fn tell<K: Sink>(&mut self, sink: &mut K) -> Result<(), WriteFault>
         ensures same { self.new ≡ retold self.old self.new.state.core.told }
@@ -484,6 +503,9 @@ impl Machine {
         ensures cause { OnErr result (WriteFailed (K.faults sink.old) (K.faults sink.new) (K.full sink.new)) }
         ensures later { K.faults sink.old ≤ K.faults sink.new }
     {
+        if self.is_told() {
+            return Ok(());
+        }
         let mut line = ArrayVec::new();
         while self.next_line(&mut line) {
             put_all(sink, line.as_slice())?;

@@ -8,20 +8,24 @@ ghost use Rattle.pearl_instructions.specs.Stacks.{room as room_of};
 ghost use Rattle.pearl_engine.specs.Engines.{engine};
 ghost use Rattle.pearl_engine.specs.Owners.{IsStackOf};
 ghost use Rattle.pearl_engine.specs.Setups.{setup_of};
+ghost use Rattle.pearl_exchange.specs.declared.offer.Offer as Offering;
+ghost use Rattle.pearl_exchange.specs.Heard.{answer_of};
+ghost use Rattle.pearl_exchange.specs.Offers.{action_of};
 ghost use Rattle.pearl_solo.specs.Answered.{CanHear};
 ghost use Rattle.pearl_solo.specs.Settling.{Settles};
 ghost use Rattle.pearl_machine.specs.declared.part.Part as Parting;
-ghost use Rattle.pearl_machine.specs.Parts.{HasMemories, HasStack, IsShallow, Does, StepsPart, SettlesPart, is_none_offered, is_going, going_frames, stack_in, start_of, first_part as first_part_of, heard_part};
+ghost use Rattle.pearl_machine.specs.Parts.{HasMemories, HasStack, IsShallow, Does, StepsPart, SettlesPart, is_none_offered, offered_by, is_going, going_frames, stack_in, start_of, first_part as first_part_of, heard_part};
 
 use crate::known::laws_hold;
+use pearl_exchange::heard::{Beside, Heard};
+use pearl_exchange::offer::Offer;
 use pearl_instructions::object::Task;
 use pearl_instructions::valid::Valid;
-use pearl_rules::action::{Action, Answer};
 use pearl_solo::answers::answer;
 use pearl_solo::frames::begin;
 use pearl_solo::settle::settle;
 use pearl_solo::step::step;
-use pearl_solo::stepped::Stepped;
+use pearl_solo::stepped::Gave;
 use pearl_stack::stack::{Loaded, Parked};
 use std::alloc::{AllocError as NoMemory, Global};
 
@@ -74,91 +78,91 @@ fn put(parts: &mut Vec<Part>, task: u32, stack: Loaded, going: bool)
     };
 }
 
-fn is_none(action: &Option<Action>) -> bool
-    ensures { result ≡ is_none_offered action.now }
+// Whether an instruction offered nothing.
+fn is_silent(gave: Gave) -> bool
+    ensures { (offer : Offering.Offer) → result ≡ is_none_offered (offered_by gave offer) }
 {
-    match action {
-        None => true,
-        Some(_) => false,
+    match gave {
+        Gave::Silent => true,
+        Gave::Offered => false,
     }
 }
 
 // One instruction on a task's stack.
-fn step_stack(code: &Valid, task: u32, stack: &mut Loaded) -> Option<Action>
+fn step_stack(code: &Valid, task: u32, stack: &mut Loaded, into: &mut Offer) -> Gave
     requires own { IsStackOf code.now task stack.old.frames }
     requires room { room_of code.now (start_of code.now task) ≤ stack.old.room }
-    ensures does { Does code.now task stack.old.frames stack.new.frames result }
+    ensures does { Does code.now task stack.old.frames stack.new.frames (offered_by result into.new) }
     ensures own { IsStackOf code.now task stack.new.frames }
     ensures memory { (stack.new.room ≡ stack.old.room) × (stack.new.most ≡ stack.old.most) }
-    ensures fits { IfSome result (Fits (setup_of code.now)) }
+    ensures fits { IfSome (offered_by result into.new) (Fits (setup_of code.now)) }
 {
     laws_hold(code);
-    match step(code, stack) {
-        Stepped::Silent => None,
-        Stepped::Offers(action) => Some(action),
+    match step(code, stack, into) {
+        Gave::Silent => Gave::Silent,
+        Gave::Offered => Gave::Offered,
     }
 }
 
 // All instructions on a task's stack up to its next action.
-fn settle_stack(code: &Valid, task: u32, stack: &mut Loaded) -> Action
+fn settle_stack(code: &Valid, task: u32, stack: &mut Loaded, into: &mut Offer)
     requires own { IsStackOf code.now task stack.old.frames }
     requires room { room_of code.now (start_of code.now task) ≤ stack.old.room }
-    ensures settles { Settles code.now stack.old.frames stack.new.frames result }
+    ensures settles { Settles code.now stack.old.frames stack.new.frames (action_of into.new) }
     ensures own { IsStackOf code.now task stack.new.frames }
     ensures memory { (stack.new.room ≡ stack.old.room) × (stack.new.most ≡ stack.old.most) }
-    ensures fits { Fits (setup_of code.now) result }
+    ensures fits { Fits (setup_of code.now) (action_of into.new) }
 {
     laws_hold(code);
-    settle(code, stack)
+    settle(code, stack, into);
 }
 
 /// One instruction of a task that has offered nothing.
-pub fn step_part(code: &Valid, parts: &mut Vec<Part>, task: u32) -> Option<Action>
+pub fn step_part(code: &Valid, parts: &mut Vec<Part>, task: u32, into: &mut Offer) -> Gave
     requires there { task < length code.now.tasks }
     requires same { length parts.old.items ≡ length code.now.tasks }
     requires memory { HasMemories code.now parts.old.items }
     requires own { IsStackOf code.now task (going_frames (start_of code.now task) (slice_get parts.old.items task)) }
-    ensures steps { StepsPart code.now parts.old.items task parts.new.items result }
+    ensures steps { StepsPart code.now parts.old.items task parts.new.items (offered_by result into.new) }
     ensures memory { HasMemories code.now parts.new.items }
-    ensures fits { IfSome result (Fits (setup_of code.now)) }
+    ensures fits { IfSome (offered_by result into.new) (Fits (setup_of code.now)) }
 {
     let mut stack = take_going(code, parts, task);
-    let action = step_stack(code, task, &mut stack);
-    let going = is_none(&action);
+    let gave = step_stack(code, task, &mut stack, into);
+    let going = is_silent(gave);
     put(parts, task, stack, going);
-    action
+    gave
 }
 
 /// A task that has offered nothing goes on to its next action.
-pub fn settle_part(code: &Valid, parts: &mut Vec<Part>, task: u32) -> Action
+pub fn settle_part(code: &Valid, parts: &mut Vec<Part>, task: u32, into: &mut Offer)
     requires there { task < length code.now.tasks }
     requires same { length parts.old.items ≡ length code.now.tasks }
     requires memory { HasMemories code.now parts.old.items }
     requires own { IsStackOf code.now task (going_frames (start_of code.now task) (slice_get parts.old.items task)) }
-    ensures settles { SettlesPart code.now parts.old.items task parts.new.items result }
+    ensures settles { SettlesPart code.now parts.old.items task parts.new.items (action_of into.new) }
     ensures memory { HasMemories code.now parts.new.items }
-    ensures fits { Fits (setup_of code.now) result }
+    ensures fits { Fits (setup_of code.now) (action_of into.new) }
 {
     let mut stack = take_going(code, parts, task);
-    let action = settle_stack(code, task, &mut stack);
+    settle_stack(code, task, &mut stack, into);
     put(parts, task, stack, false);
-    action
 }
 
-/// A task hears the answer to the action that it has offered.
-pub fn answer_part(code: &Valid, parts: &mut Vec<Part>, task: u32, heard: Answer)
+/// A task hears what came of the action that it has offered.
+pub fn answer_part(code: &Valid, parts: &mut Vec<Part>, task: u32, heard: Heard, beside: &Beside)
     requires there { task < length code.now.tasks }
     requires same { length parts.old.items ≡ length code.now.tasks }
     requires memory { HasMemories code.now parts.old.items }
     requires own { IsStackOf code.now task (stack_in (slice_get parts.old.items task)).frames }
-    requires suits { CanHear code.now task (row code.now (stack_in (slice_get parts.old.items task)).frames) heard }
-    ensures heard { parts.new.items ≡ slice_set parts.old.items task (heard_part code.now parts.old.items task heard) }
+    requires suits { CanHear code.now task (row code.now (stack_in (slice_get parts.old.items task)).frames) (answer_of heard beside.now) }
+    ensures heard { parts.new.items ≡ slice_set parts.old.items task (heard_part code.now parts.old.items task (answer_of heard beside.now)) }
     ensures own { IsStackOf code.now task
-        ((engine code.now).answer task (stack_in (slice_get parts.old.items task)).frames heard) }
+        ((engine code.now).answer task (stack_in (slice_get parts.old.items task)).frames (answer_of heard beside.now)) }
     ensures memory { HasMemories code.now parts.new.items }
 {
     let mut stack = take(parts, task);
-    answer(code, &mut stack, heard);
+    answer(code, &mut stack, heard, beside);
     put(parts, task, stack, true);
 }
 

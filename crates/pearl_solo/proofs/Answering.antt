@@ -262,52 +262,6 @@ reads_on o g (f ∷ lower) answer suits = by_items (items_at o g.format) suits
     by_items None never = absurd never
     by_items (Some items) are = by_kinds items (option_and_then value_kinds (cells_from f.cells g.first (data_count items))) refl are
 
--- values that are written from the last one on
-
-drop_set : (xs : List Cell) (m : ℕ) (x : Cell) → m < length xs → drop m (slice_set xs m x) ≡ x ∷ drop (suc m) xs
-drop_set [] m x less = absurd (omega (arith, less))
-drop_set (y ∷ xs) zero x less = refl
-drop_set (y ∷ xs) (suc m) x less = drop_set xs m x (omega (arith, less))
-
-append_one : (xs ys : List Cell) (x : Cell) → xs ++ (x ∷ ys) ≡ (xs ++ (x ∷ [])) ++ ys
-append_one [] ys x = refl
-append_one (y ∷ xs) ys x = ap (λ zs. y ∷ zs) (append_one xs ys x)
-
-last_put : (cells : List Cell) (c m : ℕ) (ys : List Cell) (x : Cell) → m ≡ c + length ys → m < length cells →
-    (take c (slice_set cells m x) ++ ys) ++ drop m (slice_set cells m x) ≡ (take c cells ++ (ys ++ (x ∷ []))) ++ drop (suc m) cells
-last_put [] c m ys x e less = absurd (omega (arith, less))
-last_put (z ∷ cells) zero m ys x e less = ap (λ t. ys ++ t) (drop_set (z ∷ cells) m x less) ∙ append_one ys (drop (suc m) (z ∷ cells)) x
-last_put (z ∷ cells) (suc c) zero ys x e less = absurd (omega (arith, e))
-last_put (z ∷ cells) (suc c) (suc m) ys x e less = ap (λ t. z ∷ t) (last_put cells c m ys x (omega (arith, e)) (omega (arith, less)))
-
--- what is still to be written
-pub record Writes (cells : List Cell) (first : ℕ) (all left now : List Cell) : Type 0 where
-  pub long : length now ≡ length cells
-  pub fits : 0 < length left → first + length left ≤ length cells
-  pub same : with_values now first left ≡ with_values cells first all
-
-pub writes_more : (cells : List Cell) (first c : ℕ) (all left more now : List Cell) (x : Cell) → Writes cells first all left now → left ≡ more ++ (x ∷ []) → c ≡ first + length more →
-    Writes cells first all more (slice_set now c x)
-writes_more cells first c all left more now x w e at =
-    let long : length left ≡ length more + 1 = ap length e ∙ length-append more (x ∷ []) in
-    let fits = w.fits (omega (arith, long)) in
-    let less : c < length now = omega (arith, fits, w.long, long, at) in
-    let next : List Cell = slice_set now c x in
-    let behind : suc c ≡ first + length left = omega (arith, at, long) in
-    record {
-      long = length-set now c x ∙ w.long;
-      fits = λ some. omega (arith, fits, long);
-      same = ap (λ n. (take first next ++ more) ++ drop n next) (sym at) ∙ (last_put now first c more x at less
-          ∙ (ap (λ n. (take first now ++ (more ++ (x ∷ []))) ++ drop n now) behind ∙ (ap (λ ys. (take first now ++ ys) ++ drop (first + length left) now) (sym e) ∙ w.same)));
-    }
-
-pub writes_all : (cells : List Cell) (first : ℕ) (all left now : List Cell) → Writes cells first all left now → left ≡ [] → now ≡ with_values cells first all
-writes_all cells first all left now w e =
-    let none : first + 0 ≡ first = omega arith in
-    let one : now ≡ (take first now ++ []) ++ drop (first + 0) now =
-    sym (take-append-drop first now) ∙ (ap (λ t. t ++ drop first now) (sym (append-nil (take first now))) ∙ ap (λ n. (take first now ++ []) ++ drop n now) (sym none)) in
-    one ∙ (ap (λ ys. with_values now first ys) (sym e) ∙ w.same)
-
 -- the format of a Put takes few values
 pub has_format : (o : Object) (instr : Instr) (here : size.Frame) (s : Stack) → StandsAt o instr here s → HasFormat o instr
 has_format o (Put d format) here s h = by (items_at o format) (puts o (Put d format) here s d format refl h)

@@ -7,8 +7,18 @@ use Rattle.pearl_value.specs.declared.kind.Kind.{Kind}
 use Rattle.pearl_value.specs.declared.cell.Cell.{Cell}
 use Rattle.pearl_value.specs.declared.cell.Cell.TheVariants.{Fixed, Bits, Chars, Clock, Span, Ref}
 use Rattle.pearl_value.specs.Cells.{kind_of}
-use Rattle.pearl_instructions.specs.Offers.{value_kinds, cells_from}
-use Rattle.pearl_instructions.specs.Steps.{value_kind}
+use Rattle.pearl_format.specs.declared.item.Item.{Item}
+use Rattle.pearl_format.specs.Items.{data_count}
+use Rattle.pearl_rules.specs.declared.action.Action.TheVariants as action
+use Rattle.pearl_rules.specs.declared.action.Answer.{Answer}
+use Rattle.pearl_stack.specs.Frames.{Frame}
+use Rattle.pearl_instructions.specs.declared.instr.Reading.{Reading}
+use Rattle.pearl_instructions.specs.declared.object.Object.{Object}
+use Rattle.pearl_instructions.specs.Objects.{items_at}
+use Rattle.pearl_instructions.specs.Offers.{items_suit, value_kinds, cells_from, with_values, get_values}
+use Rattle.pearl_instructions.specs.Steps.{Step, Offers, given, needed, next, all_heard, value_kind}
+use Rattle.pearl_silent.specs.Steps.{on_top, top_cells, Applies}
+use Rattle.pearl_silent.proofs.Applied.{needed_true}
 
 -- the kinds of cells
 
@@ -88,3 +98,16 @@ pub dropped_at : (xs : List Cell) (c i : ℕ) → slice_get (drop c xs) i ≡ sl
 dropped_at xs zero i = let e : zero + i ≡ i = omega arith in ap (slice_get xs) (sym e)
 dropped_at [] (suc c) i = refl
 dropped_at (x ∷ xs) (suc c) i = let e : suc c + i ≡ suc (c + i) = omega arith in dropped_at xs c i ∙ ap (slice_get (x ∷ xs)) (sym e)
+
+-- the row, where these are the kinds of its cells
+pub gets_row : (o : Object) (g : Reading) (frames : List Frame) (room : ℕ) (items : List Item) (kinds : List Kind) → items_at o g.format ≡ Some items →
+    Applies (on_top (λ f lower. get_values o g f lower) frames) room → option_and_then value_kinds (cells_from (top_cells frames) g.first (data_count items)) ≡ Some kinds →
+    (go : Answer → List Frame) × (on_top (λ f lower. get_values o g f lower) frames ≡ Offers (action.Get g.device g.format (record { items = kinds })) go)
+gets_row o g [] room items kinds e a h = absurd a
+gets_row o g (f ∷ lower) room items kinds e a h =
+    let go : Answer → List Frame = λ answer. next (record f { cells = with_values f.cells g.first (all_heard answer) }) f.operands ∷ lower in
+    let by_kinds : List Item → List Kind → Step = λ items kinds. needed (items_suit items kinds) (Offers (action.Get g.device g.format (record { items = kinds })) go) in
+    let whole : get_values o g f lower ≡ by_kinds items kinds =
+    ap (λ i. given i (λ items. given (option_and_then value_kinds (cells_from f.cells g.first (data_count items))) (by_kinds items))) e ∙ ap (λ k. given k (by_kinds items)) h in
+    let suits = needed_true (items_suit items kinds) _ room (subst (λ r. Applies r room) whole a) in
+    (go, whole ∙ ap (λ b. needed b (Offers (action.Get g.device g.format (record { items = kinds })) go)) suits.0)

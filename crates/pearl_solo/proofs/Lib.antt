@@ -15,3 +15,4 @@ mod Hearing
 mod Small
 mod Settling
 mod Answering
+mod Writing

@@ -7,16 +7,17 @@ ghost use Rattle.pearl_instructions.specs.Objects.{items_at as items_of};
 ghost use Rattle.pearl_instructions.specs.Offers.{value_kinds, cells_from, put_values as put_row, get_values as get_row};
 ghost use Rattle.pearl_solo.specs.Texts.{MakesText};
 ghost use Rattle.pearl_silent.specs.Steps.{on_top, Does, Applies, IsHere, top_cells};
+ghost use Rattle.pearl_exchange.specs.Offers.{action_of};
 ghost use Rattle.pearl_solo.specs.Gives.{gave};
 
 use crate::stepped::Gave;
 use crate::values::top_values;
 use arrayvec::ArrayVec;
+use pearl_exchange::offer::{Offer, What};
 use pearl_format::item::{Item, ItemCode};
 use pearl_format::put::put_text;
 use pearl_instructions::instr::Reading;
 use pearl_instructions::valid::Valid;
-use pearl_rules::action::Action;
 use pearl_silent::top::own_cell;
 use pearl_stack::stack::{Frame, Loaded};
 use pearl_value::conversion::kind;
@@ -60,64 +61,58 @@ pub fn put(
     here: &Frame,
     device: u64,
     format: u64,
-    into: &mut Action,
+    into: &mut Offer,
 ) -> Gave
     requires here { IsHere here.now stack.now.frames }
     requires device { device < 2 ^ 32 }
     requires text { MakesText (items_of code.now format) (top_operands stack.now.frames) }
     requires ready { Applies (on_top (λ f lower. put_row code.now device format f lower) stack.now.frames) stack.now.room }
-    ensures { Does (on_top (λ f lower. put_row code.now device format f lower) stack.now.frames) stack.now stack.now (gave result into.new) }
+    ensures { Does (on_top (λ f lower. put_row code.now device format f lower) stack.now.frames) stack.now stack.now (gave result (action_of into.new)) }
 {
     let items = items_at(code, format);
     let count = data_count(items);
     let values = top_values(stack, here, count);
-    let mut text: ArrayVec<u8, 1024> = ArrayVec::new();
-    match put_text(items, values.as_slice(), &mut text) {
+    match put_text(items, values.as_slice(), &mut into.text) {
         Ok(()) => {
-            *into = Action::Put {
-                device: device as u32,
-                text,
-            };
+            into.what = What::Put(device as u32);
             Gave::Offered
         }
         Err(trap) => {
-            *into = Action::Trap(trap);
+            into.what = What::Trap(trap);
             Gave::Offered
         }
     }
 }
 
 // The kinds of so many cells of the top frame.
-fn kinds_from(stack: &Loaded, here: &Frame, first: u64, count: u32) -> ArrayVec<Kind, 64>
+fn kinds_from(stack: &Loaded, here: &Frame, first: u64, count: u32, kinds: &mut ArrayVec<Kind, 64>)
     requires here { IsHere here.now stack.now.frames }
     requires few { count ≤ 64 }
     requires there { IsSome (option_and_then value_kinds (cells_from (top_cells stack.now.frames) first count)) }
-    ensures { option_and_then value_kinds (cells_from (top_cells stack.now.frames) first count) ≡ Some result.items }
+    ensures { option_and_then value_kinds (cells_from (top_cells stack.now.frames) first count) ≡ Some kinds.new.items }
 {
     let _cells = here.cells;
-    let mut kinds = ArrayVec::new();
+    kinds.clear();
     for i in 0..count {
         kinds.push(kind(own_cell(stack, here, first + i as u64)));
     }
-    kinds
 }
 
 // Get.
-pub fn get(code: &Valid, stack: &Loaded, here: &Frame, reading: &Reading, into: &mut Action) -> Gave
+pub fn get(code: &Valid, stack: &Loaded, here: &Frame, reading: &Reading, into: &mut Offer) -> Gave
     requires here { IsHere here.now stack.now.frames }
     requires device { reading.now.device < 2 ^ 32 }
     requires format { reading.now.format < 2 ^ 32 }
     requires few { IfSome (items_of code.now reading.now.format) (λ items. count_of items ≤ 64) }
     requires ready { Applies (on_top (λ f lower. get_row code.now reading.now f lower) stack.now.frames) stack.now.room }
-    ensures { Does (on_top (λ f lower. get_row code.now reading.now f lower) stack.now.frames) stack.now stack.now (gave result into.new) }
+    ensures { Does (on_top (λ f lower. get_row code.now reading.now f lower) stack.now.frames) stack.now stack.now (gave result (action_of into.new)) }
 {
     let items = items_at(code, reading.format);
     let count = data_count(items);
-    let kinds = kinds_from(stack, here, reading.first, count);
-    *into = Action::Get {
+    kinds_from(stack, here, reading.first, count, &mut into.kinds);
+    into.what = What::Get {
         device: reading.device as u32,
         format: reading.format as u32,
-        kinds,
     };
     Gave::Offered
 }

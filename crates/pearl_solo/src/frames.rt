@@ -1,31 +1,41 @@
 // A task's first frame, and what is unset of the kinds of cells.
 
-ghost use Rattle.std.specs.Prelude.{◌≡◌, ◌≢◌, ◌+◌, ◌<◌, ◌≤◌, ◌^◌, [], ◌++◌, Some, length, map, take, drop, option_map, slice_get};
+ghost use Rattle.std.specs.Prelude.{◌≡◌, ◌≢◌, ◌+◌, ◌<◌, ◌≤◌, ◌^◌, [], ◌++◌, Some, IsSome, length, map, take, drop, option_map, slice_get};
 ghost use Rattle.std.specs.List.{AllByRecursion};
+ghost use Rattle.pearl_value.specs.Blanks.{blank_of};
+ghost use Rattle.pearl_value.specs.Kinds.{IsKind};
 ghost use Rattle.pearl_instructions.specs.Flow.{fresh as fresh_of};
 ghost use Rattle.pearl_instructions.specs.Lawful.{IsCellKind};
 ghost use Rattle.pearl_instructions.specs.Rows.{begun};
 ghost use Rattle.pearl_instructions.specs.Stacks.{IsStack, task_of, room};
-ghost use Rattle.pearl_silent.specs.Steps.{top_cells, with_cells};
+ghost use Rattle.pearl_silent.specs.Steps.{top_cells, with_top_cell, with_cells};
 
 use pearl_instructions::laws;
 use pearl_instructions::valid::Valid;
 use pearl_silent::known::laws_hold;
-use pearl_silent::top::set_own_cell;
 use pearl_stack::stack::Loaded;
-use pearl_value::cell::Cell;
-use pearl_value::conversion::blank;
-use pearl_value::kind::CellKind;
+use pearl_value::kind::{CellKind, Kind};
 
-// What is unset of the kind.
-fn fresh(kind: CellKind) -> Cell
+// The kind of what is unset in a cell of this kind.
+fn unset_kind(kind: CellKind) -> Kind
     requires { IsCellKind kind }
-    ensures { result ≡ fresh_of kind }
+    ensures kind { IsKind result }
+    ensures fresh { fresh_of kind ≡ blank_of result }
 {
     match kind {
-        CellKind::Plain(of) => blank(of),
-        CellKind::RefTo(of) => blank(of),
+        CellKind::Plain(of) => of,
+        CellKind::RefTo(of) => of,
     }
+}
+
+// Puts what is unset of the kind into cell `c` of the top frame.
+fn set_fresh_cell(stack: &mut Loaded, c: u32, kind: CellKind)
+    requires cell { IsSome (slice_get (top_cells stack.old.frames) c) }
+    requires kind { IsCellKind kind }
+    ensures { stack.new ≡ record stack.old { frames = with_top_cell c (fresh_of kind) stack.old.frames } }
+{
+    let of = unset_kind(kind);
+    stack.set_cell_blank(stack.frames() - 1, c, of);
 }
 
 // The kind at a number.
@@ -47,7 +57,7 @@ pub(crate) fn set_fresh(stack: &mut Loaded, kinds: &[CellKind], from: u32)
 {
     for i in from as usize..kinds.len() {
         let kind = kind_at(kinds, i);
-        set_own_cell(stack, i as u32, fresh(kind));
+        set_fresh_cell(stack, i as u32, kind);
     }
 }
 

@@ -1,18 +1,20 @@
 // Actions at a planned time.
 
-ghost use Rattle.std.specs.Prelude.{◌≡◌, ◌<◌, ◌≤◌, ◌^◌, [], ◌∷◌, IsSome, Some, length};
+ghost use Rattle.std.specs.Prelude.{◌≡◌, ◌<◌, ◌≤◌, ◌^◌, [], ◌∷◌, IsSome, IfErr, OnOk, Some, Ok, Err, length};
 ghost use Rattle.pearl_rules.specs.declared.action.Action.{Action};
 ghost use Rattle.pearl_stack.specs.Frames.{top_operands};
 ghost use Rattle.pearl_instructions.specs.Offers.{as_start as as_start_of, start_or_free as start_or_free_of, start_kinds, repeat_kinds, activation_count as count_of, activate as activate_row, continue as continue_row};
 ghost use Rattle.pearl_solo.specs.Plans.{begins_with, repeats_with, urgent_with, activation_of, planned_on, span_of, clock_of, NamesSmall};
 ghost use Rattle.pearl_silent.specs.Steps.{on_top, Does, Applies, IsHere};
+ghost use Rattle.pearl_exchange.specs.Offers.{action_of};
 ghost use Rattle.pearl_solo.specs.Gives.{gave};
 
 use crate::stepped::Gave;
 use crate::values::top_values;
+use pearl_exchange::offer::{Offer, What};
 use pearl_instructions::instr::{Activation, Continuation};
 use pearl_instructions::schedule::{OnceForm, RepeatForm, StartForm};
-use pearl_rules::action::{Action, Repeat, Start};
+use pearl_rules::action::{Repeat, Start};
 use pearl_silent::top::operand;
 use pearl_stack::stack::{Frame, Loaded};
 use pearl_value::cell::Cell;
@@ -77,44 +79,40 @@ pub fn as_start(form: OnceForm) -> StartForm
 }
 
 // Resume.
-pub fn resume(stack: &Loaded, here: &Frame, form: OnceForm, into: &mut Action) -> Gave
+pub fn resume(stack: &Loaded, here: &Frame, form: OnceForm, into: &mut Offer) -> Gave
     requires here { IsHere here.now stack.now.frames }
     requires small { NamesSmall (as_start_of form) }
     requires ready { Applies (planned_on (λ when. Action.Resume when) (as_start_of form) stack.now.frames) stack.now.room }
-    ensures { Does (planned_on (λ when. Action.Resume when) (as_start_of form) stack.now.frames) stack.now stack.now (gave result into.new) }
+    ensures { Does (planned_on (λ when. Action.Resume when) (as_start_of form) stack.now.frames) stack.now stack.now (gave result (action_of into.new)) }
 {
     match start(stack, here, as_start(form)) {
         Ok(when) => {
-            *into = Action::Resume(when);
+            into.start = when;
+            into.what = What::Resume;
             Gave::Offered
         }
         Err(trap) => {
-            *into = Action::Trap(trap);
+            into.what = What::Trap(trap);
             Gave::Offered
         }
     }
 }
 
 // Continue, of a task by its number.
-fn continue_task(
-    stack: &Loaded,
-    here: &Frame,
-    task: u32,
-    form: StartForm,
-    into: &mut Action,
-) -> Gave
+fn continue_task(stack: &Loaded, here: &Frame, task: u32, form: StartForm, into: &mut Offer) -> Gave
     requires here { IsHere here.now stack.now.frames }
     requires small { NamesSmall form }
     requires ready { Applies (planned_on (λ when. Action.Continue task when) form stack.now.frames) stack.now.room }
-    ensures { Does (planned_on (λ when. Action.Continue task when) form stack.now.frames) stack.now stack.now (gave result into.new) }
+    ensures { Does (planned_on (λ when. Action.Continue task when) form stack.now.frames) stack.now stack.now (gave result (action_of into.new)) }
 {
     match start(stack, here, form) {
         Ok(when) => {
-            *into = Action::Continue { task, start: when };
+            into.start = when;
+            into.what = What::Continue(task);
             Gave::Offered
         }
         Err(trap) => {
-            *into = Action::Trap(trap);
+            into.what = What::Trap(trap);
             Gave::Offered
         }
     }
@@ -130,12 +128,12 @@ pub fn start_or_free(form: Option<OnceForm>) -> StartForm
 }
 
 // Continue.
-pub fn go_on_later(stack: &Loaded, here: &Frame, c: &Continuation, into: &mut Action) -> Gave
+pub fn go_on_later(stack: &Loaded, here: &Frame, c: &Continuation, into: &mut Offer) -> Gave
     requires here { IsHere here.now stack.now.frames }
     requires task { c.now.task < 2 ^ 32 }
     requires small { NamesSmall (start_or_free_of c.now.once) }
     requires ready { Applies (on_top (λ f lower. continue_row c.now f lower) stack.now.frames) stack.now.room }
-    ensures { Does (on_top (λ f lower. continue_row c.now f lower) stack.now.frames) stack.now stack.now (gave result into.new) }
+    ensures { Does (on_top (λ f lower. continue_row c.now f lower) stack.now.frames) stack.now stack.now (gave result (action_of into.new)) }
 {
     continue_task(stack, here, c.task as u32, start_or_free(c.once), into)
 }
@@ -265,43 +263,40 @@ pub fn activation_count(a: &Activation) -> u32
     start_count(a.start) + repeat_count(a.repeat) + if a.priority { 1 } else { 0 }
 }
 
-// What is offered, by the values that lie for it.
-fn activation(a: &Activation, values: &[Cell]) -> Result<Action, Trap>
+// Offers the activation, by the values that lie for it.
+fn activation(a: &Activation, values: &[Cell], into: &mut Offer) -> Result<(), Trap>
     requires task { a.now.task < 2 ^ 32 }
     requires small { NamesSmall a.now.start }
     requires long { length values.now ≡ count_of a.now }
     requires some { IsSome (activation_of a.now values.now) }
-    ensures { activation_of a.now values.now ≡ Some result }
+    ensures ok { OnOk result (activation_of a.now values.now ≡ Some (Ok (action_of into.new))) }
+    ensures err { IfErr result (λ trap. activation_of a.now values.now ≡ Some (Err trap)) }
 {
     let behind = &values[start_count(a.start) as usize..];
     let last = &behind[repeat_count(a.repeat) as usize..];
-    let start = beginning(a.start, values)?;
-    let repeat = repetition(a.repeat, behind)?;
+    into.start = beginning(a.start, values)?;
+    into.repeat = repetition(a.repeat, behind)?;
     let priority = urgency(a.priority, last)?;
-    Ok(Action::Activate {
+    into.what = What::Activate {
         task: a.task as u32,
-        start,
-        repeat,
         priority,
-    })
+    };
+    Ok(())
 }
 
 // Activate.
-pub fn activate(stack: &Loaded, here: &Frame, a: &Activation, into: &mut Action) -> Gave
+pub fn activate(stack: &Loaded, here: &Frame, a: &Activation, into: &mut Offer) -> Gave
     requires here { IsHere here.now stack.now.frames }
     requires task { a.now.task < 2 ^ 32 }
     requires small { NamesSmall a.now.start }
     requires ready { Applies (on_top (λ f lower. activate_row a.now f lower) stack.now.frames) stack.now.room }
-    ensures { Does (on_top (λ f lower. activate_row a.now f lower) stack.now.frames) stack.now stack.now (gave result into.new) }
+    ensures { Does (on_top (λ f lower. activate_row a.now f lower) stack.now.frames) stack.now stack.now (gave result (action_of into.new)) }
 {
     let values = top_values(stack, here, activation_count(a));
-    match activation(a, values.as_slice()) {
-        Ok(action) => {
-            *into = action;
-            Gave::Offered
-        }
+    match activation(a, values.as_slice(), into) {
+        Ok(()) => Gave::Offered,
         Err(trap) => {
-            *into = Action::Trap(trap);
+            into.what = What::Trap(trap);
             Gave::Offered
         }
     }

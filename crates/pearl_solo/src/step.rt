@@ -5,31 +5,32 @@ ghost use Rattle.pearl_instructions.specs.Rows.{row};
 ghost use Rattle.pearl_instructions.specs.Stacks.{IsStack, task_of, room};
 ghost use Rattle.pearl_silent.specs.Standing.{act_on, family, StandsAt};
 ghost use Rattle.pearl_silent.specs.Steps.{Does};
+ghost use Rattle.pearl_exchange.specs.Offers.{action_of};
 ghost use Rattle.pearl_solo.specs.Gives.{gave};
 
 use crate::own::own_task;
 use crate::stepped::{Gave, tell};
 use crate::table::{leaf_at, semaphores};
 use crate::{devices, offers, plans, references, variables};
+use pearl_exchange::offer::{Offer, What};
 use pearl_instructions::instr::Instr;
 use pearl_instructions::valid::Valid;
-use pearl_rules::action::Action;
 use pearl_silent::known::laws_hold;
 use pearl_silent::step::on_silent;
 use pearl_silent::table::instr_at;
 use pearl_stack::stack::{Frame, Loaded};
 
 // Calls, ends and references, and then the others.
-fn on_ways(code: &Valid, stack: &mut Loaded, here: &Frame, instr: &Instr, into: &mut Action) -> Gave
+fn on_ways(code: &Valid, stack: &mut Loaded, here: &Frame, instr: &Instr, into: &mut Offer) -> Gave
     requires at { StandsAt code.now instr.now here.now stack.old }
     requires family { 2 ≤ family instr.now }
-    ensures { Does (act_on code.now instr.now stack.old.frames) stack.old stack.new (gave result into.new) }
+    ensures { Does (act_on code.now instr.now stack.old.frames) stack.old stack.new (gave result (action_of into.new)) }
 {
     match instr {
-        Instr::Turn => offers::turn(stack, into),
+        Instr::Turn => offers::acts(stack, What::Turn, into),
         Instr::Call(p) => offers::call(code, stack, *p, into),
-        Instr::End => offers::stops(stack, Action::End, into),
-        Instr::Trap(trap) => offers::stops(stack, Action::Trap(*trap), into),
+        Instr::End => offers::stops(stack, What::End, into),
+        Instr::Trap(trap) => offers::stops(stack, What::Trap(*trap), into),
         Instr::ReadRef => references::read_ref(stack, here, into),
         Instr::WriteRef => references::write_ref(stack, here, into),
         _ => on_variables(code, stack, here, instr, into),
@@ -42,11 +43,11 @@ fn on_variables(
     stack: &mut Loaded,
     here: &Frame,
     instr: &Instr,
-    into: &mut Action,
+    into: &mut Offer,
 ) -> Gave
     requires at { StandsAt code.now instr.now here.now stack.old }
     requires family { 3 ≤ family instr.now }
-    ensures { Does (act_on code.now instr.now stack.old.frames) stack.old stack.new (gave result into.new) }
+    ensures { Does (act_on code.now instr.now stack.old.frames) stack.old stack.new (gave result (action_of into.new)) }
 {
     match instr {
         Instr::Read(v) => {
@@ -78,35 +79,29 @@ fn on_variables(
 }
 
 // Actions on tasks, and then the others.
-fn on_tasks(
-    code: &Valid,
-    stack: &mut Loaded,
-    here: &Frame,
-    instr: &Instr,
-    into: &mut Action,
-) -> Gave
+fn on_tasks(code: &Valid, stack: &mut Loaded, here: &Frame, instr: &Instr, into: &mut Offer) -> Gave
     requires at { StandsAt code.now instr.now here.now stack.old }
     requires family { 4 ≤ family instr.now }
-    ensures { Does (act_on code.now instr.now stack.old.frames) stack.old stack.new (gave result into.new) }
+    ensures { Does (act_on code.now instr.now stack.old.frames) stack.old stack.new (gave result (action_of into.new)) }
 {
     match instr {
         Instr::Activate(a) => plans::activate(stack, here, a, into),
         Instr::Continue(c) => plans::go_on_later(stack, here, c, into),
         Instr::Resume(form) => plans::resume(stack, here, *form, into),
-        Instr::Suspend(t) => offers::acts(stack, Action::Suspend(*t as u32), into),
-        Instr::Terminate(t) => offers::acts(stack, Action::Terminate(*t as u32), into),
-        Instr::Prevent(t) => offers::acts(stack, Action::Prevent(*t as u32), into),
+        Instr::Suspend(t) => offers::acts(stack, What::Suspend(*t as u32), into),
+        Instr::Terminate(t) => offers::acts(stack, What::Terminate(*t as u32), into),
+        Instr::Prevent(t) => offers::acts(stack, What::Prevent(*t as u32), into),
         Instr::SuspendOwn => {
             let own = own_task(code, stack);
-            offers::acts(stack, Action::Suspend(own), into)
+            offers::acts(stack, What::Suspend(own), into)
         }
         Instr::TerminateOwn => {
             let own = own_task(code, stack);
-            offers::stops(stack, Action::Terminate(own), into)
+            offers::stops(stack, What::Terminate(own), into)
         }
         Instr::PreventOwn => {
             let own = own_task(code, stack);
-            offers::acts(stack, Action::Prevent(own), into)
+            offers::acts(stack, What::Prevent(own), into)
         }
         _ => on_devices(code, stack, here, instr, into),
     }
@@ -118,40 +113,38 @@ fn on_devices(
     stack: &mut Loaded,
     here: &Frame,
     instr: &Instr,
-    into: &mut Action,
+    into: &mut Offer,
 ) -> Gave
     requires at { StandsAt code.now instr.now here.now stack.old }
     requires family { 5 ≤ family instr.now }
-    ensures { Does (act_on code.now instr.now stack.old.frames) stack.old stack.new (gave result into.new) }
+    ensures { Does (act_on code.now instr.now stack.old.frames) stack.old stack.new (gave result (action_of into.new)) }
 {
     match instr {
-        Instr::Now => offers::asks(stack, Action::Now, into),
-        Instr::Request(list) => offers::acts(
-            stack,
-            Action::Request(semaphores(list.as_slice())),
-            into,
-        ),
-        Instr::Release(list) => offers::acts(
-            stack,
-            Action::Release(semaphores(list.as_slice())),
-            into,
-        ),
-        Instr::Try(s) => offers::asks(stack, Action::Try(*s as u16), into),
-        Instr::Enable(d) => offers::acts(stack, Action::Enable(*d as u32), into),
-        Instr::Disable(d) => offers::acts(stack, Action::Disable(*d as u32), into),
-        Instr::Trigger(d) => offers::acts(stack, Action::Trigger(*d as u32), into),
+        Instr::Now => offers::asks(stack, What::Now, into),
+        Instr::Request(list) => {
+            semaphores(list.as_slice(), &mut into.list);
+            offers::acts(stack, What::Request, into)
+        }
+        Instr::Release(list) => {
+            semaphores(list.as_slice(), &mut into.list);
+            offers::acts(stack, What::Release, into)
+        }
+        Instr::Try(s) => offers::asks(stack, What::Try(*s as u16), into),
+        Instr::Enable(d) => offers::acts(stack, What::Enable(*d as u32), into),
+        Instr::Disable(d) => offers::acts(stack, What::Disable(*d as u32), into),
+        Instr::Trigger(d) => offers::acts(stack, What::Trigger(*d as u32), into),
         Instr::Put { device, format } => devices::put(code, stack, here, *device, *format, into),
         Instr::Get(reading) => devices::get(code, stack, here, reading, into),
-        Instr::Take(d) => offers::asks(stack, Action::Take(*d as u32), into),
+        Instr::Take(d) => offers::asks(stack, What::Take(*d as u32), into),
         Instr::Send(d) => offers::send(stack, here, *d as u32, into),
         _ => unreachable!(),
     }
 }
 
 // Any instruction.
-fn on_any(code: &Valid, stack: &mut Loaded, here: &Frame, instr: &Instr, into: &mut Action) -> Gave
+fn on_any(code: &Valid, stack: &mut Loaded, here: &Frame, instr: &Instr, into: &mut Offer) -> Gave
     requires { StandsAt code.now instr.now here.now stack.old }
-    ensures { Does (act_on code.now instr.now stack.old.frames) stack.old stack.new (gave result into.new) }
+    ensures { Does (act_on code.now instr.now stack.old.frames) stack.old stack.new (gave result (action_of into.new)) }
 {
     match on_silent(code, stack, here, instr) {
         Some(did) => tell(did, into),
@@ -160,10 +153,10 @@ fn on_any(code: &Valid, stack: &mut Loaded, here: &Frame, instr: &Instr, into: &
 }
 
 /// Carries out one instruction, or leaves the action at which the task stands beside it and changes nothing else.
-pub fn step(code: &Valid, stack: &mut Loaded, into: &mut Action) -> Gave
+pub fn step(code: &Valid, stack: &mut Loaded, into: &mut Offer) -> Gave
     requires stack { IsStack code.now stack.old.frames }
     requires room { room code.now stack.old.frames ≤ stack.old.room }
-    ensures does { Does (row code.now stack.old.frames) stack.old stack.new (gave result into.new) }
+    ensures does { Does (row code.now stack.old.frames) stack.old stack.new (gave result (action_of into.new)) }
     ensures stack { IsStack code.now stack.new.frames }
     ensures room { room code.now stack.new.frames ≤ stack.new.room }
     ensures task { task_of code.now stack.new.frames ≡ task_of code.now stack.old.frames }

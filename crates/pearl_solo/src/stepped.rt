@@ -1,10 +1,11 @@
 // What an instruction did.
 
 ghost use Rattle.std.specs.Prelude.{◌≡◌};
+ghost use Rattle.pearl_exchange.specs.Offers.{action_of};
 ghost use Rattle.pearl_silent.specs.Steps.{told};
 ghost use Rattle.pearl_solo.specs.Gives.{gave};
 
-use pearl_rules::action::Action;
+use pearl_exchange::offer::{Offer, What};
 use pearl_silent::stepped::Did;
 
 /// What an instruction did: it left the stack with which its task goes on, or it offers an action, which lies beside
@@ -16,13 +17,13 @@ pub enum Gave {
 }
 
 // What that is of what an instruction can do.
-pub(crate) fn tell(did: Did, into: &mut Action) -> Gave
-    ensures { gave result into.new ≡ told did }
+pub(crate) fn tell(did: Did, into: &mut Offer) -> Gave
+    ensures { gave result (action_of into.new) ≡ told did }
 {
     match did {
         Did::Silent => Gave::Silent,
         Did::Trapped(trap) => {
-            *into = Action::Trap(trap);
+            into.what = What::Trap(trap);
             Gave::Offered
         }
     }

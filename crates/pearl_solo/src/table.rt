@@ -18,14 +18,13 @@ pub fn leaf_at(code: &Valid, v: u64) -> (&Leaf, u32)
 }
 
 // The numbers of semaphores.
-pub fn semaphores(list: &[u64]) -> ArrayVec<u16, 16>
+pub fn semaphores(list: &[u64], numbers: &mut ArrayVec<u16, 16>)
     requires few { length list.now ≤ 16 }
     requires small { AllByRecursion (λ n. n < 2 ^ 16) list.now }
-    ensures { result.items ≡ list.now }
+    ensures { numbers.new.items ≡ list.now }
 {
-    let mut numbers = ArrayVec::new();
+    numbers.clear();
     for n in list {
         numbers.push(*n as u16);
     }
-    numbers
 }

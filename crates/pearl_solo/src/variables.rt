@@ -6,16 +6,18 @@ ghost use Rattle.pearl_instructions.specs.Cells.{reads as reads_row, writes as w
 ghost use Rattle.pearl_instructions.specs.Steps.{given as given_row, popped as popped_row, within as within_row};
 ghost use Rattle.pearl_instructions.specs.Slots.{IsLeafAt};
 ghost use Rattle.pearl_silent.specs.Steps.{on_top, Does, Applies, IsHere};
+ghost use Rattle.pearl_exchange.specs.Offers.{action_of};
 ghost use Rattle.pearl_solo.specs.Gives.{gave};
 
 use crate::stepped::{Gave, tell};
+use pearl_cells::put::put_copy;
+use pearl_exchange::offer::{Offer, What};
 use pearl_instructions::object::Leaf;
 use pearl_instructions::valid::Valid;
-use pearl_rules::action::Action;
 use pearl_silent::elements::offset;
 use pearl_silent::top::{finish, operand};
 use pearl_stack::stack::{Frame, Loaded};
-use pearl_value::cell::{Cell, Place, copy_of};
+use pearl_value::cell::{Cell, Place};
 use pearl_value::trap::Trap;
 
 // Read.
@@ -26,13 +28,13 @@ pub fn read(
     v: u64,
     leaf: &Leaf,
     first: u32,
-    into: &mut Action,
+    into: &mut Offer,
 ) -> Gave
     requires here { IsHere here.now stack.now.frames }
     requires leaf { IsLeafAt code.now v leaf.now first }
-    ensures { Does (on_top (λ f lower. given_row (slice_get code.now.leaves v) (λ leaf. reads_row code.now v 0 f lower f.operands)) stack.now.frames) stack.now stack.now (gave result into.new) }
+    ensures { Does (on_top (λ f lower. given_row (slice_get code.now.leaves v) (λ leaf. reads_row code.now v 0 f lower f.operands)) stack.now.frames) stack.now stack.now (gave result (action_of into.new)) }
 {
-    *into = Action::Read(first);
+    into.what = What::Read(first);
     Gave::Offered
 }
 
@@ -44,15 +46,15 @@ pub fn write(
     v: u64,
     leaf: &Leaf,
     first: u32,
-    into: &mut Action,
+    into: &mut Offer,
 ) -> Gave
     requires here { IsHere here.now stack.now.frames }
     requires leaf { IsLeafAt code.now v leaf.now first }
     requires ready { Applies (on_top (λ f lower. given_row (slice_get code.now.leaves v) (λ leaf. popped_row f.operands (λ x left. writes_row code.now v 0 x f lower left))) stack.now.frames) stack.now.room }
-    ensures { Does (on_top (λ f lower. given_row (slice_get code.now.leaves v) (λ leaf. popped_row f.operands (λ x left. writes_row code.now v 0 x f lower left))) stack.now.frames) stack.now stack.now (gave result into.new) }
+    ensures { Does (on_top (λ f lower. given_row (slice_get code.now.leaves v) (λ leaf. popped_row f.operands (λ x left. writes_row code.now v 0 x f lower left))) stack.now.frames) stack.now stack.now (gave result (action_of into.new)) }
 {
-    let x = copy_of(operand(stack, here, 0));
-    *into = Action::Write(first, x);
+    put_copy(&mut into.value, operand(stack, here, 0));
+    into.what = What::Write(first);
     Gave::Offered
 }
 
@@ -64,12 +66,12 @@ pub fn ref_slot(
     v: u64,
     leaf: &Leaf,
     first: u32,
-    into: &mut Action,
+    into: &mut Offer,
 ) -> Gave
     requires here { IsHere here.now stack.old.frames }
     requires leaf { IsLeafAt code.now v leaf.now first }
     requires ready { Applies (on_top (λ f lower. given_row (slice_get code.now.leaves v) (λ leaf. slot_reference code.now v leaf 0 f lower f.operands)) stack.old.frames) stack.old.room }
-    ensures { Does (on_top (λ f lower. given_row (slice_get code.now.leaves v) (λ leaf. slot_reference code.now v leaf 0 f lower f.operands)) stack.old.frames) stack.old stack.new (gave result into.new) }
+    ensures { Does (on_top (λ f lower. given_row (slice_get code.now.leaves v) (λ leaf. slot_reference code.now v leaf 0 f lower f.operands)) stack.old.frames) stack.old stack.new (gave result (action_of into.new)) }
 {
     let of = leaf.kind;
     let place = Place::Slot(first);
@@ -96,21 +98,21 @@ pub fn read_at(
     v: u64,
     leaf: &Leaf,
     first: u32,
-    into: &mut Action,
+    into: &mut Offer,
 ) -> Gave
     requires here { IsHere here.now stack.now.frames }
     requires leaf { IsLeafAt code.now v leaf.now first }
     requires ready { Applies (on_top (λ f lower. given_row (slice_get code.now.leaves v) (λ leaf. popped_row f.operands (λ n left. within_row leaf.slots n f lower (λ n. reads_row code.now v n f lower left)))) stack.now.frames) stack.now.room }
-    ensures { Does (on_top (λ f lower. given_row (slice_get code.now.leaves v) (λ leaf. popped_row f.operands (λ n left. within_row leaf.slots n f lower (λ n. reads_row code.now v n f lower left)))) stack.now.frames) stack.now stack.now (gave result into.new) }
+    ensures { Does (on_top (λ f lower. given_row (slice_get code.now.leaves v) (λ leaf. popped_row f.operands (λ n left. within_row leaf.slots n f lower (λ n. reads_row code.now v n f lower left)))) stack.now.frames) stack.now stack.now (gave result (action_of into.new)) }
 {
     match offset(operand(stack, here, 0), leaf.slots as u64) {
         Some(o) => {
             let at = slot(leaf, first, o);
-            *into = Action::Read(at);
+            into.what = What::Read(at);
             Gave::Offered
         }
         None => {
-            *into = Action::Trap(Trap::Index);
+            into.what = What::Trap(Trap::Index);
             Gave::Offered
         }
     }
@@ -124,22 +126,22 @@ pub fn write_at(
     v: u64,
     leaf: &Leaf,
     first: u32,
-    into: &mut Action,
+    into: &mut Offer,
 ) -> Gave
     requires here { IsHere here.now stack.now.frames }
     requires leaf { IsLeafAt code.now v leaf.now first }
     requires ready { Applies (on_top (λ f lower. given_row (slice_get code.now.leaves v) (λ leaf. popped_row f.operands (λ x more. popped_row more (λ n left. within_row leaf.slots n f lower (λ n. writes_row code.now v n x f lower left))))) stack.now.frames) stack.now.room }
-    ensures { Does (on_top (λ f lower. given_row (slice_get code.now.leaves v) (λ leaf. popped_row f.operands (λ x more. popped_row more (λ n left. within_row leaf.slots n f lower (λ n. writes_row code.now v n x f lower left))))) stack.now.frames) stack.now stack.now (gave result into.new) }
+    ensures { Does (on_top (λ f lower. given_row (slice_get code.now.leaves v) (λ leaf. popped_row f.operands (λ x more. popped_row more (λ n left. within_row leaf.slots n f lower (λ n. writes_row code.now v n x f lower left))))) stack.now.frames) stack.now stack.now (gave result (action_of into.new)) }
 {
     match offset(operand(stack, here, 1), leaf.slots as u64) {
         Some(o) => {
             let at = slot(leaf, first, o);
-            let x = copy_of(operand(stack, here, 0));
-            *into = Action::Write(at, x);
+            put_copy(&mut into.value, operand(stack, here, 0));
+            into.what = What::Write(at);
             Gave::Offered
         }
         None => {
-            *into = Action::Trap(Trap::Index);
+            into.what = What::Trap(Trap::Index);
             Gave::Offered
         }
     }
@@ -153,12 +155,12 @@ pub fn ref_slot_at(
     v: u64,
     leaf: &Leaf,
     first: u32,
-    into: &mut Action,
+    into: &mut Offer,
 ) -> Gave
     requires here { IsHere here.now stack.old.frames }
     requires leaf { IsLeafAt code.now v leaf.now first }
     requires ready { Applies (on_top (λ f lower. given_row (slice_get code.now.leaves v) (λ leaf. popped_row f.operands (λ n left. within_row leaf.slots n f lower (λ n. slot_reference code.now v leaf n f lower left)))) stack.old.frames) stack.old.room }
-    ensures { Does (on_top (λ f lower. given_row (slice_get code.now.leaves v) (λ leaf. popped_row f.operands (λ n left. within_row leaf.slots n f lower (λ n. slot_reference code.now v leaf n f lower left)))) stack.old.frames) stack.old stack.new (gave result into.new) }
+    ensures { Does (on_top (λ f lower. given_row (slice_get code.now.leaves v) (λ leaf. popped_row f.operands (λ n left. within_row leaf.slots n f lower (λ n. slot_reference code.now v leaf n f lower left)))) stack.old.frames) stack.old stack.new (gave result (action_of into.new)) }
 {
     match offset(operand(stack, here, 0), leaf.slots as u64) {
         Some(o) => {
@@ -171,7 +173,7 @@ pub fn ref_slot_at(
             )
         }
         None => {
-            *into = Action::Trap(Trap::Index);
+            into.what = What::Trap(Trap::Index);
             Gave::Offered
         }
     }

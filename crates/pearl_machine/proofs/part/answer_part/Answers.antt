@@ -1,4 +1,5 @@
 use Rattle.std.proofs.Common.{sym, ap, ◌∙◌, subst, refl, arith, slice_get, slice_set, Some, true}
+use Rattle.pearl_exchange.specs.Heard.{answer_of}
 use Rattle.pearl_stack.specs.Frames.{Stack}
 use Rattle.pearl_instructions.specs.Rows.{row, after}
 use Rattle.pearl_machine.specs.Parts.{stack_in, heard_part, HasMemories}
@@ -24,11 +25,11 @@ pub returns-clause-heard : goal.returns-clause-heard
 returns-clause-heard c =
     set_again c.args.parts.now.items c.take-stack.new.parts.items c.put.new.parts.items c.args.task _ _ c.take-stack.ensures.rest.1 c.put.ensures
     ∙ ap (λ (s : Stack). slice_set c.args.parts.now.items c.args.task (record { stack = Some s; going = true }))
-    (c.answer.ensures.after ∙ ap (λ (s : Stack). record s { frames = after (row c.args.code.now s.frames) c.args.heard }) c.take-stack.ensures.stack)
+    (c.answer.ensures.after ∙ ap (λ (s : Stack). record s { frames = after (row c.args.code.now s.frames) (answer_of c.args.heard c.args.beside.now) }) c.take-stack.ensures.stack)
 
 pub returns-clause-memory : goal.returns-clause-memory
 returns-clause-memory c =
     let m = memory_in c.args.code.now c.args.parts.now.items c.args.task c.requires.memory (omega (arith, c.requires.same, c.requires.there)) in
     subst (λ parts. HasMemories c.args.code.now parts) (sym (returns-clause-heard c))
-    (memory_back c.args.code.now c.args.parts.now.items c.args.task (heard_part c.args.code.now c.args.parts.now.items c.args.task c.args.heard) c.requires.memory
+    (memory_back c.args.code.now c.args.parts.now.items c.args.task (heard_part c.args.code.now c.args.parts.now.items c.args.task (answer_of c.args.heard c.args.beside.now)) c.requires.memory
     (record { stack = _; has = refl; room_is = m.0; most = m.1 }))

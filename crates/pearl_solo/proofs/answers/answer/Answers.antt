@@ -1,4 +1,5 @@
 use Rattle.std.proofs.Common.{◌≡◌, suc, ◌-◌, ◌≤◌, Some, length, sym, ap, ◌∙◌, subst, arith}
+use Rattle.pearl_exchange.specs.Heard.{answer_of}
 use Rattle.pearl_stack.specs.Frames.{Stack}
 use Rattle.pearl_instructions.specs.Rows.{row, after}
 use Rattle.pearl_instructions.specs.Stacks.{IsStack, task_of, room}
@@ -18,7 +19,7 @@ hear_at-requires c =
     let is : row c.args.code.now frames ≡ act_on c.args.code.now c.instr_at-instr.result.now frames = row_is c.args.code.now frames c.instr_at-instr.result.now there in
     let at = stands c.laws_hold.ensures.laws c.args.code.now c.args.stack.now c.instr_at-instr.result.now c.frame-here.result c.laws_hold.ensures.valid c.laws_hold.ensures.object c.requires.stack c.requires.room
     (record { top = top; next = c.instr_at-instr.ensures.next }) there in
-    hears c.laws_hold.ensures.laws c.args.code.now c.args.stack.now c.instr_at-instr.result.now c.frame-here.result c.args.answer c.laws_hold.ensures.valid c.laws_hold.ensures.object c.requires.stack c.requires.room
+    hears c.laws_hold.ensures.laws c.args.code.now c.args.stack.now c.instr_at-instr.result.now c.frame-here.result (answer_of c.args.heard c.args.beside.now) c.laws_hold.ensures.valid c.laws_hold.ensures.object c.requires.stack c.requires.room
     c.requires.most is at c.requires.suits
 
 pub returns-clause-after : goal.returns-clause-after
@@ -29,8 +30,8 @@ returns-clause-after c =
     let top : IsSizes c.frame-here.result frames = top_sizes c.args.code.now frames (c.frames.result - 1) c.frame-here.result c.requires.stack one c.frame-here.ensures in
     let there : instr_of c.args.code.now frames ≡ Some c.instr_at-instr.result.now = sym (read_is c.args.code.now frames c.frame-here.result top) ∙ c.instr_at-instr.ensures.instr in
     let is : row c.args.code.now frames ≡ act_on c.args.code.now c.instr_at-instr.result.now frames = row_is c.args.code.now frames c.instr_at-instr.result.now there in
-    let now : c.hear_at.new.stack ≡ record c.args.stack.now { frames = after (row c.args.code.now frames) c.args.answer } =
-    c.hear_at.ensures ∙ ap (λ r. record c.args.stack.now { frames = after r c.args.answer }) (sym is) in
+    let now : c.hear_at.new.stack ≡ record c.args.stack.now { frames = after (row c.args.code.now frames) (answer_of c.args.heard c.args.beside.now) } =
+    c.hear_at.ensures ∙ ap (λ r. record c.args.stack.now { frames = after r (answer_of c.args.heard c.args.beside.now) }) (sym is) in
     now
 
 pub returns-clause-stack : goal.returns-clause-stack
@@ -41,9 +42,9 @@ returns-clause-stack c =
     let top : IsSizes c.frame-here.result frames = top_sizes c.args.code.now frames (c.frames.result - 1) c.frame-here.result c.requires.stack one c.frame-here.ensures in
     let there : instr_of c.args.code.now frames ≡ Some c.instr_at-instr.result.now = sym (read_is c.args.code.now frames c.frame-here.result top) ∙ c.instr_at-instr.ensures.instr in
     let is : row c.args.code.now frames ≡ act_on c.args.code.now c.instr_at-instr.result.now frames = row_is c.args.code.now frames c.instr_at-instr.result.now there in
-    let now : c.hear_at.new.stack ≡ record c.args.stack.now { frames = after (row c.args.code.now frames) c.args.answer } =
-    c.hear_at.ensures ∙ ap (λ r. record c.args.stack.now { frames = after r c.args.answer }) (sym is) in
-    let kept = kept_after c.laws_hold.ensures.laws c.args.code.now c.args.stack.now c.args.answer c.laws_hold.ensures.valid c.laws_hold.ensures.object c.requires.stack c.requires.room c.requires.suits in
+    let now : c.hear_at.new.stack ≡ record c.args.stack.now { frames = after (row c.args.code.now frames) (answer_of c.args.heard c.args.beside.now) } =
+    c.hear_at.ensures ∙ ap (λ r. record c.args.stack.now { frames = after r (answer_of c.args.heard c.args.beside.now) }) (sym is) in
+    let kept = kept_after c.laws_hold.ensures.laws c.args.code.now c.args.stack.now (answer_of c.args.heard c.args.beside.now) c.laws_hold.ensures.valid c.laws_hold.ensures.object c.requires.stack c.requires.room c.requires.suits in
     subst (λ (s : Stack). IsStack c.args.code.now s.frames) (sym now) kept.stack
 
 pub returns-clause-room : goal.returns-clause-room
@@ -54,9 +55,9 @@ returns-clause-room c =
     let top : IsSizes c.frame-here.result frames = top_sizes c.args.code.now frames (c.frames.result - 1) c.frame-here.result c.requires.stack one c.frame-here.ensures in
     let there : instr_of c.args.code.now frames ≡ Some c.instr_at-instr.result.now = sym (read_is c.args.code.now frames c.frame-here.result top) ∙ c.instr_at-instr.ensures.instr in
     let is : row c.args.code.now frames ≡ act_on c.args.code.now c.instr_at-instr.result.now frames = row_is c.args.code.now frames c.instr_at-instr.result.now there in
-    let now : c.hear_at.new.stack ≡ record c.args.stack.now { frames = after (row c.args.code.now frames) c.args.answer } =
-    c.hear_at.ensures ∙ ap (λ r. record c.args.stack.now { frames = after r c.args.answer }) (sym is) in
-    let kept = kept_after c.laws_hold.ensures.laws c.args.code.now c.args.stack.now c.args.answer c.laws_hold.ensures.valid c.laws_hold.ensures.object c.requires.stack c.requires.room c.requires.suits in
+    let now : c.hear_at.new.stack ≡ record c.args.stack.now { frames = after (row c.args.code.now frames) (answer_of c.args.heard c.args.beside.now) } =
+    c.hear_at.ensures ∙ ap (λ r. record c.args.stack.now { frames = after r (answer_of c.args.heard c.args.beside.now) }) (sym is) in
+    let kept = kept_after c.laws_hold.ensures.laws c.args.code.now c.args.stack.now (answer_of c.args.heard c.args.beside.now) c.laws_hold.ensures.valid c.laws_hold.ensures.object c.requires.stack c.requires.room c.requires.suits in
     subst (λ (s : Stack). room c.args.code.now s.frames ≤ s.room) (sym now) kept.room
 
 pub returns-clause-task : goal.returns-clause-task
@@ -67,7 +68,7 @@ returns-clause-task c =
     let top : IsSizes c.frame-here.result frames = top_sizes c.args.code.now frames (c.frames.result - 1) c.frame-here.result c.requires.stack one c.frame-here.ensures in
     let there : instr_of c.args.code.now frames ≡ Some c.instr_at-instr.result.now = sym (read_is c.args.code.now frames c.frame-here.result top) ∙ c.instr_at-instr.ensures.instr in
     let is : row c.args.code.now frames ≡ act_on c.args.code.now c.instr_at-instr.result.now frames = row_is c.args.code.now frames c.instr_at-instr.result.now there in
-    let now : c.hear_at.new.stack ≡ record c.args.stack.now { frames = after (row c.args.code.now frames) c.args.answer } =
-    c.hear_at.ensures ∙ ap (λ r. record c.args.stack.now { frames = after r c.args.answer }) (sym is) in
-    let kept = kept_after c.laws_hold.ensures.laws c.args.code.now c.args.stack.now c.args.answer c.laws_hold.ensures.valid c.laws_hold.ensures.object c.requires.stack c.requires.room c.requires.suits in
+    let now : c.hear_at.new.stack ≡ record c.args.stack.now { frames = after (row c.args.code.now frames) (answer_of c.args.heard c.args.beside.now) } =
+    c.hear_at.ensures ∙ ap (λ r. record c.args.stack.now { frames = after r (answer_of c.args.heard c.args.beside.now) }) (sym is) in
+    let kept = kept_after c.laws_hold.ensures.laws c.args.code.now c.args.stack.now (answer_of c.args.heard c.args.beside.now) c.laws_hold.ensures.valid c.laws_hold.ensures.object c.requires.stack c.requires.room c.requires.suits in
     subst (λ (s : Stack). task_of c.args.code.now s.frames ≡ task_of c.args.code.now frames) (sym now) kept.task

@@ -11,12 +11,12 @@ use Rattle.pearl_solo.proofs.frames.set_fresh.Goals as goal
 pub loop-i-init : goal.loop-i-init
 loop-i-init c = record { keeps = keeps_first c.args.stack.now; fresh = freshens_first (top_cells c.args.stack.now.frames) c.args.kinds.now c.args.from }
 
-pub set_own_cell-requires : goal.set_own_cell-requires
-set_own_cell-requires c =
+pub set_fresh_cell-requires-clause-cell : goal.set_fresh_cell-requires-clause-cell
+set_fresh_cell-requires-clause-cell c =
     within_some (top_cells c.loop-i.stack.frames) c.loop-i.i (omega (arith, c.requires.cells, c.loop-i.invariant.fresh.long))
 
-pub fresh-requires : goal.fresh-requires
-fresh-requires c = all_given IsCellKind c.args.kinds.now c.loop-i.i c.kind_at-kind.result c.requires.kinds c.kind_at-kind.ensures
+pub set_fresh_cell-requires-clause-kind : goal.set_fresh_cell-requires-clause-kind
+set_fresh_cell-requires-clause-kind c = all_given IsCellKind c.args.kinds.now c.loop-i.i c.kind_at-kind.result c.requires.kinds c.kind_at-kind.ensures
 
 pub loop-i-preserved : goal.loop-i-preserved
 loop-i-preserved c =
@@ -24,10 +24,9 @@ loop-i-preserved c =
     let now : Stack = c.loop-i.stack in
     let k : CellKind = c.kind_at-kind.result in
     let more = freshens_more (top_cells old.frames) c.args.kinds.now c.args.from c.loop-i.i (top_cells now.frames) k c.loop-i.invariant.fresh c.kind_at-kind.ensures (omega (arith, c.requires.cells)) in
-    let is : c.set_own_cell.new.stack ≡ record now { frames = with_top_cell c.loop-i.i (flow.fresh k) now.frames } =
-    c.set_own_cell.ensures ∙ ap (λ x. record now { frames = with_top_cell c.loop-i.i x now.frames }) c.fresh.ensures in
+    let is : c.set_fresh_cell.new.stack ≡ record now { frames = with_top_cell c.loop-i.i (flow.fresh k) now.frames } = c.set_fresh_cell.ensures in
     record {
-      keeps = keeps_set c.loop-i.i (flow.fresh k) old now c.set_own_cell.new.stack c.loop-i.invariant.keeps is;
+      keeps = keeps_set c.loop-i.i (flow.fresh k) old now c.set_fresh_cell.new.stack c.loop-i.invariant.keeps is;
       fresh = subst (Freshens (top_cells old.frames) c.args.kinds.now c.args.from (c.loop-i.i + 1))
           (sym (cells_set c.loop-i.i (flow.fresh k) now.frames) ∙ ap (λ (s : Stack). top_cells s.frames) (sym is)) more;
     }

@@ -11,4 +11,4 @@ operand-requires-clause-there c = one_there c.args.stack.now.frames _ c.args.sta
 pub returns : goal.returns
 returns c =
     let at = send_offers c.args.stack.now.frames c.args.device c.operand.result.now c.operand.ensures in
-    (at.0, at.1 ∙ ap (λ x. Offers (action.Send c.args.device x) at.0) (sym c.copy_of-x.ensures), refl)
+    (at.0, at.1 ∙ ap (λ x. Offers (action.Send c.args.device x) at.0) (sym c.put_copy.ensures), refl)

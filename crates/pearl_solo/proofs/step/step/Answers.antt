@@ -2,6 +2,7 @@ use Rattle.std.proofs.Common.{◌≡◌, suc, ◌-◌, Some, length, sym, ◌∙
 use Rattle.pearl_instructions.specs.Rows.{row}
 use Rattle.pearl_silent.specs.Standing.{instr_of}
 use Rattle.pearl_silent.specs.Steps.{Does, IsSizes}
+use Rattle.pearl_exchange.specs.Offers.{action_of}
 use Rattle.pearl_solo.specs.Gives.{gave}
 use Rattle.pearl_silent.proofs.Stands.{row_is, kept, same_task, stands, frames_some, top_sizes, read_is}
 use Rattle.pearl_solo.proofs.step.step.Goals as goal
@@ -23,8 +24,8 @@ returns-clause-does c =
     let one : suc (c.frames.result - 1) ≡ length frames = omega (arith, c.frames.ensures, some) in
     let top : IsSizes c.frame-here.result frames = top_sizes c.args.code.now frames (c.frames.result - 1) c.frame-here.result c.requires.stack one c.frame-here.ensures in
     let there : instr_of c.args.code.now frames ≡ Some c.instr_at-instr.result.now = sym (read_is c.args.code.now frames c.frame-here.result top) ∙ c.instr_at-instr.ensures.instr in
-    let does : Does (row c.args.code.now frames) c.args.stack.now c.on_any.new.stack (gave c.on_any.result c.on_any.new.into) =
-    subst (λ r. Does r c.args.stack.now c.on_any.new.stack (gave c.on_any.result c.on_any.new.into)) (sym (row_is c.args.code.now frames c.instr_at-instr.result.now there)) c.on_any.ensures in
+    let does : Does (row c.args.code.now frames) c.args.stack.now c.on_any.new.stack (gave c.on_any.result (action_of c.on_any.new.into)) =
+    subst (λ r. Does r c.args.stack.now c.on_any.new.stack (gave c.on_any.result (action_of c.on_any.new.into))) (sym (row_is c.args.code.now frames c.instr_at-instr.result.now there)) c.on_any.ensures in
     does
 
 pub returns-clause-stack : goal.returns-clause-stack
@@ -34,9 +35,9 @@ returns-clause-stack c =
     let one : suc (c.frames.result - 1) ≡ length frames = omega (arith, c.frames.ensures, some) in
     let top : IsSizes c.frame-here.result frames = top_sizes c.args.code.now frames (c.frames.result - 1) c.frame-here.result c.requires.stack one c.frame-here.ensures in
     let there : instr_of c.args.code.now frames ≡ Some c.instr_at-instr.result.now = sym (read_is c.args.code.now frames c.frame-here.result top) ∙ c.instr_at-instr.ensures.instr in
-    let does : Does (row c.args.code.now frames) c.args.stack.now c.on_any.new.stack (gave c.on_any.result c.on_any.new.into) =
-    subst (λ r. Does r c.args.stack.now c.on_any.new.stack (gave c.on_any.result c.on_any.new.into)) (sym (row_is c.args.code.now frames c.instr_at-instr.result.now there)) c.on_any.ensures in
-    (kept c.laws_hold.ensures.laws c.args.code.now c.args.stack.now c.on_any.new.stack (gave c.on_any.result c.on_any.new.into) c.laws_hold.ensures.valid c.laws_hold.ensures.object c.requires.stack c.requires.room does).0
+    let does : Does (row c.args.code.now frames) c.args.stack.now c.on_any.new.stack (gave c.on_any.result (action_of c.on_any.new.into)) =
+    subst (λ r. Does r c.args.stack.now c.on_any.new.stack (gave c.on_any.result (action_of c.on_any.new.into))) (sym (row_is c.args.code.now frames c.instr_at-instr.result.now there)) c.on_any.ensures in
+    (kept c.laws_hold.ensures.laws c.args.code.now c.args.stack.now c.on_any.new.stack (gave c.on_any.result (action_of c.on_any.new.into)) c.laws_hold.ensures.valid c.laws_hold.ensures.object c.requires.stack c.requires.room does).0
 
 pub returns-clause-room : goal.returns-clause-room
 returns-clause-room c =
@@ -45,9 +46,9 @@ returns-clause-room c =
     let one : suc (c.frames.result - 1) ≡ length frames = omega (arith, c.frames.ensures, some) in
     let top : IsSizes c.frame-here.result frames = top_sizes c.args.code.now frames (c.frames.result - 1) c.frame-here.result c.requires.stack one c.frame-here.ensures in
     let there : instr_of c.args.code.now frames ≡ Some c.instr_at-instr.result.now = sym (read_is c.args.code.now frames c.frame-here.result top) ∙ c.instr_at-instr.ensures.instr in
-    let does : Does (row c.args.code.now frames) c.args.stack.now c.on_any.new.stack (gave c.on_any.result c.on_any.new.into) =
-    subst (λ r. Does r c.args.stack.now c.on_any.new.stack (gave c.on_any.result c.on_any.new.into)) (sym (row_is c.args.code.now frames c.instr_at-instr.result.now there)) c.on_any.ensures in
-    (kept c.laws_hold.ensures.laws c.args.code.now c.args.stack.now c.on_any.new.stack (gave c.on_any.result c.on_any.new.into) c.laws_hold.ensures.valid c.laws_hold.ensures.object c.requires.stack c.requires.room does).1
+    let does : Does (row c.args.code.now frames) c.args.stack.now c.on_any.new.stack (gave c.on_any.result (action_of c.on_any.new.into)) =
+    subst (λ r. Does r c.args.stack.now c.on_any.new.stack (gave c.on_any.result (action_of c.on_any.new.into))) (sym (row_is c.args.code.now frames c.instr_at-instr.result.now there)) c.on_any.ensures in
+    (kept c.laws_hold.ensures.laws c.args.code.now c.args.stack.now c.on_any.new.stack (gave c.on_any.result (action_of c.on_any.new.into)) c.laws_hold.ensures.valid c.laws_hold.ensures.object c.requires.stack c.requires.room does).1
 
 pub returns-clause-task : goal.returns-clause-task
 returns-clause-task c =
@@ -56,6 +57,6 @@ returns-clause-task c =
     let one : suc (c.frames.result - 1) ≡ length frames = omega (arith, c.frames.ensures, some) in
     let top : IsSizes c.frame-here.result frames = top_sizes c.args.code.now frames (c.frames.result - 1) c.frame-here.result c.requires.stack one c.frame-here.ensures in
     let there : instr_of c.args.code.now frames ≡ Some c.instr_at-instr.result.now = sym (read_is c.args.code.now frames c.frame-here.result top) ∙ c.instr_at-instr.ensures.instr in
-    let does : Does (row c.args.code.now frames) c.args.stack.now c.on_any.new.stack (gave c.on_any.result c.on_any.new.into) =
-    subst (λ r. Does r c.args.stack.now c.on_any.new.stack (gave c.on_any.result c.on_any.new.into)) (sym (row_is c.args.code.now frames c.instr_at-instr.result.now there)) c.on_any.ensures in
-    same_task c.laws_hold.ensures.laws c.args.code.now c.args.stack.now c.on_any.new.stack (gave c.on_any.result c.on_any.new.into) c.laws_hold.ensures.valid c.laws_hold.ensures.object c.requires.stack does
+    let does : Does (row c.args.code.now frames) c.args.stack.now c.on_any.new.stack (gave c.on_any.result (action_of c.on_any.new.into)) =
+    subst (λ r. Does r c.args.stack.now c.on_any.new.stack (gave c.on_any.result (action_of c.on_any.new.into))) (sym (row_is c.args.code.now frames c.instr_at-instr.result.now there)) c.on_any.ensures in
+    same_task c.laws_hold.ensures.laws c.args.code.now c.args.stack.now c.on_any.new.stack (gave c.on_any.result (action_of c.on_any.new.into)) c.laws_hold.ensures.valid c.laws_hold.ensures.object c.requires.stack does

@@ -10,4 +10,4 @@ operand-requires-clause-there c = write_there c.args.stack.now.frames c.args.cod
 pub returns : goal.returns
 returns c =
     let at = write_offers c.args.stack.now.frames c.args.code.now c.args.v c.args.leaf.now c.args.first c.operand.result.now c.requires.leaf c.operand.ensures in
-    (at.0, at.1 ∙ ap (λ x. Offers (action.Write c.args.first x) at.0) (sym c.copy_of-x.ensures), refl)
+    (at.0, at.1 ∙ ap (λ x. Offers (action.Write c.args.first x) at.0) (sym c.put_copy.ensures), refl)

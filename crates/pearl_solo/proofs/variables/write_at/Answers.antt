@@ -24,7 +24,7 @@ pub returns-in-Some : goal.returns-in-Some
 returns-in-Some c =
     let at = write_at_some c.args.stack.now.frames c.args.code.now c.args.v c.args.leaf.now c.args.first c.args.stack.now.room c.in-Some.o c.operand-in-Some.result.now c.operand.result.now
     c.requires.leaf c.requires.ready c.operand-in-Some.ensures c.operand.ensures (sym c.offset.ensures ∙ c.in-Some.is) in
-    (at.go, at.is ∙ (ap (λ s. Offers (action.Write s c.operand-in-Some.result.now) at.go) (sym c.slot-at.ensures) ∙ ap (λ x. Offers (action.Write c.slot-at.result x) at.go) (sym c.copy_of-x.ensures)), refl)
+    (at.go, at.is ∙ (ap (λ s. Offers (action.Write s c.operand-in-Some.result.now) at.go) (sym c.slot-at.ensures) ∙ ap (λ x. Offers (action.Write c.slot-at.result x) at.go) (sym c.put_copy.ensures)), refl)
 
 pub returns-in-None : goal.returns-in-None
 returns-in-None c =

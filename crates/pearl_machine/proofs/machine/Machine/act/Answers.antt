@@ -1,6 +1,7 @@
 use Rattle.std.proofs.Common.{refl, ap, ◌∙◌, sym, subst, slice_get, arith}
 use Rattle.pearl_rules.specs.declared.action.Answer.{Answer}
 use Rattle.pearl_rules.specs.Effect.{Hears, Ends}
+use Rattle.pearl_exchange.specs.Heard.{answer_of}
 use Rattle.pearl_engine.specs.Setups.{setup_of}
 use Rattle.pearl_engine.specs.Engines.{engine}
 use Rattle.pearl_engine.specs.Owners.{IsStackOf}
@@ -24,7 +25,7 @@ answer_part-requires-clause-there c =
     let all = all_settled m.code m.setup m.kernel m.parts.items m.due c.self.invariant c.args.self.now c.self.view_is c.requires.settled in
     let past = none_due m.code m.setup m.kernel m.parts.items m.due c.self.invariant c.args.self.now c.self.view_is c.requires.taken in
     let there = acts_there m.code m.setup m.kernel c.act.new.self m.parts.items m.due c.self.invariant all c.laws_hold.ensures.laws past
-    c.in-Went.task (Hears c.in-Went.answer) c.in-Went.ensures.acted in
+    c.in-Went.task (Hears (answer_of c.in-Went.heard c.act.new.beside)) c.in-Went.ensures.acted in
     let size = tasks_are m.code m.setup m.kernel m.parts.items m.due c.self.invariant in
     omega (arith, there, size, c.self.invariant.each)
 
@@ -34,7 +35,7 @@ answer_part-requires-clause-own c =
     let all = all_settled m.code m.setup m.kernel m.parts.items m.due c.self.invariant c.args.self.now c.self.view_is c.requires.settled in
     let past = none_due m.code m.setup m.kernel m.parts.items m.due c.self.invariant c.args.self.now c.self.view_is c.requires.taken in
     acts_own m.code m.setup m.kernel c.act.new.self m.parts.items m.due c.self.invariant all c.laws_hold.ensures.laws past
-    c.in-Went.task (Hears c.in-Went.answer) c.in-Went.ensures.acted
+    c.in-Went.task (Hears (answer_of c.in-Went.heard c.act.new.beside)) c.in-Went.ensures.acted
 
 pub answer_part-requires-clause-suits : goal.answer_part-requires-clause-suits
 answer_part-requires-clause-suits c =
@@ -42,7 +43,7 @@ answer_part-requires-clause-suits c =
     let all = all_settled m.code m.setup m.kernel m.parts.items m.due c.self.invariant c.args.self.now c.self.view_is c.requires.settled in
     let past = none_due m.code m.setup m.kernel m.parts.items m.due c.self.invariant c.args.self.now c.self.view_is c.requires.taken in
     acts_hears m.code m.setup m.kernel c.act.new.self m.parts.items m.due c.self.invariant all c.laws_hold.ensures.laws past
-    c.in-Went.task (Hears c.in-Went.answer) c.in-Went.ensures.acted c.in-Went.answer refl
+    c.in-Went.task (Hears (answer_of c.in-Went.heard c.act.new.beside)) c.in-Went.ensures.acted (answer_of c.in-Went.heard c.act.new.beside) refl
 
 pub invariant_of-self-in-Went : goal.invariant_of-self-in-Went
 invariant_of-self-in-Went c =
@@ -51,10 +52,10 @@ invariant_of-self-in-Went c =
     let past = none_due m.code m.setup m.kernel m.parts.items m.due c.self.invariant c.args.self.now c.self.view_is c.requires.taken in
     subst (λ parts. IsReady m.code m.setup c.act.new.self parts m.due) (sym c.answer_part.ensures.heard)
     (ready_acts m.code m.setup m.kernel c.act.new.self m.parts.items m.due c.self.invariant all c.laws_hold.ensures.laws past
-    c.in-Went.task (Hears c.in-Went.answer) c.in-Went.ensures.acted (c.act.ensures.lawful (setup_of m.code) c.self.invariant.lawful)
+    c.in-Went.task (Hears (answer_of c.in-Went.heard c.act.new.beside)) c.in-Went.ensures.acted (c.act.ensures.lawful (setup_of m.code) c.self.invariant.lawful)
     (subst (λ parts. HasMemories m.code parts) c.answer_part.ensures.heard c.answer_part.ensures.memory)
     (λ answer e. subst (λ (x : Answer). IsStackOf m.code c.in-Went.task ((engine m.code).answer c.in-Went.task
-    (stack_in (slice_get m.parts.items c.in-Went.task)).frames x)) (same_answer c.in-Went.answer answer e) c.answer_part.ensures.own))
+    (stack_in (slice_get m.parts.items c.in-Went.task)).frames x)) (same_answer (answer_of c.in-Went.heard c.act.new.beside) answer e) c.answer_part.ensures.own))
 
 pub invariant_of-self-in-Ended : goal.invariant_of-self-in-Ended
 invariant_of-self-in-Ended c =
@@ -75,7 +76,7 @@ pub returns-in-Went-clause-acted : goal.returns-in-Went-clause-acted
 returns-in-Went-clause-acted c =
     let m = c.self.inside in
     acts_call m.code m.setup m.kernel m.parts.items m.due c.self.invariant c.args.self.now c.self.view_is c.act.new.self c.answer_part.new.parts.items
-    c.in-Went.task (Hears c.in-Went.answer) c.requires.settled c.requires.taken c.laws_hold.ensures.laws c.in-Went.ensures.acted c.answer_part.ensures.heard
+    c.in-Went.task (Hears (answer_of c.in-Went.heard c.act.new.beside)) c.requires.settled c.requires.taken c.laws_hold.ensures.laws c.in-Went.ensures.acted c.answer_part.ensures.heard
 
 pub returns-in-Ended-clause-acted : goal.returns-in-Ended-clause-acted
 returns-in-Ended-clause-acted c =
