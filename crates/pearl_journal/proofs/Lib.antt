@@ -8,3 +8,4 @@ pub mod BlankLaws
 pub mod MeaningLaws
 pub mod CodeLaws
 pub mod PieceLaws
+pub mod CutLaws

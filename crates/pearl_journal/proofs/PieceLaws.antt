@@ -1,21 +1,21 @@
 -- Laws of a journal that is read in pieces: however it is cut, the same entries come.
-use Rattle.std.proofs.Common.{◌≡◌, ◌≢◌, ◌<◌, ◌≤◌, ℕ, ◌+◌, ◌-◌, ◌⊎◌, ◌↔◌, suc, zero, List, [], ◌∷◌, ◌++◌, Bool, true, false, ◌||◌, ◌==◌, nat_lt, if◌then◌else◌, length, min, take, drop, Option, Some, None, Result, Ok, Err, OnOk, refl, ap, ap₂, sym, subst, ◌∙◌, add-one, arith, inl, inr}
+use Rattle.std.proofs.Common.{◌≡◌, ◌<◌, ◌≤◌, ℕ, ◌+◌, ◌-◌, ◌⊎◌, ◌↔◌, suc, zero, List, [], ◌∷◌, ◌++◌, Bool, true, false, ◌||◌, ◌==◌, nat_lt, if◌then◌else◌, length, min, take, drop, Option, Some, None, Result, Ok, Err, OnOk, refl, ap, ap₂, sym, subst, ◌∙◌, add-one, arith, inl, inr}
 use Rattle.std.proofs.lemmas.Bool.{both_ways, cases_lt, eqb-true, le-ltb, lt-ltb, ltb-false, ltb-true}
 use Rattle.std.proofs.Math.Seq.{take-append-add}
 use Rattle.std.proofs.lemmas.List.{append_assoc, append-nil, length-append, length-take, take_all, take_min}
 use Rattle.pearl_rules.specs.declared.entry.Entry.{Entry}
 use Rattle.pearl_rules.specs.declared.setup.Setup.{Setup}
 use Rattle.pearl_rules.specs.Entries.{EntryFits}
-use Rattle.pearl_journal.specs.declared.limits.TheConstants.{LINE_LIMIT, LINE_ROOM, NO_FORM}
+use Rattle.pearl_journal.specs.declared.limits.TheConstants.{LINE_ROOM, NO_FORM}
 use Rattle.pearl_journal.specs.declared.lines.BadLine.{BadLine}
 use Rattle.pearl_journal.specs.declared.lines.Next.{Next}
 use Rattle.pearl_journal.specs.declared.lines.Next.TheVariants as next
 use Rattle.pearl_journal.specs.declared.reading.Line.{Line}
 use Rattle.pearl_journal.specs.declared.reading.Line.TheVariants.{Blank, Item, Wrong}
-use Rattle.pearl_journal.specs.Lines.{ended_lines, in_front, in_front_of_some, journal_lines, line_end, without_return}
+use Rattle.pearl_journal.specs.Lines.{ended_lines, in_front_of_some, journal_lines, line_end, without_return}
 use Rattle.pearl_journal.specs.Readings.{Reading}
-use Rattle.pearl_journal.specs.Meaning.{meaning, meaning_within}
-use Rattle.pearl_journal.specs.Entries.{All, Bad, Entries, IfItem, after, entries, entries_from, more_entries}
+use Rattle.pearl_journal.specs.Meaning.{meaning}
+use Rattle.pearl_journal.specs.Entries.{All, Bad, IfItem, after, entries, entries_from, more_entries}
 use Rattle.pearl_journal.specs.Pieces.{HasNoWhole, IfEntry, IsKept, IsPartial, Kept, answer_of, begin, bytes_from, ended_on, fed, finished, kept_after, moment_said, read_on, reading_at, said, taken, told, told_if, unless_refused}
 use Rattle.pearl_journal.proofs.JournalLaws.{ended_lines-none, ended_lines-split, journal_lines-split, journal_lines-whole}
 use Rattle.pearl_journal.proofs.FitLaws.{meaning-fits}
@@ -36,13 +36,13 @@ unended_if : (is_end : Bool) (byte : ℕ) (lines : List (List ℕ)) → (if is_e
 unended_if true byte lines h = absurd (no_line [] lines h)
 unended_if false byte lines h = (refl, none_before byte lines h)
 
-unended_first : (byte : ℕ) (bytes : List ℕ) → ended_lines (byte ∷ bytes) ≡ [] → (byte == 10) ≡ false
+pub unended_first : (byte : ℕ) (bytes : List ℕ) → ended_lines (byte ∷ bytes) ≡ [] → (byte == 10) ≡ false
 unended_first byte bytes h = (unended_if (byte == 10) byte (ended_lines bytes) h).0
 
-unended_rest : (byte : ℕ) (bytes : List ℕ) → ended_lines (byte ∷ bytes) ≡ [] → ended_lines bytes ≡ []
+pub unended_rest : (byte : ℕ) (bytes : List ℕ) → ended_lines (byte ∷ bytes) ≡ [] → ended_lines bytes ≡ []
 unended_rest byte bytes h = (unended_if (byte == 10) byte (ended_lines bytes) h).1
 
-unended_more : (byte : ℕ) (bytes : List ℕ) → (byte == 10) ≡ false → ended_lines bytes ≡ [] → ended_lines (byte ∷ bytes) ≡ []
+pub unended_more : (byte : ℕ) (bytes : List ℕ) → (byte == 10) ≡ false → ended_lines bytes ≡ [] → ended_lines (byte ∷ bytes) ≡ []
 unended_more byte bytes other h = rw (other, h) refl
 
 unended_take : (n : ℕ) (bytes : List ℕ) → ended_lines bytes ≡ [] → ended_lines (take n bytes) ≡ []
@@ -51,7 +51,7 @@ unended_take (suc n) [] h = refl
 unended_take (suc n) (byte ∷ bytes) h =
     unended_more byte (take n bytes) (unended_first byte bytes h) (unended_take n bytes (unended_rest byte bytes h))
 
-unended_append : (front back : List ℕ) → ended_lines front ≡ [] → ended_lines back ≡ [] → ended_lines (front ++ back) ≡ []
+pub unended_append : (front back : List ℕ) → ended_lines front ≡ [] → ended_lines back ≡ [] → ended_lines (front ++ back) ≡ []
 unended_append [] back h k = k
 unended_append (byte ∷ front) back h k =
     unended_more byte (front ++ back) (unended_first byte front h) (unended_append front back (unended_rest byte front h) k)
@@ -62,7 +62,7 @@ take_if true byte n bytes is h = refl
 take_if false byte n bytes is h = rw (add-one n) (unended_more byte (take n bytes) is h)
 
 -- the bytes before the first byte 10
-unended_front : (piece : List ℕ) → ended_lines (take (line_end piece) piece) ≡ []
+pub unended_front : (piece : List ℕ) → ended_lines (take (line_end piece) piece) ≡ []
 unended_front [] = refl
 unended_front (byte ∷ bytes) = take_if (byte == 10) byte (line_end bytes) bytes refl (unended_front bytes)
 
@@ -76,7 +76,7 @@ ended_lines-line [] rest h = refl
 ended_lines-line (byte ∷ line) rest h = rw (unended_first byte line h, ended_lines-line line rest (unended_rest byte line h)) refl
 
 -- the first byte 10 comes behind such bytes
-line_end-behind : (line rest : List ℕ) → ended_lines line ≡ [] → line_end (line ++ rest) ≡ length line + line_end rest
+pub line_end-behind : (line rest : List ℕ) → ended_lines line ≡ [] → line_end (line ++ rest) ≡ length line + line_end rest
 line_end-behind [] rest h = omega arith
 line_end-behind (byte ∷ line) rest h =
     let e = line_end-behind line rest (unended_rest byte line h) in
@@ -97,7 +97,7 @@ return_is_one [] = omega arith
 return_is_one (byte ∷ []) = omega arith
 return_is_one (byte ∷ next ∷ rest) = omega (arith, return_is_one (next ∷ rest))
 
-too_long : (setup : Setup) (reading : Reading) (line : List ℕ) → LINE_ROOM ≤ length line → meaning setup reading line ≡ Wrong NO_FORM
+pub too_long : (setup : Setup) (reading : Reading) (line : List ℕ) → LINE_ROOM ≤ length line → meaning setup reading line ≡ Wrong NO_FORM
 unfolding meaning
 too_long setup reading line long = above_if setup reading (without_return line) (omega (arith, return_is_one line))
 

@@ -16,5 +16,7 @@ pub mod Meaning
 pub mod Entries
 -- how a journal is read in pieces, and which entries are still to come
 pub mod Pieces
+-- journals that come in pieces, and how they are read from the first piece to the last
+pub mod Cuts
 -- what lines say that are written otherwise, which lines are skipped, and how texts are written
 pub mod Laws

@@ -9,7 +9,7 @@ use Rattle.pearl_journal.specs.declared.lines.Next.{Next}
 use Rattle.pearl_journal.specs.declared.lines.Next.TheVariants as next
 use Rattle.pearl_journal.specs.declared.reading.Line.{Line}
 use Rattle.pearl_journal.specs.declared.reading.Line.TheVariants as line
-use Rattle.pearl_journal.specs.Entries.{Entries, All, Bad, entries_from}
+use Rattle.pearl_journal.specs.Entries.{Entries, Bad, entries_from}
 use Rattle.pearl_journal.specs.Lines.{ended_lines, journal_lines, line_end}
 use Rattle.pearl_journal.specs.Meaning.{meaning}
 use Rattle.pearl_journal.specs.Readings.{Reading}

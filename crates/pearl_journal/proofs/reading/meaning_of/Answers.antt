@@ -1,4 +1,4 @@
-use Rattle.std.proofs.Common.{rules, subst, sym, ℕ}
+use Rattle.std.proofs.Common.{rules, subst, sym}
 use Rattle.pearl_journal.specs.Meaning.{meaning}
 use Rattle.pearl_rules.specs.Entries.{EntryFits}
 use Rattle.pearl_journal.specs.Entries.{IfItem}
