@@ -267,7 +267,8 @@ meaning-fits setup reading line =
     (line_of-fits spelled P (entry_of-fits setup reading (first_word text) (behind_word text))))
     tt
 
-late_after : (setup : Setup) (moment : ℕ) (means : Entry) → moment ≤ LAST_MOMENT → EntryFits setup moment means → moment_after moment means ≤ LAST_MOMENT
+-- an entry that fits leads past no moment but the last
+pub late_after : (setup : Setup) (moment : ℕ) (means : Entry) → moment ≤ LAST_MOMENT → EntryFits setup moment means → moment_after moment means ≤ LAST_MOMENT
 late_after setup moment (entry.Clock time) late fits = late
 late_after setup moment (entry.Run picks) late fits = late
 late_after setup moment (entry.Tick milliseconds) late fits = fits

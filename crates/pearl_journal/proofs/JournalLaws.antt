@@ -1,7 +1,6 @@
 -- Laws of a journal's lines, and of the entries that they have.
-use Rattle.std.proofs.Common.{◌≡◌, ◌<◌, ◌≤◌, ℕ, ◌+◌, List, [], ◌∷◌, ◌++◌, Bool, true, false, length, take, drop, refl, ap, ◌==◌, arith, sym, add-one, subst, ◌-◌, length-drop}
+use Rattle.std.proofs.Common.{◌≡◌, ◌<◌, ◌≤◌, ℕ, ◌+◌, List, [], ◌∷◌, ◌++◌, Bool, true, false, length, take, drop, refl, ap, ◌==◌, arith, add-one}
 use Rattle.std.proofs.lemmas.Bool.{ne_eqb}
-use Rattle.std.proofs.lemmas.List.{take_rest}
 use Rattle.std.specs.Bool.{if◌then◌else◌}
 use Rattle.pearl_rules.specs.declared.entry.Entry.{Entry}
 use Rattle.pearl_rules.specs.declared.setup.Setup.{Setup}
@@ -44,10 +43,16 @@ whole_if : (is_end : Bool) (b : ℕ) (bs : List ℕ) (n : ℕ) → length bs + 1
 whole_if true b bs n h e = absurd (omega arith)
 whole_if false b bs n h e = let e' : journal_lines bs ≡ bs ∷ [] = e (omega arith) in rw (e') refl
 
--- without a byte 10 all is one line
-pub journal_lines-whole : (bytes : List ℕ) → length bytes ≤ line_end bytes → journal_lines bytes ≡ bytes ∷ []
-journal_lines-whole [] h = refl
-journal_lines-whole (b ∷ bs) h = whole_if (b == 10) b bs (line_end bs) (omega arith) (journal_lines-whole bs)
+last_if : (is_end : Bool) (b : ℕ) → 1 ≤ (if is_end then 0 else 1) → (if is_end then [] ∷ [] else in_front b []) ≡ (b ∷ []) ∷ []
+last_if true b h = absurd (omega arith)
+last_if false b h = refl
+
+-- without a byte 10 all is one line, if there is some byte
+pub journal_lines-whole : (bytes : List ℕ) → length bytes ≤ line_end bytes → 0 < length bytes → journal_lines bytes ≡ bytes ∷ []
+journal_lines-whole [] h some = absurd (omega arith)
+journal_lines-whole (b ∷ []) h some = last_if (b == 10) b h
+journal_lines-whole (b ∷ next ∷ bs) h some =
+    whole_if (b == 10) b (next ∷ bs) (line_end (next ∷ bs)) (omega arith) (λ l. journal_lines-whole (next ∷ bs) l (omega arith))
 
 none_if : (is_end : Bool) (b : ℕ) (bs : List ℕ) (n : ℕ) → length bs + 1 ≤ (if is_end then 0 else n + 1) →
     (length bs ≤ n → ended_lines bs ≡ []) → (if is_end then [] ∷ ended_lines bs else in_front_of_some b (ended_lines bs)) ≡ []
@@ -58,17 +63,6 @@ none_if false b bs n h e = let e' : ended_lines bs ≡ [] = e (omega arith) in r
 pub ended_lines-none : (bytes : List ℕ) → length bytes ≤ line_end bytes → ended_lines bytes ≡ []
 ended_lines-none [] h = refl
 ended_lines-none (b ∷ bs) h = none_if (b == 10) b bs (line_end bs) (omega arith) (ended_lines-none bs)
-
--- the first line and the rest, as the code cuts them
-pub split-cut : (bytes : List ℕ) (end : ℕ) → end ≡ line_end bytes → end < length bytes →
-    (journal_lines bytes ≡ take end bytes ∷ journal_lines (take (length bytes - (end + 1)) (drop (end + 1) bytes)))
-    × (ended_lines bytes ≡ take end bytes ∷ ended_lines (take (length bytes - (end + 1)) (drop (end + 1) bytes)))
-    × (length (take (length bytes - (end + 1)) (drop (end + 1) bytes)) < length bytes)
-split-cut bytes end e h = rw (take_rest bytes (end + 1)) (
-  subst (λ n. journal_lines bytes ≡ take n bytes ∷ journal_lines (drop (n + 1) bytes)) (sym e) (journal_lines-split bytes (subst (λ n. n < length bytes) e h)),
-  subst (λ n. ended_lines bytes ≡ take n bytes ∷ ended_lines (drop (n + 1) bytes)) (sym e) (ended_lines-split bytes (subst (λ n. n < length bytes) e h)),
-  omega (arith, length-drop (end + 1) bytes),
-)
 
 -- RETURNS
 

@@ -7,3 +7,5 @@ pub mod NumberLaws
 pub mod BlankLaws
 pub mod MeaningLaws
 pub mod CodeLaws
+pub mod PieceLaws
+pub mod CutLaws

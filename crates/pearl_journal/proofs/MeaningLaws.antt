@@ -44,7 +44,7 @@ pub meaning-within : (setup : Setup) (reading : Reading) (line : List ℕ) → E
 unfolding meaning
 meaning-within setup reading line h short = ap (meaning_within setup reading) (without_return-same line h) ∙ within_if setup reading line short
 
-above_if : (setup : Setup) (reading : Reading) (line : List ℕ) → LINE_LIMIT < length line → meaning_within setup reading line ≡ Wrong NO_FORM
+pub above_if : (setup : Setup) (reading : Reading) (line : List ℕ) → LINE_LIMIT < length line → meaning_within setup reading line ≡ Wrong NO_FORM
 above_if setup reading line long = elim (leb_tells (length line) LINE_LIMIT) [
   | inl h ↦ absurd (omega (arith, h.1))
   | inr h ↦ rw (h.0) refl

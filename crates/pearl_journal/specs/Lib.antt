@@ -14,5 +14,9 @@ pub mod Values
 pub mod Meaning
 -- which entries a journal has, read from left to right
 pub mod Entries
+-- how a journal is read in pieces, and which entries are still to come
+pub mod Pieces
+-- journals that come in pieces, and how they are read from the first piece to the last
+pub mod Cuts
 -- what lines say that are written otherwise, which lines are skipped, and how texts are written
 pub mod Laws

@@ -5,9 +5,9 @@ abbrev pub in_front : ℕ → List (List ℕ) → List (List ℕ)
 in_front byte [] = (byte ∷ []) ∷ []
 in_front byte (line ∷ lines) = (byte ∷ line) ∷ lines
 
--- all lines: each is ended by byte 10, and the last one by the end of the bytes
+-- all lines: each is ended by byte 10, and the last one by the end of the bytes, if some stand behind the last byte 10
 abbrev pub journal_lines : List ℕ → List (List ℕ)
-journal_lines [] = [] ∷ []
+journal_lines [] = []
 journal_lines (byte ∷ bytes) = if byte == 10 then [] ∷ journal_lines bytes else in_front byte (journal_lines bytes)
 
 abbrev pub in_front_of_some : ℕ → List (List ℕ) → List (List ℕ)

@@ -19,11 +19,10 @@ use pearl_scan::clock::clock_literal;
 pub(crate) fn entry_of(setup: &Setup, is_first: bool, moment: u64, text: &[u8]) -> Result<Entry, u8>
     requires tasks { length setup.now.tasks < 2 ^ 32 }
     requires devices { length setup.now.devices < 2 ^ 32 }
-    requires late { moment ≤ LAST_MOMENT }
     ensures { result ≡ spec.in_time moment (spec.form_of setup.now is_first (first_word text.now) (behind_word text.now)) }
 {
     let entry = form_of(setup, is_first, text)?;
-    if milliseconds_of(&entry) <= LAST_MOMENT - moment {
+    if moment <= LAST_MOMENT && milliseconds_of(&entry) <= LAST_MOMENT - moment {
         Ok(entry)
     } else {
         Err(TOO_LATE)

@@ -1,13 +1,18 @@
-// Laws of what a line means. Each function's contract is one theorem; none does anything.
+// Laws of what a line means, and of journals that come in pieces. Each function's contract is one theorem; none does
+// anything.
 
-ghost use Rattle.std.specs.Prelude.{◌≡◌, ◌≢◌, ◌+◌, ◌^◌, ◌<◌, ◌≤◌, ℕ, List, [], ◌∷◌, ◌++◌, Some, length, codes};
-ghost use Rattle.std.specs.List.{AllByRecursion};
+ghost use Rattle.std.specs.Prelude.{◌≡◌, ◌≢◌, ◌+◌, ◌^◌, ◌<◌, ◌≤◌, ℕ, List, [], ◌∷◌, ◌++◌, Some, Err, length, take, codes};
+ghost use Rattle.std.specs.List.{AllByRecursion, concat};
 ghost use Rattle.pearl_rules.specs.declared.entry.Entry.TheVariants.{Tick};
 ghost use Rattle.pearl_rules.specs.declared.setup.Setup.{Setup};
 ghost use Rattle.pearl_rules.specs.Entries.{IsPrinted};
 ghost use Rattle.pearl_journal.specs.declared.reading.Line.TheVariants.{Blank, Item, Wrong};
+ghost use Rattle.pearl_journal.specs.Cuts.{fed_each, read_pieces, taken_of};
+ghost use Rattle.pearl_journal.specs.Entries.{entries};
 ghost use Rattle.pearl_journal.specs.Laws.{EndsInNoReturn, IsComment, IsGap, NamesAlike, SaysThreeParts, SaysWordAndText, TakesTwoParts, in_apostrophes};
+ghost use Rattle.pearl_journal.specs.Lines.{ended_lines, journal_lines};
 ghost use Rattle.pearl_journal.specs.Meaning.{entry_of, line_of, meaning};
+ghost use Rattle.pearl_journal.specs.Pieces.{HasNoWhole, Kept, answer_of, begin, fed};
 ghost use Rattle.pearl_journal.specs.Readings.{Reading};
 ghost use Rattle.pearl_journal.specs.Texts.{quoted};
 ghost use Rattle.pearl_journal.specs.Words.{number};
@@ -76,4 +81,37 @@ pub fn moments_have_an_end()
     ensures past_it { (setup : Setup) (reading : Reading) (line digits : List ℕ) (n : ℕ) →
         SaysWordAndText line (codes "tick") digits → EndsInNoReturn line → length line ≤ 1024 → number digits ≡ Some n →
         2 ^ 40 < reading.moment + n → meaning setup reading line ≡ Wrong 3 }
+{}
+
+/// Where a journal comes in pieces and one answer is taken behind each and one behind its end, its entries are those of
+/// the bytes that were taken: whichever way they are cut, the entries are the same.
+pub fn cuts_change_nothing()
+    ensures entries { (setup : Setup) (pieces : List (List ℕ)) →
+        read_pieces setup begin 0 pieces ≡ entries setup (journal_lines (taken_of pieces)) }
+    ensures same { (setup : Setup) (pieces others : List (List ℕ)) → taken_of pieces ≡ taken_of others →
+        read_pieces setup begin 0 pieces ≡ read_pieces setup begin 0 others }
+{}
+
+/// A piece that ends within a line leaves no trace: what is kept is the same as where it comes together with the next.
+/// So a byte 13 at its end counts by what follows it: before the byte 10 it is dropped, and before another byte it
+/// stands in the line.
+pub fn seams_leave_no_trace()
+    ensures joined { (kept : Kept) (front back : List ℕ) → ended_lines front ≡ [] →
+        fed (fed kept front) back ≡ fed kept (front ++ back) }
+    ensures dropped { (setup : Setup) (kept : Kept) (now : ℕ) (bytes rest : List ℕ) → ended_lines bytes ≡ [] →
+        EndsInNoReturn (kept.standing ++ bytes) →
+        answer_of setup (fed (fed kept (bytes ++ 13 ∷ [])) (10 ∷ rest)) now ≡ answer_of setup (fed kept (bytes ++ 10 ∷ rest)) now }
+    ensures stands { (kept : Kept) (bytes rest : List ℕ) (byte : ℕ) → ended_lines bytes ≡ [] → byte ≢ 10 →
+        (fed (fed kept (bytes ++ 13 ∷ [])) (byte ∷ 10 ∷ rest)).standing ≡ take 1026 (kept.standing ++ (bytes ++ 13 ∷ byte ∷ [])) }
+{}
+
+/// A line of more than 1,024 bytes is refused whole, with its number and code 1, in whatever pieces it comes; and one of
+/// at most 1,024 bytes stands whole.
+pub fn long_lines_are_refused_whole()
+    ensures refused { (setup : Setup) (kept : Kept) (now : ℕ) (pieces : List (List ℕ)) (rest : List ℕ) → HasNoWhole kept →
+        kept.standing ≡ [] → ended_lines (concat pieces) ≡ [] → EndsInNoReturn (concat pieces) → 1024 < length (concat pieces) →
+        answer_of setup (fed (fed_each kept pieces) (10 ∷ rest)) now ≡ Err (record { line = kept.lines + 1; code = 1 }) }
+    ensures whole { (kept : Kept) (pieces : List (List ℕ)) (rest : List ℕ) → HasNoWhole kept →
+        kept.standing ≡ [] → ended_lines (concat pieces) ≡ [] → length (concat pieces) ≤ 1024 →
+        (fed (fed_each kept pieces) (10 ∷ rest)).standing ≡ concat pieces }
 {}

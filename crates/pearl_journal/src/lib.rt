@@ -1,6 +1,6 @@
-//! Reads a journal from left to right: its lines, and what each of them means over the tables of a run.
+//! Reads a journal from left to right, in pieces: its lines, and what each of them means over the tables of a run.
 //!
-//! [`lines::next_line`] cuts the next line off, and [`reading::Reading::read`] tells what it means after all before.
+//! [`lines::Lines`] takes the bytes as they come, and tells of each whole line what it means after all before.
 #![tactic(auto)]
 
 mod devices;

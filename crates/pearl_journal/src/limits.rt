@@ -3,6 +3,9 @@
 /// The most bytes that a line may have, its end not counted.
 pub const LINE_LIMIT: usize = 1024;
 
+/// So many bytes make a line too long, whatever stands behind them: one byte 13 at its end is not counted.
+pub const LINE_ROOM: usize = 1026;
+
 /// The most bytes that a name may have.
 pub const NAME_LIMIT: usize = 63;
 
