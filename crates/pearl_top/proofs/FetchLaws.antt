@@ -31,16 +31,16 @@ front_more held later name bytes into rest piece place count some same far front
     (ap (λ x. bytes ++ x) is)).0
 
 -- all of the file was read
-pub ends_whole : (r : Result (Unit {0}) Failure) (held later : Option Files) (name into : List ℕ) (place : ℕ) (kept last after : Kept) (seen there now : Seen)
+pub ends_whole : (r : Result (Unit {0}) Failure) (held later : Option Files) (name into : List ℕ) (place count : ℕ) (kept last after : Kept) (seen there now : Seen)
     (old between new : Option (List ℕ)) (rose failed wider : Type 0) → (failed → wider) → seen.state.core.moment ≡ 0 → place ≤ JOURNAL_LIMIT → later ≡ held →
-    ((files : Files) → later ≡ Some files → IsPiece (content files name) place 0 into) → Progress held name place kept seen there old between →
+    ((files : Files) → later ≡ Some files → IsPiece (content files name) place count into) → count ≡ 0 → Progress held name place kept seen there old between →
     ((setup : Setup) (now : ℕ) → read_on setup last now [] ≡ read_on setup kept now []) → after.is_finished ≡ true → OnOk r (HasNoWhole after) →
     OnOk r (Carried last there [] after now between new) → IfErr r (λ why. IsFailure why last there [] now between new failed) →
     (file : List ℕ) × MayHave held name file × CarriesOut r file rose wider seen now old new
-ends_whole r held later name into place kept last after seen there now old between new rose failed wider widen start within same pieces progress ends finished h done fails =
+ends_whole r held later name into place count kept last after seen there now old between new rose failed wider widen start within same pieces none progress ends finished h done fails =
     let bytes : List ℕ = progress.bytes in
     let all : (files : Files) → held ≡ Some files → bytes ≡ content files name = λ files tells.
-    let end : length (content files name) ≤ place = (pieces files (same ∙ tells)).end refl in
+    let end : length (content files name) ≤ place = (pieces files (same ∙ tells)).end none in
     progress.front files tells ∙ take_all (length bytes) (content files name) (omega (arith, end, progress.far)) in (
       explained held name bytes,
       may_have held name bytes,
@@ -69,15 +69,19 @@ ends_fault held name place kept seen now old new rose failed cause start within 
 
 -- ONE MORE PIECE
 
+-- how long it is
+pub piece_size : (into rest : List ℕ) (some : ℕ) → some ≤ length into → length (take some (into ++ rest)) ≡ some
+piece_size into rest some less = omega (arith, length-take some (into ++ rest), length-append into rest)
+
 -- it was carried out
-pub progress_more : (held later : Option Files) (name into rest piece : List ℕ) (place count : ℕ) (kept after : Kept) (seen there now : Seen)
-    (old between new : Option (List ℕ)) → later ≡ held → ((files : Files) → later ≡ Some files → IsPiece (content files name) place count into) →
-    piece ≡ take count (into ++ rest) → length piece ≡ count → Progress held name place kept seen there old between → Carried kept there piece after now between new →
+pub progress_more : (held later : Option Files) (name into rest piece : List ℕ) (place count some : ℕ) (kept after : Kept) (seen there now : Seen)
+    (old between new : Option (List ℕ)) → later ≡ held → ((files : Files) → later ≡ Some files → IsPiece (content files name) place count into) → some ≤ count →
+    piece ≡ take some (into ++ rest) → length piece ≡ count → Progress held name place kept seen there old between → Carried kept there piece after now between new →
     Progress held name (place + count) after seen now old new
-progress_more held later name into rest piece place count kept after seen there now old between new same pieces is long progress carried = record {
+progress_more held later name into rest piece place count some kept after seen there now old between new same pieces less is long progress carried = record {
   bytes = progress.bytes ++ piece;
   far = omega (arith, length-append progress.bytes piece, progress.far, long);
-  front = front_more held later name progress.bytes into rest piece place count count same progress.far progress.front pieces (omega arith) is;
+  front = front_more held later name progress.bytes into rest piece place count some same progress.far progress.front pieces less is;
   carried = carried-then begin kept after seen there now progress.bytes piece old between new progress.carried carried;
 }
 

@@ -1,5 +1,6 @@
 -- One part of a journal after another.
 use Rattle.std.proofs.Common.{◌≡◌, ◌⊎◌, ◌<◌, ℕ, zero, suc, Bool, true, false, ◌==◌, length, arith, List, [], ◌∷◌, ◌++◌, Option, Result, Ok, Err, refl, ap, sym, ◌∙◌, subst, inl, inr, append_assoc, take, drop}
+use Rattle.std.proofs.lemmas.Bool.{eqb-true}
 use Rattle.std.proofs.lemmas.List.{take-append-drop}
 use Rattle.pearl_io.specs.Outside.{Takes, TakesFront}
 use Rattle.pearl_io.proofs.Pieces.{takes_more, takes_front_more}
@@ -327,18 +328,14 @@ pub more_front : (piece bytes left : List ℕ) (n : ℕ) → piece ≡ bytes ++ 
 more_front piece bytes left n e =
     e ∙ ap (λ x. bytes ++ x) (sym (take-append-drop n left)) ∙ sym (append_assoc bytes (take n left) (drop n left))
 
-zero_of : (n : ℕ) (b : Bool) → b ≡ (n == 0) → b ≡ true → n ≡ 0
-zero_of zero b is yes = refl
-zero_of (suc n) b is yes = absurd (cc)
-
 -- as the code asks whether bytes are left
 pub some_left : (b : Bool) (n : ℕ) → b ≡ (n == 0) → b ≡ false → 0 < n
-some_left b zero is no = absurd (cc)
-some_left b (suc n) is no = omega arith
+some_left b zero is more = absurd (cc)
+some_left b (suc n) is more = omega arith
 
 pub none_left : (b : Bool) (bytes : List ℕ) → b ≡ (length bytes == 0) → b ≡ true → bytes ≡ []
-none_left b [] is yes = refl
-none_left b (byte ∷ bytes) is yes = absurd (omega (arith, zero_of (length (byte ∷ bytes)) b is yes))
+none_left b [] is empty = refl
+none_left b (byte ∷ bytes) is empty = absurd (omega (arith, eqb-true (length (byte ∷ bytes)) 0 (sym is ∙ empty)))
 
 -- AT THE START
 

@@ -72,13 +72,13 @@ fn carry_out<S: Shelf, K: Sink>(
         let left = (JOURNAL_LIMIT - place) as usize;
         let wanted = PIECE.min(left + 1);
         let count = match shelf.fetch(journal, place, &mut buffer[..wanted]) {
-            Ok(0) => {
-                lines.finish();
-                return carry_out_line(machine, lines, sink);
-            }
             Ok(count) => count,
             Err(Failed) => return Err(Failure::Refused(Refusal::Read)),
         };
+        if count == 0 {
+            lines.finish();
+            return carry_out_line(machine, lines, sink);
+        }
         carry_out_piece(machine, lines, &buffer[..count.min(left)], sink)?;
         if count > left {
             return Err(Failure::Refused(Refusal::TooLong(JOURNAL_LIMIT + 1)));

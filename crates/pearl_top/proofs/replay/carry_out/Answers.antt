@@ -1,8 +1,8 @@
-use Rattle.std.proofs.Common.{[], refl, ap, ◌∙◌, arith}
+use Rattle.std.proofs.Common.{◌≡◌, [], ◌++◌, length, take, drop, refl, ap, ◌∙◌, arith}
 use Rattle.std.proofs.lemmas.Result.{err_from_is_err_and}
 use Rattle.pearl_io.proofs.Counts.{failed_since, rose_since}
 use Rattle.pearl_journal.specs.Pieces.{Kept}
-use Rattle.pearl_top.proofs.FetchLaws.{ends_failed, ends_fault, ends_long, ends_whole, progress_more}
+use Rattle.pearl_top.proofs.FetchLaws.{ends_failed, ends_fault, ends_long, ends_whole, piece_size, progress_more}
 use Rattle.pearl_top.proofs.LineLaws.{begins_carried, begins_open}
 use Rattle.pearl_top.proofs.replay.carry_out.Goals as goal
 
@@ -20,12 +20,12 @@ pieces-init g c = record {
   sink_later = omega arith;
 }
 
-pub returns-in-Ok-eq0-clause-ends : goal.returns-in-Ok-eq0-clause-ends
-returns-in-Ok-eq0-clause-ends g c =
+pub returns-then-count-eq0-clause-ends : goal.returns-then-count-eq0-clause-ends
+returns-then-count-eq0-clause-ends g c =
     let inv = c.pieces.invariant in
-    ends_whole c.carry_out_line.result _ (g.S.Shelf.holds c.pieces.shelf) c.args.journal.now c.fetch.new.into c.pieces.place c.pieces.lines c.finish.new.self c.carry_out_line.new.lines
+    ends_whole c.carry_out_line.result _ (g.S.Shelf.holds c.pieces.shelf) c.args.journal.now c.fetch.new.into c.pieces.place c.in-Ok.count c.pieces.lines c.finish.new.self c.carry_out_line.new.lines
     c.args.machine.now c.pieces.machine c.carry_out_line.new.machine _ _ _ _ _ _ (failed_since _ _ _ _ inv.sink_later) c.requires.moment inv.within inv.held
-    c.in-Ok-eq0.ensures.piece inv.progress c.finish.ensures.read (c.carry_out_line.ensures.finished ∙ ap (λ (k : Kept). k.is_finished) c.finish.ensures.finished)
+    c.in-Ok.ensures.piece c.if-count-eq0.true inv.progress c.finish.ensures.read (c.carry_out_line.ensures.finished ∙ ap (λ (k : Kept). k.is_finished) c.finish.ensures.finished)
     c.carry_out_line.ensures.no_whole c.carry_out_line.ensures.ok c.carry_out_line.ensures.err
 
 pub returns-in-Err-clause-ends : goal.returns-in-Err-clause-ends
@@ -46,16 +46,18 @@ pub returns-then-count-left-clause-ends : goal.returns-then-count-left-clause-en
 returns-then-count-left-clause-ends g c =
     let inv = c.pieces.invariant in
     ends_long _ (g.S.Shelf.holds c.pieces.shelf) c.args.journal.now c.fetch.new.into _ _ c.pieces.place c.in-Ok.count c.min.result c.pieces.lines c.carry_out_piece.new.lines
-    c.args.machine.now c.pieces.machine c.carry_out_piece.new.machine _ _ _ _ ⊥ c.requires.moment inv.held c.in-Ok.ensures.piece (omega arith) (omega (arith, inv.within)) refl
-    (omega arith) c.in_ok-carry_out_piece.ensures.no_whole inv.progress c.in_ok-carry_out_piece.ensures.ok
+    c.args.machine.now c.pieces.machine c.carry_out_piece.new.machine _ _ _ ⊥ ⊥ c.requires.moment inv.held c.in-Ok.ensures.piece (omega arith) (omega (arith, inv.within)) refl
+    (piece_size c.fetch.new.into _ c.min.result (omega (arith, c.in-Ok.ensures.bound, c.fetch.auto.into))) c.in_ok-carry_out_piece.ensures.no_whole inv.progress c.in_ok-carry_out_piece.ensures.ok
 
 pub pieces-preserved : goal.pieces-preserved
 pieces-preserved g c =
-    let inv = c.pieces.invariant in record {
-      progress = progress_more _ (g.S.Shelf.holds c.pieces.shelf) c.args.journal.now c.fetch.new.into _ _ c.pieces.place c.in-Ok.count c.pieces.lines c.carry_out_piece.new.lines
-          c.args.machine.now c.pieces.machine c.carry_out_piece.new.machine _ _ _ inv.held c.in-Ok.ensures.piece (?) (?) inv.progress c.in_ok-carry_out_piece.ensures.ok;
+    let inv = c.pieces.invariant in
+    let size : length (take c.min.result (c.fetch.new.into ++ drop c.min-wanted.result c.pieces.buffer)) ≡ c.in-Ok.count =
+    piece_size c.fetch.new.into (drop c.min-wanted.result c.pieces.buffer) c.min.result (omega (arith, c.in-Ok.ensures.bound, c.fetch.auto.into)) ∙ omega arith in record {
+      progress = progress_more _ (g.S.Shelf.holds c.pieces.shelf) c.args.journal.now c.fetch.new.into _ _ c.pieces.place c.in-Ok.count c.min.result c.pieces.lines c.carry_out_piece.new.lines
+          c.args.machine.now c.pieces.machine c.carry_out_piece.new.machine _ _ _ inv.held c.in-Ok.ensures.piece (omega arith) refl size inv.progress c.in_ok-carry_out_piece.ensures.ok;
       within = omega (arith, inv.within);
-      counted = omega (arith, inv.counted, c.in_ok-carry_out_piece.ensures.counted);
+      counted = omega (arith, size, inv.counted, c.in_ok-carry_out_piece.ensures.counted);
       no_whole = c.in_ok-carry_out_piece.ensures.no_whole;
       unfinished = c.carry_out_piece.ensures.unfinished;
       taken = c.in_ok-carry_out_piece.ensures.all;
