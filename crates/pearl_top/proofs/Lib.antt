@@ -17,3 +17,4 @@ pub mod Completeness
 pub mod OneProgram
 pub mod OneOutcome
 pub mod Explained
+pub mod FetchLaws

@@ -1,5 +1,5 @@
 -- How a run over a journal ends, from how its lines ended.
-use Rattle.std.proofs.Common.{◌≡◌, ℕ, List, [], ◌++◌, Option, None, Err, refl, ap, sym, ◌∙◌, subst, append_assoc}
+use Rattle.std.proofs.Common.{◌≡◌, ℕ, ◌+◌, ◌≤◌, List, [], ◌++◌, Option, None, Err, Bool, true, false, length, nat_le, take, refl, ap, sym, ◌∙◌, subst, append_assoc}
 use Rattle.pearl_io.specs.Outside.{Takes, TakesFront}
 use Rattle.pearl_io.proofs.Pieces.{takes_more}
 use Rattle.pearl_rules.specs.declared.entry.Entry.{Entry}
@@ -26,13 +26,15 @@ use Rattle.pearl_top.specs.Status.{status_of}
 use Rattle.pearl_journal.specs.Entries.{Ending, Entries, All, Bad, entries}
 use Rattle.pearl_journal.specs.Readings as readings
 use Rattle.pearl_journal.proofs.FitLaws.{entries-fit}
-use Rattle.pearl_top.specs.JournalDue.{opening_lines, IsRun, JournalDue}
+use Rattle.pearl_journal.specs.Lines.{ended_lines}
+use Rattle.pearl_top.specs.declared.limits.TheConstants.{JOURNAL_LIMIT}
+use Rattle.pearl_top.specs.JournalDue.{handled, opening_lines, IsRun, JournalDue}
 use Rattle.pearl_top.specs.Transcript.{Close, Closed, Cut, IsTranscript}
 use Rattle.pearl_top.specs.Taken.{Finishes, Leaves, Stops}
-use Rattle.pearl_top.specs.Replay.{started, Advances, Breaks, LinesDone, LinesBroken, IsLinesFailure}
-use Rattle.pearl_top.proofs.ReplayLaws.{advances-opened, advances-then, advances-settles, breaks-then}
+use Rattle.pearl_top.specs.Replay.{started, Advances, Breaks, CarriesOut, LinesDone, LinesBroken}
+use Rattle.pearl_top.proofs.ReplayLaws.{advances-none, advances-opened, advances-then, advances-settles, breaks-behind, breaks-then}
 use Rattle.pearl_top.specs.Ready.{IsReadyFor}
-use Rattle.pearl_top.proofs.DueLaws.{Covers}
+use Rattle.pearl_top.proofs.DueLaws.{handled-whole, le_of_true, lt_of_false}
 use Rattle.pearl_top.proofs.LineLaws.{cut_off}
 use Rattle.pearl_top.proofs.TranscriptLaws.{machine_closing}
 use Rattle.pearl_top.proofs.Endings.{closes, cuts, Follows, breaks_off}
@@ -166,57 +168,90 @@ leaves_unclosed p o lines before seen old mid new due came same handles settled 
     (subst (λ bytes. due statuses.Done (told ++ bytes)) (sym (append_nil closing)) (is_due (told ++ closing) (closed_run p o lines seen old mid there settled)))
     there.taken (subst (λ held. TakesFront mid new (machine_closing (setup_of held) seen.state)) came.comes.object takes)
 
--- THE LINES WERE NOT CARRIED OUT
+-- WHERE WRITING FAILED
+
+-- what comes behind these bytes, for each close of a transcript
+abbrev Continues : PlainProg → List Entry → List ℕ → Type 0
+Continues p es told = (close : Close) → Follows p es close told
+
+-- where all lines were accepted: the closing lines, or the line of a journal that is too long
+broken_all : (p : PlainProg) (journal : List ℕ) (rose : Type 0) (es : List Entry) (told : List ℕ) (fits : Bool) → fits ≡ nat_le (length journal) JOURNAL_LIMIT →
+    entries (tables_of p) (handled journal) ≡ record { accepted = es; ending = All } → Continues p es told →
+    (s : Status) × (rest : List ℕ) × JournalDue p journal rose s (opening_lines p ++ (told ++ rest))
+broken_all p journal rose es told true fits read follows =
+    let within : length journal ≤ JOURNAL_LIMIT = le_of_true (length journal) JOURNAL_LIMIT (sym fits) in
+    let whole : Follows p es Closed told = follows Closed in (
+      statuses.Done,
+      whole.rest,
+      (within, record { es = es; read = ap (entries (tables_of p)) (sym (handled-whole journal within)) ∙ read; written = whole.whole }),
+    )
+broken_all p journal rose es told false fits read follows =
+    let whole : Follows p es (Cut (refusal.TooLong (JOURNAL_LIMIT + 1))) told = follows (Cut (refusal.TooLong (JOURNAL_LIMIT + 1))) in (
+      statuses.TooLong,
+      whole.rest,
+      (lt_of_false (length journal) JOURNAL_LIMIT (sym fits), record { es = es; read = read; written = whole.whole }),
+    )
+
+-- some status and some bytes behind these are due for the journal
+broken_at : (p : PlainProg) (journal : List ℕ) (rose : Type 0) (es : List Entry) (ending : Ending) (told : List ℕ) →
+    entries (tables_of p) (handled journal) ≡ record { accepted = es; ending = ending } → Continues p es told →
+    (s : Status) × (rest : List ℕ) × JournalDue p journal rose s (opening_lines p ++ (told ++ rest))
+broken_at p journal rose es All told read follows = broken_all p journal rose es told (nat_le (length journal) JOURNAL_LIMIT) refl read follows
+broken_at p journal rose es (Bad line code) told read follows =
+    let whole : Follows p es (Cut (refusal.Journal line code)) told = follows (Cut (refusal.Journal line code)) in
+    (statuses.BadJournal, whole.rest, record { line = line; code = code; run = record { es = es; read = read; written = whole.whole } })
+
+-- where the machine has come to on the way over the entries of a journal, some status and some bytes are due
+due_behind : (p : PlainProg) (o : Object) (journal : List ℕ) (rose : Type 0) (es : List Entry) (ending : Ending) (told : List (ℕ × Report)) → IsFaithfulTo p o →
+    entries (tables_of p) (handled journal) ≡ record { accepted = es; ending = ending } → Breaks (started o) es told →
+    (s : Status) × (rest : List ℕ) × JournalDue p journal rose s (opening_lines p ++ (lines_of (setup_of o) told ++ rest))
+due_behind p o journal rose es ending told faithful read breaks =
+    broken_at p journal rose es ending (lines_of (setup_of o) told) read
+    (λ close. breaks_off p o es told close faithful (read_fits p o (handled journal) es ending faithful read) breaks)
 
 -- a front of the opening lines was taken
 pub leaves_unopened : (p : PlainProg) (journal : List ℕ) (rose failed : Type 0) (seen : Seen) (old new : Option (List ℕ)) (later : List (ℕ × Report)) → failed →
     IsReadyFor p seen → IsCutOff (setup_of seen.object) old new seen.state.core.told later → Leaves old new failed (JournalDue p journal rose) (Err failure.WriteFault)
 leaves_unopened p journal rose failed seen old new later cause ready cut =
-    let front : TakesFront old new (opening_lines p) =
-    subst (TakesFront old new) (opened_as p seen ready) (cut_off (setup_of seen.object) old new seen.state.core.told later cut) in
-    (cause, stops_short old new (JournalDue p journal rose) statuses.NoMemory (opening_lines p) (refusal_line refusal.Memory) refl front)
-
--- there was no memory for the journal
-pub leaves_unread : (p : PlainProg) (journal : List ℕ) (rose : Type 0) (seen : Seen) (old new : Option (List ℕ)) → IsReadyFor p seen →
-    Takes old new (lines_of (setup_of seen.object) seen.state.core.told) →
-    Finishes old new (λ bytes. JournalDue p journal rose statuses.NoMemory (bytes ++ refusal_line refusal.Memory))
-leaves_unread p journal rose seen old new ready taken =
-    record { bytes = opening_lines p; is_due = refl; taken = subst (Takes old new) (opened_as p seen ready) taken }
-
--- some status and some bytes behind these belong to the lines
-broken_at : (p : PlainProg) (journal : List ℕ) (rose : Type 0) (lines : List (List ℕ)) (status : Status) (last : Close) (es : List Entry) (ending : Ending)
-    (told : List ℕ) → Covers p journal rose lines status last → entries (tables_of p) lines ≡ record { accepted = es; ending = ending } →
-    ((end : Close) → (rest : List ℕ) × IsTranscript p es end (opening_lines p ++ (told ++ rest))) →
-    (s : Status) × (rest : List ℕ) × JournalDue p journal rose s (opening_lines p ++ (told ++ rest))
-broken_at p journal rose lines status last es All told covers read follows =
-    let whole = follows last in
-    (status, whole.0, covers.all (opening_lines p ++ (told ++ whole.0)) (record { es = es; read = read; written = whole.1 }))
-broken_at p journal rose lines status last es (Bad line code) told covers read follows =
-    let whole = follows (Cut (refusal.Journal line code)) in
-    (statuses.BadJournal, whole.0, covers.bad line code (opening_lines p ++ (told ++ whole.0)) (record { es = es; read = read; written = whole.1 }))
+    let o : Object = seen.object in
+    let found : Entries = entries (tables_of p) (handled journal) in
+    let start : Advances (started o) (started o) [] [] = advances-none (started o) in
+    let breaks : Breaks (started o) found.accepted [] =
+    breaks-behind (started o) [] found.accepted [] (record { after = started o; left = []; handles = start.handles }) in
+    let due : (s : Status) × (rest : List ℕ) × JournalDue p journal rose s (opening_lines p ++ rest) =
+    due_behind p o journal rose found.accepted found.ending [] ready.faithful refl breaks in
+    let front : TakesFront old new (opening_lines p) = subst (TakesFront old new) (opened_as p seen ready) (cut_off (setup_of o) old new seen.state.core.told later cut) in
+    (cause, stops_short old new (JournalDue p journal rose) due.0 (opening_lines p) due.1 due.2 front)
 
 -- the output of a line was not taken whole
-leaves_broken : (p : PlainProg) (o : Object) (journal : List ℕ) (rose : Type 0) (lines : List (List ℕ)) (status : Status) (last : Close) (opened : Seen)
-    (old mid new : Option (List ℕ)) → Begun p o opened old mid → Covers p journal rose lines status last →
-    LinesBroken (setup_of opened.object) lines opened mid new → Stops old new (JournalDue p journal rose)
-leaves_broken p o journal rose lines status last opened old mid new start covers at_lines =
-    let broken : LinesBroken (setup_of o) lines opened mid new = subst (λ held. LinesBroken (setup_of held) lines opened mid new) start.opens.object at_lines in
+leaves_broken : (p : PlainProg) (o : Object) (journal : List ℕ) (rose : Type 0) (opened : Seen) (old mid new : Option (List ℕ)) → Begun p o opened old mid →
+    LinesBroken (setup_of opened.object) (handled journal) opened mid new → Stops old new (JournalDue p journal rose)
+leaves_broken p o journal rose opened old mid new start at_lines =
+    let broken : LinesBroken (setup_of o) (handled journal) opened mid new =
+    subst (λ held. LinesBroken (setup_of held) (handled journal) opened mid new) start.opens.object at_lines in
     let breaks : Breaks (started o) broken.es broken.told = breaks-then (started o) opened [] broken.es [] broken.told start.opens broken.breaks in
-    let told : List ℕ = lines_of (setup_of o) broken.told in
-    let read = read_as p (setup_of o) lines _ start.faithful.tables broken.read in
-    let fit = read_fits p o lines broken.es broken.ending start.faithful read in
-    let due : (s : Status) × (rest : List ℕ) × JournalDue p journal rose s (opening_lines p ++ (told ++ rest)) =
-    broken_at p journal rose lines status last broken.es broken.ending told covers read
-    (λ end. let front : Follows p broken.es end told = breaks_off p o broken.es broken.told end start.faithful fit breaks in (front.rest, front.whole)) in
-    stops_in old mid new (JournalDue p journal rose) due.0 (opening_lines p) told due.1 due.2 start.taken broken.taken
+    let read = read_as p (setup_of o) (handled journal) _ start.faithful.tables broken.read in
+    let due = due_behind p o journal rose broken.es broken.ending broken.told start.faithful read breaks in
+    stops_in old mid new (JournalDue p journal rose) due.0 (opening_lines p) (lines_of (setup_of o) broken.told) due.1 due.2 start.taken broken.taken
 
--- the lines failed
-pub leaves_failed : (p : PlainProg) (o : Object) (journal : List ℕ) (rose failed wider : Type 0) (lines : List (List ℕ)) (status : Status) (last : Close)
-    (opened after : Seen) (old mid new : Option (List ℕ)) (why : Failure) → (failed → wider) → Begun p o opened old mid →
-    Covers p journal rose lines status last → IsLinesFailure why lines opened after mid new failed → Leaves old new wider (JournalDue p journal rose) (Err why)
-leaves_failed p o journal rose failed wider lines status last opened after old mid new (failure.Refused why) widen start covers fails =
-    subst (λ r. Leaves old new wider (JournalDue p journal rose) (Err (failure.Refused r))) (sym fails.2)
-    (leaves_cut p o lines (Bad fails.0 fails.1) after old new (refusal.Journal fails.0 fails.1) (JournalDue p journal rose)
-    (reached p o lines (Bad fails.0 fails.1) opened after old mid new start fails.3) (covers.bad fails.0 fails.1))
-leaves_failed p o journal rose failed wider lines status last opened after old mid new failure.WriteFault widen start covers fails =
-    (widen fails.0, leaves_broken p o journal rose lines status last opened old mid new start covers fails.1)
+-- WHERE THE JOURNAL WAS NOT CARRIED OUT TO ITS END
+
+pub leaves_failed : (p : PlainProg) (o : Object) (journal : List ℕ) (rose failed wider : Type 0) (opened after : Seen) (old mid new : Option (List ℕ)) (why : Failure) →
+    (failed → wider) → Begun p o opened old mid → CarriesOut (Err why) journal rose failed opened after mid new → Leaves old new wider (JournalDue p journal rose) (Err why)
+leaves_failed p o journal rose failed wider opened after old mid new (failure.Refused refusal.Usage) widen start ends = absurd ends
+leaves_failed p o journal rose failed wider opened after old mid new (failure.Refused (refusal.Syntax place)) widen start ends = absurd ends
+leaves_failed p o journal rose failed wider opened after old mid new (failure.Refused (refusal.Source place rule)) widen start ends = absurd ends
+leaves_failed p o journal rose failed wider opened after old mid new (failure.Refused (refusal.Journal line code)) widen start ends =
+    leaves_cut p o (handled journal) (Bad line code) after old new (refusal.Journal line code) (JournalDue p journal rose)
+    (reached p o (handled journal) (Bad line code) opened after old mid new start ends) (λ bytes run. record { line = line; code = code; run = run })
+leaves_failed p o journal rose failed wider opened after old mid new (failure.Refused refusal.Read) widen start ends =
+    let lines : List (List ℕ) = ended_lines (take ends.1 journal) in
+    leaves_cut p o lines All after old new refusal.Read (JournalDue p journal rose) (reached p o lines All opened after old mid new start ends.3)
+    (λ bytes run. (ends.0, record { count = ends.1; within = ends.2; run = run }))
+leaves_failed p o journal rose failed wider opened after old mid new (failure.Refused refusal.Memory) widen start ends = absurd ends
+leaves_failed p o journal rose failed wider opened after old mid new (failure.Refused (refusal.TooLong count)) widen start ends =
+    subst (λ n. Leaves old new wider (JournalDue p journal rose) (Err (failure.Refused (refusal.TooLong n)))) (sym ends.0)
+    (leaves_cut p o (handled journal) All after old new (refusal.TooLong (JOURNAL_LIMIT + 1)) (JournalDue p journal rose)
+    (reached p o (handled journal) All opened after old mid new start ends.2) (λ bytes run. (ends.1, run)))
+leaves_failed p o journal rose failed wider opened after old mid new failure.WriteFault widen start ends =
+    (widen ends.0, leaves_broken p o journal rose opened old mid new start ends.1)

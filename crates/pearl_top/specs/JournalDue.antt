@@ -1,15 +1,14 @@
 -- What is due at and after the journal of an accepted source.
-use Rattle.std.specs.Prelude.{◌≡◌, ℕ, ◌+◌, ◌<◌, ◌≤◌, List, ◌++◌, length, take, nat_le, Bool, true, false}
+use Rattle.std.specs.Prelude.{◌≡◌, ℕ, ◌+◌, ◌<◌, ◌≤◌, List, length, take, nat_le, Bool, true, false}
 use Rattle.pearl_rules.specs.declared.entry.Entry.{Entry}
 use Rattle.pearl_rules.specs.Core.{first_events}
 use Rattle.pearl_program.specs.PlainPrograms.{PlainProg}
 use Rattle.pearl_meaning.specs.ProgramRuns.{setup_of as tables_of}
 use Rattle.pearl_script.specs.declared.refusal.Refusal.TheVariants as refusal
 use Rattle.pearl_script.specs.Lines.{lines_of}
-use Rattle.pearl_script.specs.Refusals.{refusal_line}
 use Rattle.pearl_top.specs.declared.limits.TheConstants.{JOURNAL_LIMIT}
 use Rattle.pearl_top.specs.declared.status.Status.{Status}
-use Rattle.pearl_top.specs.declared.status.Status.TheVariants.{Done, BadJournal, ReadFault, NoMemory, TooLong}
+use Rattle.pearl_top.specs.declared.status.Status.TheVariants.{Done, BadJournal, ReadFault, TooLong}
 use Rattle.pearl_journal.specs.Entries.{Ending, All, Bad, entries}
 use Rattle.pearl_journal.specs.Lines.{journal_lines, ended_lines}
 use Rattle.pearl_top.specs.Transcript.{Close, Closed, Cut, IsTranscript}
@@ -45,12 +44,11 @@ pub record IsReadFault (p : PlainProg) (journal bytes : List ℕ) : Type 0 where
   pub run : IsRun p (ended_lines (take count journal)) All (Cut refusal.Read) bytes
 
 -- What is due with each way to end at or after the journal of an accepted source: all its lines were accepted; one was refused; it
--- has too many bytes; reading it failed, where its count of faults rose; there was no memory for it.
+-- has too many bytes; reading it failed, where its count of faults rose. Memory can't be out any more.
 abbrev pub JournalDue : PlainProg → List ℕ → Type 0 → Status → List ℕ → Type 0
 JournalDue p journal rose Done bytes = (length journal ≤ JOURNAL_LIMIT) × IsRun p (journal_lines journal) All Closed bytes
 JournalDue p journal rose BadJournal bytes = IsBadJournal p journal bytes
 JournalDue p journal rose TooLong bytes =
     (JOURNAL_LIMIT < length journal) × IsRun p (handled journal) All (Cut (refusal.TooLong (JOURNAL_LIMIT + 1))) bytes
 JournalDue p journal rose ReadFault bytes = rose × IsReadFault p journal bytes
-JournalDue p journal rose NoMemory bytes = bytes ≡ opening_lines p ++ refusal_line refusal.Memory
 JournalDue p journal rose status bytes = ⊥

@@ -7,6 +7,7 @@ ghost use Rattle.pearl_script.specs.declared.refusal.Refusal.TheVariants as refu
 
 use pearl_check::fault::CheckFault;
 use pearl_io::WriteFault;
+use pearl_journal::lines::BadLine;
 use pearl_lex::fault::LexFault;
 use pearl_parse_expr::fault::ParseFault;
 use pearl_script::refusal::Refusal;
@@ -71,5 +72,16 @@ impl From<CheckFault> for Failure {
             }),
             CheckFault::NoMemory => Failure::Refused(Refusal::Memory),
         }
+    }
+}
+
+impl From<BadLine> for Failure {
+    ghost from_gives = { λ bad e. e ≡ failure.Refused (refusal.Journal bad.line bad.code) };
+
+    fn from(bad: BadLine) -> Failure {
+        Failure::Refused(Refusal::Journal {
+            line: bad.line,
+            code: bad.code,
+        })
     }
 }

@@ -1,44 +1,36 @@
 // A machine's run over a journal.
 
-ghost use Rattle.std.specs.Prelude.{◌≡◌, ◌+◌, ◌^◌, ◌<◌, ◌≤◌, ℕ, List, [], length, IfErr, OnOk};
+ghost use Rattle.std.specs.Prelude.{◌≡◌, ◌+◌, ◌^◌, ◌<◌, ◌≤◌, ℕ, List, [], length, false, IfErr, OnOk};
 ghost use Rattle.pearl_io.specs.Outside.{CountRose, WriteFailed};
 ghost use Rattle.pearl_program.specs.PlainPrograms.{PlainProg};
-ghost use Rattle.pearl_engine.specs.Setups.{setup_of};
-ghost use Rattle.pearl_journal.specs.Entries.{All, after as after_line};
-ghost use Rattle.pearl_journal.specs.Meaning.{meaning};
+ghost use Rattle.pearl_journal.specs.Pieces.{HasNoWhole, begin};
 ghost use Rattle.pearl_top.specs.JournalDue.{JournalDue};
 ghost use Rattle.pearl_top.specs.Reading.{MayHave};
 ghost use Rattle.pearl_top.specs.Ready.{IsReadyFor};
-ghost use Rattle.pearl_top.specs.Replay.{IsLineFailure, IsLinesFailure, LineDone, LinesDone, lines_in};
+ghost use Rattle.pearl_top.specs.Replay.{Carried, CarriesOut, IsFailure};
 ghost use Rattle.pearl_top.specs.Taken.{Leaves};
 
 use crate::failure::Failure;
 use crate::limits::JOURNAL_LIMIT;
-use pearl_io::{Fetched, Shelf, Sink, fetch_all};
-use pearl_journal::lines::next_line;
-use pearl_journal::reading::{Line, Reading};
+use pearl_io::{Failed, Shelf, Sink};
+use pearl_journal::lines::{Lines, Next};
 use pearl_machine::Machine;
 use pearl_script::refusal::Refusal;
-use std::alloc::Global;
 
-/// Which lines of some bytes count.
-#[derive(Clone, Copy, PartialEq, Eq, Debug)]
-pub enum Lines {
-    /// Also the last one, which no byte 10 ends.
-    All,
-    /// Those that a byte 10 ends.
-    Ended,
-}
+// How many bytes of the journal are fetched at once.
+const PIECE: usize = 4096;
 
-/// Runs a machine from its start over the journal, which is read after the opening lines.
+/// Runs a machine from its start over the journal, which is read after the opening lines and piece by piece. Each line is carried
+/// out as soon as its end was read.
 pub fn replay<S: Shelf, K: Sink>(
-    alloc: Global,
     machine: &mut Machine,
+    lines: &mut Lines,
     journal: &str,
     shelf: &mut S,
     sink: &mut K,
 ) -> Result<(), Failure>
-    requires { machine.old.state.core.moment ≡ 0 }
+    requires unread { lines.old ≡ begin }
+    requires moment { machine.old.state.core.moment ≡ 0 }
     ensures ends { let rose = CountRose (S.faults shelf.old journal.now) (S.faults shelf.new journal.now) in
         let failed = WriteFailed (K.faults sink.old) (K.faults sink.new) (K.full sink.new) in
         (p : PlainProg) → IsReadyFor p machine.old → (file : List ℕ) × MayHave (S.holds shelf.old) journal.now file
@@ -48,85 +40,108 @@ pub fn replay<S: Shelf, K: Sink>(
     ensures sink_later { K.faults sink.old ≤ K.faults sink.new }
 {
     machine.begin(sink)?;
-    match fetch_all(alloc, shelf, journal, JOURNAL_LIMIT) {
-        Fetched::Whole(bytes) => {
-            carry_out(machine, bytes.as_slice(), Lines::All, sink)?;
-            machine.close(sink)?;
-            Ok(())
-        }
-        Fetched::TooLong(bytes) => {
-            carry_out(machine, bytes.as_slice(), Lines::Ended, sink)?;
-            Err(Failure::Refused(Refusal::TooLong(JOURNAL_LIMIT + 1)))
-        }
-        Fetched::Fault(bytes) => {
-            carry_out(machine, bytes.as_slice(), Lines::Ended, sink)?;
-            Err(Failure::Refused(Refusal::Read))
-        }
-        Fetched::NoMemory => Err(Failure::Refused(Refusal::Memory)),
-    }
+    carry_out(machine, lines, journal, shelf, sink)?;
+    machine.close(sink)?;
+    Ok(())
 }
 
-// Carries out the lines that count, one after another.
-fn carry_out<K: Sink>(
+// Carries out the journal, one piece after another.
+fn carry_out<S: Shelf, K: Sink>(
     machine: &mut Machine,
-    journal: &[u8],
-    lines: Lines,
+    lines: &mut Lines,
+    journal: &str,
+    shelf: &mut S,
     sink: &mut K,
 ) -> Result<(), Failure>
-    requires small { length journal.now < 2 ^ 40 }
+    requires unread { lines.old ≡ begin }
     requires taken { machine.old.state.core.told ≡ [] }
     requires moment { machine.old.state.core.moment ≡ 0 }
-    ensures ok { OnOk result (LinesDone (setup_of machine.old.object) (lines_in lines journal.now) All machine.old machine.new
-        (K.taken sink.old) (K.taken sink.new)) }
-    ensures err { let failed = WriteFailed (K.faults sink.old) (K.faults sink.new) (K.full sink.new) in
-        IfErr result (λ failure. IsLinesFailure failure (lines_in lines journal.now) machine.old machine.new
-        (K.taken sink.old) (K.taken sink.new) failed) }
+    ensures ends { let rose = CountRose (S.faults shelf.old journal.now) (S.faults shelf.new journal.now) in
+        let failed = WriteFailed (K.faults sink.old) (K.faults sink.new) (K.full sink.new) in
+        (file : List ℕ) × MayHave (S.holds shelf.old) journal.now file
+        × CarriesOut result file rose failed machine.old machine.new (K.taken sink.old) (K.taken sink.new) }
     ensures object { machine.new.object ≡ machine.old.object }
     ensures all { OnOk result (machine.new.state.core.told ≡ []) }
-    ensures later { K.faults sink.old ≤ K.faults sink.new }
+    ensures held { S.holds shelf.new ≡ S.holds shelf.old }
+    ensures shelf_later { (name : List ℕ) → S.faults shelf.old name ≤ S.faults shelf.new name }
+    ensures sink_later { K.faults sink.old ≤ K.faults sink.new }
 {
-    let mut left = journal;
-    let mut reading = Reading::new();
-    'lines: while let Some((text, after)) = next_line(left) {
-        carry_out_line(machine, text, &mut reading, sink)?;
-        left = after;
-    }
-    match lines {
-        Lines::All => carry_out_line(machine, left, &mut reading, sink),
-        Lines::Ended => Ok(()),
+    let mut buffer = [0; PIECE];
+    let mut place = 0;
+    'pieces: loop {
+        let left = (JOURNAL_LIMIT - place) as usize;
+        let wanted = PIECE.min(left + 1);
+        let count = match shelf.fetch(journal, place, &mut buffer[..wanted]) {
+            Ok(count) => count,
+            Err(Failed) => return Err(Failure::Refused(Refusal::Read)),
+        };
+        if count == 0 {
+            lines.finish();
+            return carry_out_line(machine, lines, sink);
+        }
+        carry_out_piece(machine, lines, &buffer[..count.min(left)], sink)?;
+        if count > left {
+            return Err(Failure::Refused(Refusal::TooLong(JOURNAL_LIMIT + 1)));
+        }
+        place += count as u64;
     }
 }
 
-// Carries out the line that comes next.
-fn carry_out_line<K: Sink>(
+// Carries out the lines that end in a piece.
+fn carry_out_piece<K: Sink>(
     machine: &mut Machine,
-    text: &[u8],
-    reading: &mut Reading,
+    lines: &mut Lines,
+    piece: &[u8],
     sink: &mut K,
 ) -> Result<(), Failure>
-    requires counted { reading.old.lines + 1 < 2 ^ 64 }
+    requires counted { lines.old.lines + length piece.now < 2 ^ 64 }
+    requires no_whole { HasNoWhole lines.old }
+    requires unfinished { lines.old.is_finished ≡ false }
     requires taken { machine.old.state.core.told ≡ [] }
-    requires moment { machine.old.state.core.moment ≡ reading.old.moment }
-    ensures read { reading.new ≡ after_line reading.old (meaning (setup_of machine.old.object) reading.old text.now) }
-    ensures ok { OnOk result (LineDone (setup_of machine.old.object) reading.old text.now machine.old machine.new
-        (K.taken sink.old) (K.taken sink.new)) }
+    ensures ok { OnOk result (Carried lines.old machine.old piece.now lines.new machine.new (K.taken sink.old) (K.taken sink.new)) }
     ensures err { let failed = WriteFailed (K.faults sink.old) (K.faults sink.new) (K.full sink.new) in
-        IfErr result (λ failure. IsLineFailure failure reading.old text.now machine.old machine.new
+        IfErr result (λ failure. IsFailure failure lines.old machine.old piece.now machine.new
         (K.taken sink.old) (K.taken sink.new) failed) }
     ensures object { machine.new.object ≡ machine.old.object }
     ensures all { OnOk result (machine.new.state.core.told ≡ []) }
-    ensures moment { OnOk result (machine.new.state.core.moment ≡ reading.new.moment) }
+    ensures no_whole { OnOk result (HasNoWhole lines.new) }
+    ensures unfinished { lines.new.is_finished ≡ false }
+    ensures counted { OnOk result (lines.new.lines ≤ lines.old.lines + length piece.now) }
     ensures later { K.faults sink.old ≤ K.faults sink.new }
 {
-    match reading.read(machine.setup(), text) {
-        Line::Blank => Ok(()),
-        Line::Item(entry) => {
+    let mut left = piece;
+    'lines: while !left.is_empty() {
+        let count = lines.feed(left);
+        carry_out_line(machine, lines, sink)?;
+        left = &left[count..];
+    }
+    Ok(())
+}
+
+// Carries out the line that stands whole, if one does.
+fn carry_out_line<K: Sink>(
+    machine: &mut Machine,
+    lines: &mut Lines,
+    sink: &mut K,
+) -> Result<(), Failure>
+    requires counted { lines.old.lines + 1 < 2 ^ 64 }
+    requires taken { machine.old.state.core.told ≡ [] }
+    ensures ok { OnOk result (Carried lines.old machine.old [] lines.new machine.new (K.taken sink.old) (K.taken sink.new)) }
+    ensures err { let failed = WriteFailed (K.faults sink.old) (K.faults sink.new) (K.full sink.new) in
+        IfErr result (λ failure. IsFailure failure lines.old machine.old [] machine.new
+        (K.taken sink.old) (K.taken sink.new) failed) }
+    ensures object { machine.new.object ≡ machine.old.object }
+    ensures all { OnOk result (machine.new.state.core.told ≡ []) }
+    ensures no_whole { OnOk result (HasNoWhole lines.new) }
+    ensures finished { lines.new.is_finished ≡ lines.old.is_finished }
+    ensures counted { lines.new.lines ≤ lines.old.lines + 1 }
+    ensures later { K.faults sink.old ≤ K.faults sink.new }
+{
+    match lines.entry(machine.setup(), machine.now())? {
+        Next::Entry(entry) => {
             machine.entry(&entry, sink)?;
             Ok(())
         }
-        Line::Wrong(code) => {
-            let line = reading.lines();
-            Err(Failure::Refused(Refusal::Journal { line, code }))
-        }
+        Next::Blank | Next::Partial => Ok(()),
     }
 }

@@ -23,14 +23,15 @@ use crate::refuse::conclude;
 use crate::replay::replay;
 use crate::status::Status;
 use pearl_io::{Shelf, Sink, put_all};
+use pearl_journal::lines::Lines;
 use pearl_script::refusal::Refusal;
 use std::alloc::Global;
 
 /// Carries out the command of the words after the program's name: reads the files that it names from the shelf, and
 /// writes what is due to the sink. Tests hold that each line is one piece.
 ///
-/// Memory may run out before a text is printed, while a source is checked, and before the first line of a journal is
-/// carried out, and then the line `error memory` is due. What is due otherwise, and with which status, is `Due`.
+/// Memory may run out before a text is printed, while a source is checked, and before the first line of a run is
+/// written, and then the line `error memory` alone is due. What is due otherwise, and with which status, is `Due`.
 pub fn pearl<S: Shelf, K: Sink>(
     alloc: Global,
     words: &[String],
@@ -123,7 +124,8 @@ fn run<S: Shelf, K: Sink>(
 {
     let bytes = read_whole(alloc, shelf, source, SOURCE_LIMIT)?;
     let mut machine = compile(alloc, bytes.as_slice())?;
-    replay(alloc, &mut machine, journal, shelf, sink)
+    let mut lines = Lines::new(alloc)?;
+    replay(&mut machine, &mut lines, journal, shelf, sink)
 }
 
 // Carries out `check SOURCE`.

@@ -1,61 +1,68 @@
-use Rattle.std.proofs.Common.{refl, ap, sym, arith, ◌∙◌}
+use Rattle.std.proofs.Common.{◌≡◌, [], ◌++◌, length, take, drop, refl, ap, ◌∙◌, arith}
 use Rattle.std.proofs.lemmas.Result.{err_from_is_err_and}
-use Rattle.pearl_io.proofs.Counts.{failed_since}
-use Rattle.pearl_engine.specs.Setups.{setup_of}
-use Rattle.pearl_journal.specs.Meaning.{meaning}
-use Rattle.pearl_journal.specs.Readings.{Reading}
-use Rattle.pearl_top.specs.Replay.{lines_in}
-use Rattle.pearl_top.proofs.LineLaws.{lines_after, progress_start, progress_next, progress_more_at, progress_last, progress_ended, lines_fail, last_done, last_fails}
+use Rattle.pearl_io.proofs.Counts.{failed_since, rose_since}
+use Rattle.pearl_journal.specs.Pieces.{Kept}
+use Rattle.pearl_top.proofs.FetchLaws.{ends_failed, ends_fault, ends_long, ends_whole, piece_size, progress_more}
+use Rattle.pearl_top.proofs.LineLaws.{begins_carried, begins_open}
 use Rattle.pearl_top.proofs.replay.carry_out.Goals as goal
 
-pub lines-init : goal.lines-init
-lines-init g c = record {
-  progress = progress_start (setup_of c.args.machine.now.object) (lines_in c.args.lines c.args.journal.now) _ c.args.machine.now (g.K.Sink.taken c.args.sink.now)
-      c.new-reading.ensures;
-  small = omega (arith, ap (λ (reading : Reading). reading.lines) c.new-reading.ensures);
+pub pieces-init : goal.pieces-init
+pieces-init g c = record {
+  progress = record { bytes = []; far = refl; front = λ files tells. refl; carried = begins_carried c.args.lines.now c.args.machine.now _ c.requires.unread };
+  within = omega arith;
+  counted = omega (arith, ap (λ (k : Kept). k.lines) c.requires.unread);
+  no_whole = begins_open c.args.lines.now c.requires.unread;
+  unfinished = ap (λ (k : Kept). k.is_finished) c.requires.unread;
   taken = c.requires.taken;
   object = refl;
-  moment = c.requires.moment ∙ sym (ap (λ (reading : Reading). reading.moment) c.new-reading.ensures);
-  later = omega arith;
+  held = refl;
+  shelf_later = λ name. omega arith;
+  sink_later = omega arith;
 }
 
-pub returns-in_err-carry_out_line-clause-err : goal.returns-in_err-carry_out_line-clause-err
-returns-in_err-carry_out_line-clause-err g c =
+pub returns-then-count-eq0-clause-ends : goal.returns-then-count-eq0-clause-ends
+returns-then-count-eq0-clause-ends g c =
+    let inv = c.pieces.invariant in
+    ends_whole c.carry_out_line.result _ (g.S.Shelf.holds c.pieces.shelf) c.args.journal.now c.fetch.new.into c.pieces.place c.in-Ok.count c.pieces.lines c.finish.new.self c.carry_out_line.new.lines
+    c.args.machine.now c.pieces.machine c.carry_out_line.new.machine _ _ _ _ _ _ (failed_since _ _ _ _ inv.sink_later) c.requires.moment inv.within inv.held
+    c.in-Ok.ensures.piece c.if-count-eq0.true inv.progress c.finish.ensures.read (c.carry_out_line.ensures.finished ∙ ap (λ (k : Kept). k.is_finished) c.finish.ensures.finished)
+    c.carry_out_line.ensures.no_whole c.carry_out_line.ensures.ok c.carry_out_line.ensures.err
+
+pub returns-in-Err-clause-ends : goal.returns-in-Err-clause-ends
+returns-in-Err-clause-ends g c =
+    let inv = c.pieces.invariant in
+    ends_fault _ c.args.journal.now c.pieces.place c.pieces.lines c.args.machine.now c.pieces.machine _ _ _ ⊥ (rose_since _ _ _ (inv.shelf_later c.args.journal.now) c.in-Err.ensures.cause)
+    c.requires.moment inv.within inv.no_whole inv.progress
+
+pub returns-in_err-carry_out_piece-clause-ends : goal.returns-in_err-carry_out_piece-clause-ends
+returns-in_err-carry_out_piece-clause-ends g c =
+    let inv = c.pieces.invariant in
     let p = err_from_is_err_and c.from_residual.result c.from_residual.ensures.1 in
-    rw (p.1, p.2) (lines_fail _ _ c.lines.reading c.in-Some.text.now (lines_in c.args.lines c.in-Some.after.now) c.args.machine.now c.lines.machine
-    c.carry_out_line.new.machine _ _ _ c.in_err-carry_out_line.field-0.0 _ _ (failed_since _ _ _ _ c.lines.invariant.later) refl
-    (ap (λ o. setup_of o) c.lines.invariant.object)
-    (progress_next _ c.args.lines c.args.journal.now c.lines.left.now _ _ _ _ _ _ _ c.in-Some.ensures c.lines.invariant.progress)
-    c.in_err-carry_out_line.ensures.err)
+    rw (p.1, p.2) (ends_failed _ (g.S.Shelf.holds c.pieces.shelf) c.args.journal.now c.fetch.new.into _ _ c.pieces.place c.in-Ok.count c.min.result c.pieces.lines
+    c.args.machine.now c.pieces.machine c.carry_out_piece.new.machine _ _ _ c.in_err-carry_out_piece.field-0.0 _ _ _ (failed_since _ _ _ _ inv.sink_later) c.requires.moment inv.held
+    c.in-Ok.ensures.piece (omega arith) (omega (arith, inv.within)) refl inv.progress c.in_err-carry_out_piece.ensures.err)
 
-pub lines-preserved : goal.lines-preserved
-lines-preserved g c =
-    let means = meaning (setup_of c.lines.machine.object) c.lines.reading c.in-Some.text.now in record {
-      progress = progress_more_at _ _ c.lines.reading _ c.in-Some.text.now (lines_in c.args.lines c.in-Some.after.now) _ c.lines.machine _ _ _ _
-          (ap (λ o. setup_of o) c.lines.invariant.object) c.carry_out_line.ensures.read
-          (progress_next _ c.args.lines c.args.journal.now c.lines.left.now _ _ _ _ _ _ _ c.in-Some.ensures c.lines.invariant.progress) c.in_ok-carry_out_line.ensures.ok;
-      small = omega (arith, c.in-Some.ensures.2, lines_after c.lines.reading _ means c.carry_out_line.ensures.read);
-      taken = c.in_ok-carry_out_line.ensures.all;
-      object = c.carry_out_line.ensures.object ∙ c.lines.invariant.object;
-      moment = c.in_ok-carry_out_line.ensures.moment;
-      later = omega (arith, c.carry_out_line.ensures.later);
+pub returns-then-count-left-clause-ends : goal.returns-then-count-left-clause-ends
+returns-then-count-left-clause-ends g c =
+    let inv = c.pieces.invariant in
+    ends_long _ (g.S.Shelf.holds c.pieces.shelf) c.args.journal.now c.fetch.new.into _ _ c.pieces.place c.in-Ok.count c.min.result c.pieces.lines c.carry_out_piece.new.lines
+    c.args.machine.now c.pieces.machine c.carry_out_piece.new.machine _ _ _ ⊥ ⊥ c.requires.moment inv.held c.in-Ok.ensures.piece (omega arith) (omega (arith, inv.within)) refl
+    (piece_size c.fetch.new.into _ c.min.result (omega (arith, c.in-Ok.ensures.bound, c.fetch.auto.into))) c.in_ok-carry_out_piece.ensures.no_whole inv.progress c.in_ok-carry_out_piece.ensures.ok
+
+pub pieces-preserved : goal.pieces-preserved
+pieces-preserved g c =
+    let inv = c.pieces.invariant in
+    let size : length (take c.min.result (c.fetch.new.into ++ drop c.min-wanted.result c.pieces.buffer)) ≡ c.in-Ok.count =
+    piece_size c.fetch.new.into (drop c.min-wanted.result c.pieces.buffer) c.min.result (omega (arith, c.in-Ok.ensures.bound, c.fetch.auto.into)) ∙ omega arith in record {
+      progress = progress_more _ (g.S.Shelf.holds c.pieces.shelf) c.args.journal.now c.fetch.new.into _ _ c.pieces.place c.in-Ok.count c.min.result c.pieces.lines c.carry_out_piece.new.lines
+          c.args.machine.now c.pieces.machine c.carry_out_piece.new.machine _ _ _ inv.held c.in-Ok.ensures.piece (omega arith) refl size inv.progress c.in_ok-carry_out_piece.ensures.ok;
+      within = omega (arith, inv.within);
+      counted = omega (arith, size, inv.counted, c.in_ok-carry_out_piece.ensures.counted);
+      no_whole = c.in_ok-carry_out_piece.ensures.no_whole;
+      unfinished = c.carry_out_piece.ensures.unfinished;
+      taken = c.in_ok-carry_out_piece.ensures.all;
+      object = c.carry_out_piece.ensures.object ∙ inv.object;
+      held = c.fetch.ensures.held ∙ inv.held;
+      shelf_later = λ name. omega (arith, inv.shelf_later name, c.fetch.ensures.later name);
+      sink_later = omega (arith, c.carry_out_piece.ensures.later);
     }
-
-pub returns-in-All-clause-ok : goal.returns-in-All-clause-ok
-returns-in-All-clause-ok g c =
-    last_done c.carry_out_line-in-All.result _ _ c.lines.reading c.lines.left.now c.args.machine.now c.lines.machine c.carry_out_line-in-All.new.machine _ _ _
-    (ap (λ o. setup_of o) c.lines.invariant.object)
-    (progress_last _ c.args.lines c.args.journal.now c.lines.left.now _ _ _ _ _ c.in-All.is c.in_default.ensures c.lines.invariant.progress)
-    c.carry_out_line-in-All.ensures.ok
-
-pub returns-in-All-clause-err : goal.returns-in-All-clause-err
-returns-in-All-clause-err g c =
-    last_fails c.carry_out_line-in-All.result _ _ c.lines.reading c.lines.left.now c.args.machine.now c.lines.machine c.carry_out_line-in-All.new.machine _ _ _ _ _
-    (failed_since _ _ _ _ c.lines.invariant.later) refl (ap (λ o. setup_of o) c.lines.invariant.object)
-    (progress_last _ c.args.lines c.args.journal.now c.lines.left.now _ _ _ _ _ c.in-All.is c.in_default.ensures c.lines.invariant.progress)
-    c.carry_out_line-in-All.ensures.err
-
-pub returns-in-Ended-clause-ok : goal.returns-in-Ended-clause-ok
-returns-in-Ended-clause-ok g c =
-    progress_ended _ c.args.lines c.args.journal.now c.lines.left.now c.lines.reading c.args.machine.now c.lines.machine _ _ c.in-Ended.is c.in_default.ensures
-    c.lines.invariant.progress

@@ -1,18 +1,23 @@
-use Rattle.std.proofs.Common.{◌≡◌, ◌+◌, ◌≤◌, [], length}
-use Rattle.pearl_engine.specs.Setups.{setup_of}
-use Rattle.pearl_top.specs.Replay.{Progress, lines_in}
+use Rattle.std.proofs.Common.{◌≡◌, ◌-◌, ◌≤◌, ℕ, List, [], false}
+use Rattle.pearl_journal.specs.Pieces.{HasNoWhole}
+use Rattle.pearl_top.specs.declared.limits.TheConstants.{JOURNAL_LIMIT}
+use Rattle.pearl_top.specs.Replay.{Progress}
 use Rattle.pearl_top.proofs.replay.carry_out.Given as goal
 
-abbrev pub invariant-lines : goal.invariant-lines
-invariant-lines g l = record {
-  progress : Progress (setup_of l.fn.machine.object) (lines_in l.lines l.journal) l.reading (lines_in l.lines l.left) l.fn.machine l.machine
-      (g.K.Sink.taken l.fn.sink) (g.K.Sink.taken l.sink);
-  small : l.reading.lines + length l.left ≤ length l.journal;
+-- what was read was carried out
+abbrev pub invariant-pieces : goal.invariant-pieces
+invariant-pieces g l = record {
+  progress : Progress (g.S.Shelf.holds l.fn.shelf) l.journal l.place l.lines l.fn.machine l.machine (g.K.Sink.taken l.fn.sink) (g.K.Sink.taken l.sink);
+  within : l.place ≤ JOURNAL_LIMIT;
+  counted : l.lines.lines ≤ l.place;
+  no_whole : HasNoWhole l.lines;
+  unfinished : l.lines.is_finished ≡ false;
   taken : l.machine.state.core.told ≡ [];
   object : l.machine.object ≡ l.fn.machine.object;
-  moment : l.machine.state.core.moment ≡ l.reading.moment;
-  later : g.K.Sink.faults l.fn.sink ≤ g.K.Sink.faults l.sink;
+  held : g.S.Shelf.holds l.shelf ≡ g.S.Shelf.holds l.fn.shelf;
+  shelf_later : (name : List ℕ) → g.S.Shelf.faults l.fn.shelf name ≤ g.S.Shelf.faults l.shelf name;
+  sink_later : g.K.Sink.faults l.fn.sink ≤ g.K.Sink.faults l.sink;
 }
 
-abbrev pub decreases-lines : goal.decreases-lines
-decreases-lines g l = length l.left
+abbrev pub decreases-pieces : goal.decreases-pieces
+decreases-pieces g l = JOURNAL_LIMIT - l.place
