@@ -3,9 +3,13 @@
 
 usage: tools/check_docs.py [--write]
 
-- docs/architecture.md has one line for each file of definitions of each crate, and none for another; where the
-  crate's specs/Lib.antt has a comment above the file's name, it is that line.
-- Each crate of crates.txt has a row in docs/architecture.md.
+The documents are README.md and those of docs/ and docs/use/.
+
+- docs/index.md has one line for each file of definitions of each crate, and none for another; where the crate's
+  specs/Lib.antt has a comment above the file's name, it is that line.
+- Each crate of crates.txt has a row in docs/index.md.
+- Each link leads to a file or folder that is there, and to a heading of it where it names one. A document is linked,
+  not quoted.
 - Each name in backquotes that is written like one of the code's stands somewhere in crates/.
 - Each file in backquotes is there, and so is each file of definitions that is named behind its crate, as in
   `CRATE` specs/FILE, FILE (`name`), with the names in brackets in that file.
@@ -13,7 +17,7 @@ usage: tools/check_docs.py [--write]
 - README.md has at most 80 lines of at most 110 columns.
 
 Prints what doesn't hold, and ends with status 1 if there is something. With --write the files of definitions are first
-told anew in docs/architecture.md, each by the comment above its name in specs/Lib.antt, or else by the line that it has.
+told anew in docs/index.md, each by the comment above its name in specs/Lib.antt, or else by the line that it has.
 """
 
 import os
@@ -21,13 +25,16 @@ import re
 import sys
 
 TOP = os.path.dirname(os.path.dirname(os.path.abspath(__file__)))
-# Where docs/architecture.md begins to tell the files of definitions.
+# The document that tells the files of definitions, and where it begins to.
+INDEX = "docs/index.md"
 LIST = "## Every file of definitions"
 
 # Names of examples.
 EXAMPLES = {"pump_2"}
 
-DOCS = ["README.md"] + sorted("docs/" + name for name in os.listdir(os.path.join(TOP, "docs")) if name.endswith(".md"))
+FOLDERS = ["docs", "docs/use"]
+DOCS = ["README.md"] + sorted(f"{folder}/{name}" for folder in FOLDERS for name in os.listdir(os.path.join(TOP, folder))
+                              if name.endswith(".md"))
 
 
 def read(path):
@@ -41,7 +48,7 @@ def crates():
 
 
 def told_files(text):
-    """For each crate the files that architecture.md tells, with their lines."""
+    """For each crate the files that the index tells, with their lines."""
     told, crate = {}, None
     for line in text[text.index(LIST):].splitlines():
         head = re.fullmatch(r"### `(\w+)`", line)
@@ -72,10 +79,10 @@ def modules(crate):
 
 def definitions():
     wrong = []
-    told = told_files(read("docs/architecture.md"))
+    told = told_files(read(INDEX))
     for crate in crates():
         there, lines = modules(crate), told.get(crate, {})
-        wrong += [f"docs/architecture.md has no line for {crate} specs/{name}" for name in there if name not in lines]
+        wrong += [f"{INDEX} has no line for {crate} specs/{name}" for name in there if name not in lines]
         wrong += [f"{crate} has no specs/{name}" for name in lines if name not in there]
         for name, comment in there.items():
             if comment and lines.get(name, comment) != comment:
@@ -84,7 +91,7 @@ def definitions():
 
 
 def write():
-    text = read("docs/architecture.md")
+    text = read(INDEX)
     told = told_files(text)
     head = text[:text.index(LIST)] + LIST + text[text.index(LIST) + len(LIST):].split("\n### ")[0].rstrip("\n")
     parts = [head + "\n"]
@@ -93,13 +100,40 @@ def write():
         if there:
             lines = [f"- `{name}`: {comment or told.get(crate, {}).get(name, '')}" for name, comment in there.items()]
             parts.append("\n".join([f"\n### `{crate}`\n"] + lines) + "\n")
-    with open(os.path.join(TOP, "docs/architecture.md"), "w", encoding="utf-8") as file:
+    with open(os.path.join(TOP, INDEX), "w", encoding="utf-8") as file:
         file.write("".join(parts))
 
 
 def rows():
-    text = read("docs/architecture.md")
-    return [f"docs/architecture.md has no row for {crate}" for crate in crates() if f"| `{crate}` |" not in text]
+    text = read(INDEX)
+    return [f"{INDEX} has no row for {crate}" for crate in crates() if f"| `{crate}` |" not in text]
+
+
+def anchor(heading):
+    """The name by which a link leads to a heading."""
+    kept = re.sub(r"[^\w\- ]", "", re.sub(r"\[([^\]]*)\]\([^)]*\)", r"\1", heading).strip().lower())
+    return kept.replace(" ", "-")
+
+
+def headings(path):
+    text = re.sub(r"^```.*?^```", "", read(path), flags=re.M | re.S)
+    return {anchor(heading) for heading in re.findall(r"^#+ (.+)$", text, re.M)}
+
+
+def links():
+    wrong = []
+    for path in DOCS:
+        text = re.sub(r"`[^`\n]*`", "", re.sub(r"^```.*?^```", "", read(path), flags=re.M | re.S))
+        for target in re.findall(r"\]\(([^)\s]+)\)", text):
+            file, _, heading = target.partition("#")
+            there = os.path.normpath(os.path.join(os.path.dirname(path), file)) if file else path
+            if re.match(r"\w+:", target):
+                continue
+            if not os.path.exists(os.path.join(TOP, there)):
+                wrong.append(f"{path}: there is no {target}")
+            elif heading and (not there.endswith(".md") or heading not in headings(there)):
+                wrong.append(f"{path}: no heading leads to {target}")
+    return wrong
 
 
 def known_names():
@@ -122,11 +156,10 @@ def names_and_files():
         for quoted in re.findall(r"`([^`\n]+)`", text):
             if "NAME" in quoted or "CRATE" in quoted or quoted in EXAMPLES:
                 continue
-            if re.fullmatch(r"(docs|tools|crates)/[\w/.-]+", quoted):
+            if re.fullmatch(r"[\w/]+\.md", quoted):
+                wrong.append(f"{path}: {quoted} is quoted, not linked")
+            elif re.fullmatch(r"(docs|tools|crates)/[\w/.-]+", quoted):
                 if not os.path.exists(os.path.join(TOP, quoted)):
-                    wrong.append(f"{path}: there is no {quoted}")
-            elif re.fullmatch(r"\w+\.md", quoted):
-                if not os.path.exists(os.path.join(TOP, os.path.dirname(path), quoted)):
                     wrong.append(f"{path}: there is no {quoted}")
             elif re.fullmatch(r"pearl_\w+/src/(\w+\.rt)?", quoted):
                 if not os.path.exists(os.path.join(TOP, "crates", quoted)):
@@ -185,7 +218,7 @@ def readme():
 def main():
     if "--write" in sys.argv[1:]:
         write()
-    wrong = definitions() + rows() + names_and_files() + cited_files() + contracts() + readme()
+    wrong = definitions() + rows() + links() + names_and_files() + cited_files() + contracts() + readme()
     for line in wrong:
         print(line)
     sys.exit(1 if wrong else 0)
