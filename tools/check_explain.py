@@ -3,7 +3,7 @@
 
 usage: tools/check_explain.py [PROGRAM]
 
-The sources are the examples of docs/rules.md, which has one row for each of the rules S1 to S34. PROGRAM (default:
+The sources are the examples of docs/use/rules.md, which has one row for each of the rules S1 to S34. PROGRAM (default:
 the script `pearl` beside this folder) is run as `PROGRAM check FILE`, and must tell the rule of the row at its mark;
 tools/explain must tell that line by its position and its sentence. Prints what differs, and ends with status 1 if
 something does.
@@ -31,10 +31,10 @@ OTHERS = [
 
 def cases():
     """Sources with their marks, each with the program's line and what is to be made of it."""
-    with open(os.path.join(TOP, "docs", "rules.md"), encoding="utf-8") as file:
+    with open(os.path.join(TOP, "docs", "use", "rules.md"), encoding="utf-8") as file:
         rows = ROW.findall(file.read())
     if [int(number) for number, _, _ in rows] != list(range(1, 35)):
-        sys.exit("docs/rules.md: the rows aren't those of S1 to S34, each once and in order")
+        sys.exit("docs/use/rules.md: the rows aren't those of S1 to S34, each once and in order")
     sentences = {number: sentence for number, sentence, _ in rows}
     for number, sentence, example in rows:
         source = f"MODULE(m);{example}MODEND;"
