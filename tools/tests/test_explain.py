@@ -2,18 +2,16 @@
 
 import glob
 import os
-import subprocess
-import sys
 import unittest
 
-HERE = os.path.dirname(os.path.abspath(__file__))
-TOOLS = os.path.dirname(HERE)
-FOLDER = os.path.join(HERE, "explain")
-sys.path.insert(0, TOOLS)
+import tool
+from tool import DATA, HERE
 
-from reading import leftout, porting  # noqa: E402
-from reading.causes import Source  # noqa: E402
-from reading.explaining import Explainer, everything  # noqa: E402
+from reading import leftout, porting
+from reading.causes import Source
+from reading.explaining import Explainer, everything
+
+FOLDER = os.path.join(HERE, "explain")
 
 
 def read(name):
@@ -23,9 +21,7 @@ def read(name):
 
 def run(*words, given=b"", program="/nowhere"):
     """The status and the output of tools/explain."""
-    ended = subprocess.run([os.path.join(TOOLS, "explain"), *words], input=given, stdout=subprocess.PIPE,
-                           stderr=subprocess.PIPE, cwd=FOLDER, env={**os.environ, "PEARL_PROGRAM": program}, check=False)
-    return ended.returncode, ended.stdout.decode(), ended.stderr.decode()
+    return tool.run("explain", *words, folder=FOLDER, given=given, variables={"PEARL_PROGRAM": program})
 
 
 class Kept(unittest.TestCase):
@@ -68,8 +64,7 @@ class Forms(unittest.TestCase):
 
     def test_right_sources_have_none(self):
         """No form is seen in a source that is accepted."""
-        data = os.path.join(TOOLS, "..", "crates", "pearl_examples", "data")
-        for name in sorted(glob.glob(os.path.join(data, "*.pearl"))):
+        for name in sorted(glob.glob(os.path.join(DATA, "*.pearl"))):
             self.assertEqual(everything(name), b"", name)
 
     def test_old_source(self):
