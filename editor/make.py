@@ -141,6 +141,14 @@ FILES = {
 }
 
 
+def kept(path):
+    """What stands in a file, or nothing."""
+    if not os.path.exists(path):
+        return None
+    with open(path, encoding="ascii", newline="") as file:
+        return file.read()
+
+
 def main():
     if sys.argv[1:] not in ([], ["--check"]):
         print(__doc__.split("\n\n")[1], file=sys.stderr)
@@ -152,7 +160,7 @@ def main():
             os.makedirs(os.path.dirname(path), exist_ok=True)
             with open(path, "w", encoding="ascii", newline="") as file:
                 file.write(text())
-        elif not os.path.exists(path) or open(path, encoding="ascii", newline="").read() != text():
+        elif kept(path) != text():
             different.append(name)
     for name in different:
         print(f"editor/{name} isn't what editor/make.py writes")
