@@ -13,7 +13,8 @@ The documents are README.md and those of docs/ and docs/use/.
 - Each name in backquotes that is written like one of the code's stands somewhere in crates/.
 - Each file in backquotes is there, and so is each file of definitions that is named behind its crate, as in
   `CRATE` specs/FILE, FILE (`name`), with the names in brackets in that file.
-- In the column of contracts of docs/definitions.md each name stands in the file that is named before it.
+- Each row of docs/promises.md has a sentence of at most 25 words, and links to files in which the clauses, functions or
+  definitions stand that the links name.
 - README.md has at most 80 lines of at most 110 columns.
 
 Prints what doesn't hold, and ends with status 1 if there is something. With --write the files of definitions are first
@@ -28,6 +29,7 @@ TOP = os.path.dirname(os.path.dirname(os.path.abspath(__file__)))
 # The document that tells the files of definitions, and where it begins to.
 INDEX = "docs/index.md"
 LIST = "## Every file of definitions"
+PROMISES = "docs/promises.md"
 
 # Names of examples.
 EXAMPLES = {"pump_2"}
@@ -141,7 +143,7 @@ def known_names():
     for folder, folders, files in os.walk(os.path.join(TOP, "crates")):
         folders[:] = [name for name in folders if name != "out"]
         for name in files:
-            if name.endswith((".rt", ".antt", ".pearl")):
+            if name.endswith((".rt", ".antt", ".pearl", ".edit")):
                 names.add(name.rsplit(".", 1)[0])
                 with open(os.path.join(folder, name), encoding="utf-8") as file:
                     names.update(re.findall(r"[A-Za-z_][A-Za-z_0-9]*'?", file.read()))
@@ -185,27 +187,44 @@ def cited_files():
     return wrong
 
 
-def contracts():
-    wrong, homes = [], {}
-    for row in read("docs/definitions.md").splitlines():
+def part_of(source, name):
+    """The text of the function in a source, from its name to the next function."""
+    found = re.search(rf"\bfn {name}\b.*?(?=^\s*(?:pub )?fn |\Z)", source, re.M | re.S)
+    return found[0] if found else ""
+
+
+def missing(path, names):
+    """Which of the names a clause's link tells don't stand in its file: a function and its clauses, or definitions."""
+    source = read(path)
+    if path.endswith(".antt"):
+        return [name for name in names if not re.search(rf"^(?:\w+ )*{name}\b", source, re.M)]
+    owner, _, name = names[0].rpartition("::")
+    part = part_of(source, name)
+    if not part and not re.search(rf"\b(?:struct|enum|trait) {name}\b", source):
+        return [names[0]]
+    wrong = [owner] if owner and not re.search(rf"\b{owner}\b", source) else []
+    return wrong + [clause for clause in names[1:] if not re.search(rf"\b(?:ensures|requires) {clause} ", part)]
+
+
+def promises():
+    wrong = []
+    for row in read(PROMISES).splitlines():
         cells = [cell.strip() for cell in row.strip("|").split(" | ")]
-        if not row.startswith("| ") or len(cells) != 3:
+        if not row.startswith("| ") or "---" in row or cells[0] in ("Promise", "Question"):
             continue
-        crate, file = None, None
-        for quoted in re.findall(r"`([^`]+)`", cells[1]):
-            path = re.fullmatch(r"(?:(pearl_\w+)/src/)?(\w+\.rt)?", quoted)
-            if path and (path[1] or path[2]):
-                crate = path[1] or crate
-                file = path[2] and f"crates/{crate}/src/{path[2]}"
-                if file and not os.path.exists(os.path.join(TOP, file)):
-                    wrong.append(f"docs/definitions.md: there is no {file}")
-                    file = None
+        sentence = re.sub(r"\[([^\]]*)\]\([^)]*\)", r"\1", cells[0])
+        clauses = re.findall(r"\[([^\]]*)\]\(([^)]*)\)", cells[1])
+        if len(cells) != 4 or len(sentence.split()) > 25:
+            wrong.append(f"{PROMISES}: a row has four columns, and a sentence of at most 25 words: {sentence}")
+        if not clauses:
+            wrong.append(f"{PROMISES}: no clause is linked: {sentence}")
+        for text, target in clauses:
+            path = os.path.normpath(os.path.join("docs", target))
+            names = re.findall(r"`([^`]+)`", text)
+            if not names or not os.path.isfile(os.path.join(TOP, path)):
+                wrong.append(f"{PROMISES}: no clause of a file is named: {sentence}")
                 continue
-            name = quoted.split("::")[-1]
-            file = file or homes.get(name)
-            if file and not re.search(rf"\b{name}\b", read(file)):
-                wrong.append(f"docs/definitions.md: {file} has no {name}")
-            homes.setdefault(name, file)
+            wrong += [f"{PROMISES}: {path} has no {name}" for name in missing(path, names)]
     return wrong
 
 
@@ -218,7 +237,7 @@ def readme():
 def main():
     if "--write" in sys.argv[1:]:
         write()
-    wrong = definitions() + rows() + links() + names_and_files() + cited_files() + contracts() + readme()
+    wrong = definitions() + rows() + links() + names_and_files() + cited_files() + promises() + readme()
     for line in wrong:
         print(line)
     sys.exit(1 if wrong else 0)

@@ -78,7 +78,7 @@ def main():
     parser.add_argument("--program", default=os.path.join(here, "crates", "pearl", "out", "pearl"))
     parser.add_argument("--runs", type=int, default=3)
     parser.add_argument("--only", default="", help="forms whose name has this in it")
-    parser.add_argument("--markdown", action="store_true", help="rows of a table for docs/costs.md")
+    parser.add_argument("--markdown", action="store_true", help="rows of a table for docs/evidence.md")
     parser.add_argument("--check", action="store_true", help="status 1 where a bound is passed")
     args = parser.parse_args()
     if not os.access(args.program, os.X_OK):

@@ -3,8 +3,8 @@
 use crate::case::{CHECK, Fault, Long, Parts, ROOM, Table};
 use pearl_top::status::Status;
 
-// A plant with devices, a guarded variable and five tasks.
-const PLANT: &str = "MODULE(plant);\n\
+/// A plant with devices, a guarded variable and five tasks.
+pub const PLANT: &str = "MODULE(plant);\n\
     SYSTEM;\n\
     alarm: INTERRUPT(4);  term: TERMINAL(1);\n\
     probe: INPUT(2);      valve: OUTPUT(7);\n\

@@ -20,6 +20,8 @@ mod ends;
 #[cfg(test)]
 mod mark;
 #[cfg(test)]
+mod pieces;
+#[cfg(test)]
 mod print;
 #[cfg(test)]
 mod run;

@@ -17,8 +17,8 @@ macro_rules! module {
     };
 }
 
-// A text of five characters.
-const FIRST: &str = module!("main: TASK MAIN; PUT 17 TO tty BY F(5), SKIP; END;");
+/// A task that writes a text of five characters.
+pub const FIRST: &str = module!("main: TASK MAIN; PUT 17 TO tty BY F(5), SKIP; END;");
 
 // The number is longer than its width.
 const NARROW: &str = module!("main: TASK MAIN; PUT 1000 TO tty BY F(3); END;");
