@@ -1,0 +1,1 @@
+autocmd BufNewFile,BufRead *.pearl set filetype=pearl

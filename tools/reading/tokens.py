@@ -1,0 +1,178 @@
+"""The tokens of a source, and why something is none."""
+
+import os
+import re
+from dataclasses import dataclass
+
+TOP = os.path.dirname(os.path.dirname(os.path.dirname(os.path.realpath(__file__))))
+WORD_TABLE = os.path.join(TOP, "crates", "pearl_tree", "src", "word.rt")
+
+SYMBOLS = ["<=", ">=", "><", "<>", ":=", "==", "/=", "//", "**",
+           "(", ")", "[", "]", ",", ";", ":", ".", "=", "<", ">", "+", "-", "*"]
+# Words and symbols that mean a symbol that the grammar names.
+AS_SYMBOL = {"EQ": "==", "NE": "/=", "LT": "<", "GT": ">", "LE": "<=", "GE": ">=", "CAT": "><", "CSHIFT": "<>", "=": ":="}
+
+BLANK = re.compile(r"[\t\n\f\r ]+|![^\n]*\n?|/\*.*?\*/", re.S)
+NAME = re.compile(r"[A-Za-z][A-Za-z0-9_]*")
+CLOCK = re.compile(r"(\d+):(\d+):(\d+)(?:\.(\d+))?", re.A)
+DECIMAL = re.compile(r"(\d+)\.(\d+)", re.A)
+NUMBER = re.compile(r"\d+", re.A)
+QUOTED = re.compile(r"'((?:[ -&(-~]|'')*)'(?!')")
+GROUP = re.compile(r"B([1-4]?)(?![A-Za-z0-9_])")
+
+MOST_NUMBER = 2**63 - 1
+
+
+@dataclass
+class Token:
+    """A token: its sort, how it is spelled, and its first byte and the one behind its last."""
+
+    sort: str
+    text: str
+    place: int
+    end: int
+    term: str
+
+
+class NoToken(Exception):
+    """At this place no token begins."""
+
+    def __init__(self, place, why):
+        super().__init__(why)
+        self.place, self.why = place, why
+
+
+def word_table():
+    """The words, each with the one of the same meaning that the grammar names, from the program's own table."""
+    with open(WORD_TABLE, encoding="utf-8") as file:
+        rows = re.findall(r'^ +b"([A-Z]+)" ([A-Z]+);$', file.read(), re.M)
+    return dict(rows)
+
+
+WORDS = word_table()
+
+
+def text_of(source):
+    """The bytes of a source, one character for each."""
+    return source.decode("latin-1")
+
+
+def value(digits):
+    """The value of digits, which may be very many."""
+    digits = digits.lstrip("0")
+    return int(digits or "0") if len(digits) < 30 else 10**30
+
+
+def numeric(text, at):
+    """The sort and the end of what begins with the digit at this place."""
+    found = CLOCK.match(text, at)
+    if found:
+        if found[4] and len(found[4]) > 3:
+            raise NoToken(at, "a time has at most three digits behind the point")
+        if value(found[1]) > 23 or value(found[2]) > 59 or value(found[3]) > 59:
+            raise NoToken(at, f"{found[0]} is no time of day, which ends at 23:59:59.999")
+        return "clock", found.end()
+    found = DECIMAL.match(text, at)
+    if found and len(found[2]) > 3:
+        raise NoToken(at, "a number has at most three digits behind the point, and only before SEC")
+    sort, found = ("decimal", found) if found else ("number", NUMBER.match(text, at))
+    if value(NUMBER.match(text, at)[0]) > MOST_NUMBER:
+        raise NoToken(at, f"a number is at most {MOST_NUMBER}, which is 2^63 - 1")
+    return sort, found.end()
+
+
+def unclosed(text, at):
+    """Why no text ends that begins at this place."""
+    line = re.compile(r"'(?:[ -&(-~]|'')*").match(text, at)
+    if line.end() == len(text) or text[line.end()] in "\r\n":
+        return "the text isn't closed in its line by an apostrophe"
+    shown = shown_byte(text, line.end())
+    return f"a text has characters from 32 to 126 alone, and {shown} is none of them"
+
+
+def shown_byte(text, at):
+    """The byte at this place, as a character where it is the beginning of one."""
+    raw = text[at:at + 4].encode("latin-1")
+    for length in range(1, 5):
+        try:
+            char = raw[:length].decode("utf-8")
+        except UnicodeDecodeError:
+            continue
+        return f"`{char}`" if char.isprintable() else f"the byte {raw[0]}"
+    return f"the byte {raw[0]}"
+
+
+def quoted(text, at):
+    """The sort and the end of what begins with the apostrophe at this place."""
+    found = QUOTED.match(text, at)
+    if not found:
+        raise NoToken(at, unclosed(text, at))
+    group = GROUP.match(text, found.end())
+    if not group:
+        length = len(found[1].replace("''", "'"))
+        if length == 0:
+            raise NoToken(at, "a text has at least one character")
+        if length > 255:
+            raise NoToken(at, f"a text has at most 255 characters, and this has {length}")
+        return "text", found.end()
+    bits = int(group[1] or "1")
+    for digit in found[1]:
+        if digit not in "0123456789ABCDEF"[:1 << bits]:
+            raise NoToken(at, f"`{digit}` is no digit of {bits} bit{'s' if bits > 1 else ''}, which B{group[1]} asks for")
+    if not 1 <= len(found[1]) * bits <= 64:
+        raise NoToken(at, f"bits are 1 to 64, and these are {len(found[1]) * bits}")
+    return "bits", group.end()
+
+
+def nothing(text, at):
+    """Why no token begins at this place."""
+    if text.startswith("/*", at):
+        return "the comment isn't closed by */"
+    if text.startswith("\xef\xbb\xbf", at):
+        return "here stand the bytes EF BB BF, a mark that some editors put before a text: save it without (UTF-8 without BOM)"
+    if text[at] == '"':
+        return "a text stands between apostrophes: 'text'"
+    return f"{shown_byte(text, at)} begins no token"
+
+
+def token_at(text, at):
+    """The token that begins at this place."""
+    name = NAME.match(text, at)
+    if name:
+        if name[0] in WORDS:
+            return Token("word", name[0], at, name.end(), AS_SYMBOL.get(name[0], WORDS[name[0]]))
+        if len(name[0]) > 63:
+            raise NoToken(at, f"a name has at most 63 characters, and this has {len(name[0])}")
+        return Token("id", name[0], at, name.end(), "id")
+    if text[at] in "0123456789'":
+        sort, end = quoted(text, at) if text[at] == "'" else numeric(text, at)
+        return Token(sort, text[at:end], at, end, sort)
+    for symbol in SYMBOLS:
+        if text.startswith(symbol, at):
+            return Token("symbol", symbol, at, at + len(symbol), AS_SYMBOL.get(symbol, symbol))
+    raise NoToken(at, nothing(text, at))
+
+
+def tokens(text, stray=None):
+    """All tokens. Where a list `stray` is given, what is no token goes there, and its first character is left out."""
+    found, at = [], 0
+    while at < len(text):
+        blank = BLANK.match(text, at)
+        if blank:
+            at = blank.end()
+            continue
+        try:
+            found.append(token_at(text, at))
+            at = found[-1].end
+        except NoToken as fault:
+            if stray is None:
+                raise
+            stray.append(fault)
+            at = behind(text, at)
+    return found
+
+
+def behind(text, at):
+    """Where to go on behind what is no token: behind a name or digits as a whole, else behind one character."""
+    run = re.compile(r"[A-Za-z0-9_.:]+|#[^\n]*|/\*.*|'[^\n']*'?|[\x80-\xff]+|.", re.S).match(text, at)
+    return run.end()
