@@ -1,5 +1,5 @@
 -- What each call keeps of the memory of a stack, and what it makes of the stack.
-use Rattle.std.proofs.Common.{◌≡◌, ◌≢◌, ℕ, suc, ◌+◌, ◌-◌, ◌*◌, ◌^◌, ◌<◌, ◌≤◌, List, [], ◌∷◌, ◌++◌, Option, Some, None, length, take, drop, reverse, get_or, set, slice_get, refl, sym, ap, ◌∙◌, subst, arith, length-append, length-take-le, length-set}
+use Rattle.std.proofs.Common.{◌≡◌, ◌≢◌, ℕ, suc, ◌+◌, ◌-◌, ◌^◌, ◌<◌, ◌≤◌, List, [], ◌∷◌, ◌++◌, Option, Some, None, length, take, drop, reverse, get_or, set, slice_get, refl, sym, ap, ◌∙◌, subst, arith, length-append, length-take-le}
 use Rattle.std.specs.Prelude.{IsSome, option_map}
 use Rattle.std.proofs.lemmas.List.{set_split, drop_all, take_more_set}
 use Rattle.std.proofs.lemmas.Option.{get_or_from_slice_get}

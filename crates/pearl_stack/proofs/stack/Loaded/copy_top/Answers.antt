@@ -1,4 +1,4 @@
-use Rattle.std.proofs.Common.{◌≡◌, ◌+◌, ◌-◌, ap, ◌∙◌, arith, vec_capacity}
+use Rattle.std.proofs.Common.{◌+◌, ◌-◌, ap, ◌∙◌, arith, vec_capacity}
 use Rattle.pearl_stack.proofs.Keeps.{lies_of, cut_fits, copy_shown}
 use Rattle.pearl_stack.proofs.stack.Loaded.copy_top.Goals as goal
 

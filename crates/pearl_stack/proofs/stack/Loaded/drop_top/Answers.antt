@@ -1,4 +1,4 @@
-use Rattle.std.proofs.Common.{◌≡◌, ◌-◌, length, take, ap, ◌∙◌, arith, vec_capacity}
+use Rattle.std.proofs.Common.{◌-◌, take, ap, ◌∙◌, arith, vec_capacity}
 use Rattle.pearl_stack.proofs.Keeps.{cut_fits, cut_kept, cut_shown}
 use Rattle.pearl_stack.proofs.Written.{held}
 use Rattle.pearl_stack.proofs.stack.Loaded.drop_top.Goals as goal

@@ -1,4 +1,4 @@
-use Rattle.std.proofs.Common.{◌≡◌, ◌-◌, List, length, reverse, take, get_or, Some, refl, sym, ap, ◌∙◌, subst, arith, vec_len, length-take-le}
+use Rattle.std.proofs.Common.{◌≡◌, ◌-◌, List, length, reverse, take, Some, refl, sym, ap, ◌∙◌, subst, arith, length-take-le}
 use Rattle.pearl_value.specs.declared.cell.Cell.{Cell}
 use Rattle.pearl_stack.specs.declared.stack.Head.{Head}
 use Rattle.pearl_stack.specs.Frames.{Frame, popped}

@@ -1,4 +1,4 @@
-use Rattle.std.proofs.Common.{◌≡◌, ◌+◌, ap, ◌∙◌, arith, vec_capacity}
+use Rattle.std.proofs.Common.{◌+◌, ap, ◌∙◌, arith, vec_capacity}
 use Rattle.pearl_stack.proofs.Keeps.{lies_of, push_fits, cell_some, again_kept, again_shown}
 use Rattle.pearl_stack.proofs.stack.Loaded.push_cell.Goals as goal
 

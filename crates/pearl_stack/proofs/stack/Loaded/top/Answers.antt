@@ -1,4 +1,4 @@
-use Rattle.std.proofs.Common.{suc, ◌≡◌, ◌-◌, List, Some, length, get_or, sym, ap, ◌∙◌, arith, vec_capacity}
+use Rattle.std.proofs.Common.{suc, ◌-◌, List, Some, get_or, sym, ap, ◌∙◌, arith, vec_capacity}
 use Rattle.pearl_value.specs.declared.cell.Cell.{Cell}
 use Rattle.pearl_stack.proofs.Holds.{operand_above}
 use Rattle.pearl_stack.proofs.Keeps.{holds_of, cut_fits}
