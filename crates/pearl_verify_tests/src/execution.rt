@@ -7,14 +7,17 @@ ghost use Rattle.pearl_instructions.specs.Lawful.{IsLeaf, IsProcedure, IsTask, I
 ghost use Rattle.pearl_instructions.specs.Objects.{slot_kind};
 ghost use Rattle.pearl_instructions.specs.Rows.{begun};
 ghost use Rattle.pearl_instructions.specs.Stacks.{IsStack, Answers, AreOf, room};
+ghost use Rattle.pearl_exchange.specs.Heard.{answer_of};
+ghost use Rattle.pearl_exchange.specs.Offers.{action_of};
 
 use crate::cases::{Line, instructions, number};
 use arrayvec::ArrayVec;
+use pearl_exchange::heard::{Beside, Heard};
+use pearl_exchange::offer::{Offer, What};
 use pearl_format::item::{Item, ItemCode};
 use pearl_instructions::instr::{Bounds, Reading};
 use pearl_instructions::object::{Code, Leaf, Object, Procedure, Task};
 use pearl_instructions::valid::Valid;
-use pearl_rules::action::{Action, Answer};
 use pearl_rules::setup::{Device, Direction};
 use pearl_solo::answers::answer;
 use pearl_solo::frames::begin;
@@ -252,18 +255,18 @@ fn kind_of_slot(leaves: &[Leaf], slot: u32) -> Option<Kind>
 }
 
 // The answer of these two values to a GET of two values of FIXED(31).
-fn both(kinds: &[Kind], heard: [i32; 2]) -> Option<Answer>
-    ensures { IfSome result (AreOf kinds.now) }
+fn both(kinds: &[Kind], heard: [i32; 2], beside: &mut Beside) -> Option<Heard>
+    ensures { IfSome result (λ heard. AreOf kinds.now (answer_of heard beside.new)) }
 {
     let (first, others) = kinds.split_first()?;
     let (second, rest) = others.split_first()?;
     if *first != Kind::Fixed(31) || *second != Kind::Fixed(31) || !rest.is_empty() {
         return None;
     }
-    let mut values = ArrayVec::new();
-    values.push(number(heard[0]));
-    values.push(number(heard[1]));
-    Some(Answer::Many(values))
+    beside.many.clear();
+    beside.many.push(number(heard[0]));
+    beside.many.push(number(heard[1]));
+    Some(Heard::Many)
 }
 
 fn is_number(cell: &Cell, want: i64) -> bool {
@@ -274,54 +277,60 @@ fn is_number(cell: &Cell, want: i64) -> bool {
 }
 
 // What is heard after an action, where it is the row's and the task goes on.
-fn heard(code: &Valid, action: &Action, row: Row) -> Option<Answer>
-    ensures { IfSome result (λ answer. (own : ℕ) → Answers code.now own action.now answer) }
+fn heard(code: &Valid, offer: &Offer, row: Row, beside: &mut Beside) -> Option<Heard>
+    ensures { IfSome result (λ heard. (own : ℕ) → Answers code.now own (action_of offer.now) (answer_of heard beside.new)) }
 {
-    match (action, row) {
-        (Action::Turn, Row::Turn) | (Action::Enter, Row::Enter) => Some(Answer::Nothing),
-        (Action::Read(slot), Row::Read { slot: want, heard }) => {
-            let kind = kind_of_slot(code.object().leaves.as_slice(), *slot);
-            if *slot == want && kind == Some(Kind::Fixed(31)) {
-                Some(Answer::One(number(heard)))
+    match (offer.what, row) {
+        (What::Turn, Row::Turn) | (What::Enter, Row::Enter) => Some(Heard::Nothing),
+        (What::Read(slot), Row::Read { slot: want, heard }) => {
+            let kind = kind_of_slot(code.object().leaves.as_slice(), slot);
+            if slot == want && kind == Some(Kind::Fixed(31)) {
+                beside.one = number(heard);
+                Some(Heard::One)
             } else {
                 None
             }
         }
-        (Action::Write(slot, cell), Row::Write { slot: want, value }) => {
-            if *slot == want && is_number(cell, value) {
-                Some(Answer::Nothing)
+        (What::Write(slot), Row::Write { slot: want, value }) => {
+            if slot == want && is_number(&offer.value, value) {
+                Some(Heard::Nothing)
             } else {
                 None
             }
         }
-        (Action::Put { device: 0, text }, Row::Put(want)) => {
-            if text.as_slice() == want.as_bytes() {
-                Some(Answer::Nothing)
+        (What::Put(0), Row::Put(want)) => {
+            if offer.text.as_slice() == want.as_bytes() {
+                Some(Heard::Nothing)
             } else {
                 None
             }
         }
         (
-            Action::Get {
+            What::Get {
                 device: 0,
                 format: 1,
-                kinds,
             },
             Row::Get { heard },
-        ) => { both(kinds.as_slice(), heard) }
+        ) => both(offer.kinds.as_slice(), heard, beside),
         _ => None,
     }
 }
 
-fn traps(action: &Action, row: Row) -> bool {
-    match (action, row) {
-        (Action::Trap(trap), Row::Trap(want)) => *trap == want,
+fn traps(what: What, row: Row) -> bool {
+    match (what, row) {
+        (What::Trap(trap), Row::Trap(want)) => trap == want,
         _ => false,
     }
 }
 
 // How many rows are left from the first on that the task doesn't keep to; a trap is the last that it keeps to.
-fn left(code: &Valid, stack: &mut Loaded, rows: &[Row]) -> usize
+fn left(
+    code: &Valid,
+    stack: &mut Loaded,
+    rows: &[Row],
+    offer: &mut Offer,
+    beside: &mut Beside,
+) -> usize
     requires stack { IsStack code.now stack.old.frames }
     requires room { room code.now stack.old.frames ≤ stack.old.room }
     requires most { length code.now.procedures + 1 ≤ stack.old.most }
@@ -329,14 +338,14 @@ fn left(code: &Valid, stack: &mut Loaded, rows: &[Row]) -> usize
     let Some((row, others)) = rows.split_first() else {
         return 0;
     };
-    let action = settle(code, stack);
-    if traps(&action, *row) {
+    settle(code, stack, offer);
+    if traps(offer.what, *row) {
         return others.len();
     }
-    match heard(code, &action, *row) {
+    match heard(code, offer, *row, beside) {
         Some(heard) => {
-            answer(code, stack, heard);
-            left(code, stack, others)
+            answer(code, stack, heard, beside);
+            left(code, stack, others, offer, beside)
         }
         None => rows.len(),
     }
@@ -362,8 +371,10 @@ fn rows_left(alloc: Global, code: &Valid) -> Result<usize, AllocError> {
     match first_depth(code) {
         Some(depth) => {
             let mut stack = Parked::new(alloc, depth as usize, frames)?.load();
+            let mut offer = Offer::new();
+            let mut beside = Beside::new();
             begin(code, 0, &mut stack);
-            Ok(left(code, &mut stack, &ROWS))
+            Ok(left(code, &mut stack, &ROWS, &mut offer, &mut beside))
         }
         None => Ok(ROWS.len()),
     }
