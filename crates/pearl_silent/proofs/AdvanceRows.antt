@@ -11,7 +11,6 @@ use Rattle.pearl_value.specs.declared.trap.Trap.TheVariants.{Range}
 use Rattle.pearl_value.specs.Conversions.{fits_fixed}
 use Rattle.pearl_value.specs.WellFormed.{IsValue}
 use Rattle.pearl_rules.specs.declared.action.Action.TheVariants as action
-use Rattle.pearl_stack.specs.declared.stack.Frame as size
 use Rattle.pearl_stack.specs.Frames.{Frame, top_operands, moved}
 use Rattle.pearl_instructions.specs.Steps as step
 use Rattle.pearl_instructions.specs.Steps.{Step, Silent, Offers, given, leaves, traps}
@@ -20,7 +19,7 @@ use Rattle.pearl_instructions.specs.Flow.{advance, goes}
 use Rattle.pearl_instructions.specs.Operators.{number_of, non_zero}
 use Rattle.pearl_silent.specs.Advances.{advanced, null_trap}
 use Rattle.pearl_silent.specs.Numbers.{HasLoop}
-use Rattle.pearl_silent.specs.Steps.{on_top, Applies, IsSizes, IsFormed, top_cells, with_top_cell, left_on}
+use Rattle.pearl_silent.specs.Steps.{on_top, next_of, Applies, IsFormed, top_cells, with_top_cell, left_on}
 use Rattle.pearl_silent.proofs.Applied.{one_there}
 use Rattle.pearl_silent.proofs.Filling.{all_given}
 use Rattle.pearl_silent.proofs.LoopRows.{fixed_at, loop_is}
@@ -57,14 +56,14 @@ none_way f lower c i len sum false t e = rw t refl
 advanced_is : (x y : Cell) (l m : ℕ) (a b : ℤ) → x ≡ Fixed l a → y ≡ Fixed m b → advanced x y ≡ (if fits_fixed l (a +ℤ b) then Some (Fixed l (a +ℤ b)) else None)
 advanced_is x y l m a b d e = rw (d, e) refl
 
-pub record Advances (frames : List Frame) (here : size.Frame) (c i : ℕ) (next : Option Cell) : Type 0 where
-  pub some : (z : Cell) → next ≡ Some z → on_top (λ f lower. advance c i f lower) frames ≡ Silent (moved (here.instruction + 1) (with_top_cell c z frames))
+pub record Advances (frames : List Frame) (c i : ℕ) (next : Option Cell) : Type 0 where
+  pub some : (z : Cell) → next ≡ Some z → on_top (λ f lower. advance c i f lower) frames ≡ Silent (next_of (with_top_cell c z frames))
   pub none : next ≡ None → on_top (λ f lower. advance c i f lower) frames ≡ Silent (moved i frames)
 
-pub advances : (frames : List Frame) (here : size.Frame) (c i : ℕ) (x y : Cell) → IsSizes here frames → HasLoop c frames → slice_get (top_cells frames) c ≡ Some x →
-    slice_get (top_cells frames) (c + 1) ≡ Some y → Advances frames here c i (advanced x y)
-advances [] here c i x y never has d e = absurd never
-advances (f ∷ lower) here c i x y is has d e =
+pub advances : (frames : List Frame) (c i : ℕ) (x y : Cell) → HasLoop c frames → slice_get (top_cells frames) c ≡ Some x →
+    slice_get (top_cells frames) (c + 1) ≡ Some y → Advances frames c i (advanced x y)
+advances [] c i x y has d e = cc
+advances (f ∷ lower) c i x y has d e =
     let one = fixed_at (slice_get f.cells c) x has.control d in
     let two = fixed_at (slice_get f.cells (c + 1)) y has.step e in
     let third = some_cell (slice_get f.cells (c + 2)) has.limit in
@@ -75,8 +74,7 @@ advances (f ∷ lower) here c i x y is has d e =
     (λ len control step limit. if fits_fixed len (control +ℤ step) then leaves (put f c (Fixed len (control +ℤ step))) lower f.operands else goes i f lower f.operands)
     (d ∙ ap Some one.2) (e ∙ ap Some two.2) third.2 in
     record {
-      some = λ z h. row ∙ (some_way f lower c i one.0 sum z (fits_fixed one.0 sum) refl (sym next ∙ h)
-          ∙ ap (λ h. Silent (moved (h.instruction + 1) (with_top_cell c z (f ∷ lower)))) (sym is));
+      some = λ z h. row ∙ some_way f lower c i one.0 sum z (fits_fixed one.0 sum) refl (sym next ∙ h);
       none = λ h. row ∙ none_way f lower c i one.0 sum (fits_fixed one.0 sum) refl (sym next ∙ h);
     }
   where

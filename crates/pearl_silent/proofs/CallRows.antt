@@ -7,13 +7,13 @@ use Rattle.std.proofs.Math.Seq.{take-append_seam}
 use Rattle.pearl_value.specs.declared.kind.Kind.{Kind}
 use Rattle.pearl_value.specs.declared.cell.Cell.{Cell}
 use Rattle.pearl_stack.specs.declared.stack.Frame as size
-use Rattle.pearl_stack.specs.Frames.{Frame, top_operands, used, unset, frame_at, sizes, pushed, popped, moved, entered}
+use Rattle.pearl_stack.specs.Frames.{Frame, top_operands, used, unset, frame_at, sizes, place_of, pushed, popped, moved, entered}
 use Rattle.pearl_instructions.specs.declared.object.Procedure.{Procedure}
 use Rattle.pearl_instructions.specs.Steps as step
 use Rattle.pearl_instructions.specs.Steps.{Step, Silent, leaves}
 use Rattle.pearl_instructions.specs.Flow as flow
 use Rattle.pearl_instructions.specs.Flow.{returned, returns, called}
-use Rattle.pearl_silent.specs.Steps.{on_top, Applies, top_cells, with_cells, place_of}
+use Rattle.pearl_silent.specs.Steps.{on_top, next_of, Applies, top_cells, with_cells}
 use Rattle.pearl_silent.proofs.Applied.{popped_some}
 
 -- a frame under the top one
@@ -46,11 +46,11 @@ frame_place frames n size e h =
     let same : Some (sizes at.0) ≡ Some size = ap (λ o. option_map sizes o) (sym at.1) ∙ h in
     sym (ap (λ s. s.instruction) (same_Some (sizes at.0) size same)) ∙ at.2
 
-pub back_is : (frames : List Frame) (room p : ℕ) → Applies (on_top (λ f lower. returns None f lower) frames) room → p ≡ place_of (drop 1 frames) →
-    on_top (λ f lower. returns None f lower) frames ≡ Silent (moved (p + 1) (drop 1 frames))
-back_is [] room p a e = absurd a
-back_is (f ∷ []) room p a e = absurd a
-back_is (f ∷ g ∷ lower) room p a e = ap (λ q. Silent (moved (q + 1) (g ∷ lower))) (sym e)
+pub back_is : (frames : List Frame) (room : ℕ) → Applies (on_top (λ f lower. returns None f lower) frames) room →
+    on_top (λ f lower. returns None f lower) frames ≡ Silent (next_of (drop 1 frames))
+back_is [] room a = absurd a
+back_is (f ∷ []) room a = absurd a
+back_is (f ∷ g ∷ lower) room a = refl
 
 returned_with : (f g : Frame) (lower : List Frame) (x : Cell) (xs : List Cell) → slice_get xs 0 ≡ Some x →
     step.popped xs (λ x left. returned (g ∷ lower) (x ∷ [])) ≡ leaves g lower (x ∷ g.operands)
@@ -61,40 +61,25 @@ popped_none : (xs : List Cell) (room : ℕ) → Applies (step.popped xs (λ x le
 popped_none [] room a = a
 popped_none (x ∷ xs) room a = a
 
-pub back_with_is : (frames : List Frame) (room p : ℕ) (kind : Kind) (x : Cell) → Applies (on_top (λ f lower. returns (Some kind) f lower) frames) room →
-    p ≡ place_of (drop 1 frames) → slice_get (top_operands frames) 0 ≡ Some x →
-    on_top (λ f lower. returns (Some kind) f lower) frames ≡ Silent (moved (p + 1) (pushed x (drop 1 (popped frames))))
-back_with_is [] room p kind x a e h = absurd a
-back_with_is (f ∷ []) room p kind x a e h = absurd (popped_none f.operands room a)
-back_with_is (f ∷ g ∷ lower) room p kind x a e h =
-    returned_with f g lower x f.operands h ∙ ap (λ q. Silent (moved (q + 1) (pushed x (g ∷ lower)))) (sym e)
+pub back_with_is : (frames : List Frame) (room : ℕ) (kind : Kind) (x : Cell) → Applies (on_top (λ f lower. returns (Some kind) f lower) frames) room →
+    slice_get (top_operands frames) 0 ≡ Some x → on_top (λ f lower. returns (Some kind) f lower) frames ≡ Silent (next_of (pushed x (drop 1 frames)))
+back_with_is [] room kind x a h = absurd a
+back_with_is (f ∷ []) room kind x a h = absurd (popped_none f.operands room a)
+back_with_is (f ∷ g ∷ lower) room kind x a h = returned_with f g lower x f.operands h
 
-back_room : (f : Frame) (lower : List Frame) (room : ℕ) (kind : Kind) (x : Cell) (xs : List Cell) → Applies (step.popped xs (λ x left. returned lower (x ∷ []))) room → used lower < room
-back_room f lower room kind x [] a = absurd a
-back_room f [] room kind x (y ∷ left) a = absurd a
-back_room f (g ∷ lower) room kind x (y ∷ left) a = omega (arith, a)
+result_on : (f : Frame) (lower : List Frame) (room : ℕ) (kind : Kind) (xs : List Cell) → Applies (step.popped xs (λ x left. returned lower (x ∷ []))) room → (x : Cell) × (slice_get xs 0 ≡ Some x)
+result_on f lower room kind [] a = absurd a
+result_on f lower room kind (x ∷ xs) a = (x, refl)
 
-pub back_with_room : (frames : List Frame) (room : ℕ) (kind : Kind) (x : Cell) → Applies (on_top (λ f lower. returns (Some kind) f lower) frames) room →
-    used (drop 1 (popped frames)) < room
-back_with_room [] room kind x a = absurd a
-back_with_room (f ∷ lower) room kind x a = back_room f lower room kind x f.operands a
-
-pub result_there : (frames : List Frame) (room : ℕ) (kind : Kind) → Applies (on_top (λ f lower. returns (Some kind) f lower) frames) room → top_operands frames ≢ []
+pub result_there : (frames : List Frame) (room : ℕ) (kind : Kind) → Applies (on_top (λ f lower. returns (Some kind) f lower) frames) room →
+    (x : Cell) × (slice_get (top_operands frames) 0 ≡ Some x)
 result_there [] room kind a = absurd a
-result_there (f ∷ lower) room kind a = let some = popped_some f.operands _ room a in λ e. absurd (omega (arith, ap length some.2, ap length e))
+result_there (f ∷ lower) room kind a = result_on f lower room kind f.operands a
 
 pub under_some : (frames : List Frame) → 1 < length frames → drop 1 frames ≢ []
 under_some [] less = absurd (omega (arith, less))
 under_some (f ∷ []) less = absurd (omega (arith, less))
 under_some (f ∷ g ∷ lower) less = λ e. cc
-
-pub without_same : (frames : List Frame) → drop 1 (popped frames) ≡ drop 1 frames
-without_same [] = refl
-without_same (f ∷ lower) = refl
-
-pub popped_long : (frames : List Frame) → popped frames ≢ [] → frames ≢ []
-popped_long [] some = some
-popped_long (f ∷ lower) some = λ e. cc
 
 -- a procedure's frame
 

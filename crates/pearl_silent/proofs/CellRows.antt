@@ -9,11 +9,10 @@ use Rattle.pearl_value.specs.declared.cell.Place.TheVariants as place
 use Rattle.pearl_value.specs.declared.trap.Trap.TheVariants.{Index}
 use Rattle.pearl_value.specs.Cells.{kind_of}
 use Rattle.pearl_rules.specs.declared.action.Action.TheVariants as action
-use Rattle.pearl_stack.specs.declared.stack.Frame as size
-use Rattle.pearl_stack.specs.Frames.{Frame, top_operands, without, moved}
+use Rattle.pearl_stack.specs.Frames.{Frame, top_operands, without}
 use Rattle.pearl_instructions.specs.Steps.{Step, Silent, Offers, given, needed, popped, value_kind, leaves, traps, within}
 use Rattle.pearl_instructions.specs.Cells.{put, filled, fill, load, store, load_at, store_at, cell_reference}
-use Rattle.pearl_silent.specs.Steps.{on_top, Applies, IsSizes, top_cells, with_top_cell, with_cells, made_on, left_on, stored_on, referred_on, offset_below}
+use Rattle.pearl_silent.specs.Steps.{on_top, next_of, Applies, top_cells, with_top_cell, with_cells, made_on, left_on, stored_on, referred_on, offset_below}
 use Rattle.pearl_silent.proofs.Applied.{given_some, needed_true, and_then_some}
 
 pub literal_is : (frames : List Frame) (x : Cell) → on_top (λ f lower. leaves f lower (x ∷ f.operands)) frames ≡ made_on 0 (Ok x) frames
@@ -58,11 +57,10 @@ stored_by f lower c n x (y ∷ left) e some = by (slice_get f.cells c) some
     by None some = cc
     by (Some old) some = ap (λ z. leaves (put f c z) lower (drop n left)) (same_Some y x e)
 
-pub stored_silent : (frames : List Frame) (here : size.Frame) (c n : ℕ) (x : Cell) → IsSizes here frames → slice_get (top_operands frames) 0 ≡ Some x →
-    IsSome (slice_get (top_cells frames) c) → stored_on c n frames ≡ Silent (moved (here.instruction + 1) (with_top_cell c x (without n (without 1 frames))))
-stored_silent [] here c n x never e some = absurd never
-stored_silent (f ∷ lower) here c n x is e some =
-    stored_by f lower c n x f.operands e some ∙ ap (λ h. Silent (moved (h.instruction + 1) (with_top_cell c x (without n (without 1 (f ∷ lower)))))) (sym is)
+pub stored_silent : (frames : List Frame) (c n : ℕ) (x : Cell) → slice_get (top_operands frames) 0 ≡ Some x →
+    IsSome (slice_get (top_cells frames) c) → stored_on c n frames ≡ Silent (next_of (without n (without 1 (with_top_cell c x frames))))
+stored_silent [] c n x e some = cc
+stored_silent (f ∷ lower) c n x e some = stored_by f lower c n x f.operands e some
 
 -- an operand is dropped
 
@@ -178,15 +176,15 @@ store_at_none (f ∷ lower) c n room y a e h = store_at_past f lower c n room y 
 
 -- cells are filled
 
-pub fill_is : (frames : List Frame) (here : size.Frame) (c n : ℕ) (kind : Kind) (room : ℕ) → IsSizes here frames → Applies (on_top (λ f lower. fill c n kind f lower) frames) room →
+pub fill_is : (frames : List Frame) (c n : ℕ) (kind : Kind) (room : ℕ) → Applies (on_top (λ f lower. fill c n kind f lower) frames) room →
     (c + n ≤ length (top_cells frames))
-    × (on_top (λ f lower. fill c n kind f lower) frames ≡ Silent (moved (here.instruction + 1) (with_cells (filled (top_cells frames) c n kind) frames)))
-fill_is [] here c n kind room never a = absurd never
-fill_is (f ∷ lower) here c n kind room is a =
+    × (on_top (λ f lower. fill c n kind f lower) frames ≡ Silent (next_of (with_cells (filled (top_cells frames) c n kind) frames)))
+fill_is [] c n kind room a = absurd a
+fill_is (f ∷ lower) c n kind room a =
     let go : Step = leaves (record f { cells = filled f.cells c n kind }) lower f.operands in
     let fits = needed_true (nat_le (c + n) (length f.cells)) go room a in (
       leb-true (c + n) (length f.cells) fits.0,
-      ap (λ b. needed b go) fits.0 ∙ ap (λ h. Silent (moved (h.instruction + 1) (with_cells (filled f.cells c n kind) (f ∷ lower)))) (sym is),
+      ap (λ b. needed b go) fits.0,
     )
 
 -- references to cells

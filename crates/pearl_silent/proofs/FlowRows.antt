@@ -1,20 +1,19 @@
 -- The rows of jumps, where they apply.
-use Rattle.std.proofs.Common.{◌≡◌, ℕ, ◌+◌, List, [], ◌∷◌, Option, Some, None, drop, slice_get, refl, sym, ap, ◌∙◌}
+use Rattle.std.proofs.Common.{◌≡◌, ◌≢◌, ℕ, ◌+◌, List, [], ◌∷◌, Option, Some, None, drop, slice_get, refl, sym, ap, ◌∙◌}
 use Rattle.std.specs.Prelude.{if◌then◌else◌, ◌==◌, unwrap_or}
 use Rattle.std.proofs.lemmas.Option.{same_Some}
 use Rattle.pearl_value.specs.declared.cell.Cell.{Cell}
 use Rattle.pearl_value.specs.declared.cell.Cell.TheVariants.{Fixed, Bits, Chars, Clock, Span, Ref}
-use Rattle.pearl_stack.specs.declared.stack.Frame as size
-use Rattle.pearl_stack.specs.Frames.{Frame, top_operands, popped, moved}
+use Rattle.pearl_stack.specs.Frames.{Frame, top_operands, place_of, popped, moved}
 use Rattle.pearl_instructions.specs.Steps as step
 use Rattle.pearl_instructions.specs.Steps.{Step, Silent, needed, at}
 use Rattle.pearl_instructions.specs.Flow.{goes, jump_zero, goes_or_on, target_of, branch}
-use Rattle.pearl_silent.specs.Steps.{on_top, Applies, IsSizes, is_zero, target_for}
+use Rattle.pearl_silent.specs.Steps.{on_top, Applies, is_zero, target_for}
 use Rattle.pearl_silent.proofs.Applied.{needed_true}
 
-pub jump_is : (frames : List Frame) (here : size.Frame) (i : ℕ) → IsSizes here frames → on_top (λ f lower. goes i f lower f.operands) frames ≡ Silent (moved i frames)
-jump_is [] here i never = absurd never
-jump_is (f ∷ lower) here i is = refl
+pub jump_is : (frames : List Frame) (i : ℕ) → frames ≢ [] → on_top (λ f lower. goes i f lower f.operands) frames ≡ Silent (moved i frames)
+jump_is [] i some = absurd (some refl)
+jump_is (f ∷ lower) i some = refl
 
 jump_zero_by : (f : Frame) (lower : List Frame) (i room : ℕ) (left : List Cell) (x : Cell) → Applies (jump_zero i f lower left x) room →
     jump_zero i f lower left x ≡ Silent (at (if is_zero x then i else f.place + 1) f left ∷ lower)
@@ -31,13 +30,11 @@ jump_zero_at f lower i room [] x a e = absurd a
 jump_zero_at f lower i room (y ∷ left) x a e =
     jump_zero_by f lower i room left y a ∙ ap (λ x. Silent (at (if is_zero x then i else f.place + 1) f left ∷ lower)) (same_Some y x e)
 
-pub jump_zero_is : (frames : List Frame) (here : size.Frame) (i room : ℕ) (x : Cell) → IsSizes here frames →
+pub jump_zero_is : (frames : List Frame) (i room : ℕ) (x : Cell) →
     Applies (on_top (λ f lower. step.popped f.operands (λ b left. jump_zero i f lower left b)) frames) room → slice_get (top_operands frames) 0 ≡ Some x →
-    on_top (λ f lower. step.popped f.operands (λ b left. jump_zero i f lower left b)) frames ≡ Silent (moved (if is_zero x then i else here.instruction + 1) (popped frames))
-jump_zero_is [] here i room x never a e = absurd never
-jump_zero_is (f ∷ lower) here i room x is a e =
-    jump_zero_at f lower i room f.operands x a e
-    ∙ ap (λ h. Silent (moved (if is_zero x then i else h.instruction + 1) (popped (f ∷ lower)))) (sym is)
+    on_top (λ f lower. step.popped f.operands (λ b left. jump_zero i f lower left b)) frames ≡ Silent (moved (if is_zero x then i else place_of frames + 1) (popped frames))
+jump_zero_is [] i room x a e = absurd a
+jump_zero_is (f ∷ lower) i room x a e = jump_zero_at f lower i room f.operands x a e
 
 on_or : (f : Frame) (lower : List Frame) (left : List Cell) (o : Option ℕ) → goes_or_on o f lower left ≡ Silent (at (unwrap_or o (f.place + 1)) f left ∷ lower)
 on_or f lower left None = refl
@@ -59,11 +56,9 @@ case_at f lower targets room [] x a e = absurd a
 case_at f lower targets room (y ∷ left) x a e =
     case_by f lower targets room left y a ∙ ap (λ x. Silent (at (unwrap_or (target_for targets x) (f.place + 1)) f left ∷ lower)) (same_Some y x e)
 
-pub case_is : (frames : List Frame) (here : size.Frame) (targets : List ℕ) (room : ℕ) (x : Cell) → IsSizes here frames →
+pub case_is : (frames : List Frame) (targets : List ℕ) (room : ℕ) (x : Cell) →
     Applies (on_top (λ f lower. step.popped f.operands (λ x left. branch targets f lower left x)) frames) room → slice_get (top_operands frames) 0 ≡ Some x →
     on_top (λ f lower. step.popped f.operands (λ x left. branch targets f lower left x)) frames
-    ≡ Silent (moved (unwrap_or (target_for targets x) (here.instruction + 1)) (popped frames))
-case_is [] here targets room x never a e = absurd never
-case_is (f ∷ lower) here targets room x is a e =
-    case_at f lower targets room f.operands x a e
-    ∙ ap (λ h. Silent (moved (unwrap_or (target_for targets x) (h.instruction + 1)) (popped (f ∷ lower)))) (sym is)
+    ≡ Silent (moved (unwrap_or (target_for targets x) (place_of frames + 1)) (popped frames))
+case_is [] targets room x a e = absurd a
+case_is (f ∷ lower) targets room x a e = case_at f lower targets room f.operands x a e

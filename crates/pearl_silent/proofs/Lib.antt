@@ -6,6 +6,7 @@ pub mod OperatorRows
 pub mod CellRows
 pub mod FlowRows
 pub mod Filling
+pub mod Copies
 pub mod CallRows
 pub mod LoopRows
 pub mod AdvanceRows
@@ -14,4 +15,4 @@ pub mod Families
 pub mod Stands
 pub mod Indexed
 pub mod Settling
-pub mod Tried
+pub mod Places

@@ -1,6 +1,6 @@
 -- The test of a loop.
-use Rattle.std.proofs.Common.{◌≡◌, ℕ, ◌+◌, List, [], ◌∷◌, Option, Some, None, Ok, slice_get, refl, ap, ◌∙◌, subst}
-use Rattle.std.specs.Prelude.{ℤ, IsSome, if◌then◌else◌, option_and_then}
+use Rattle.std.proofs.Common.{◌≡◌, ℕ, ◌+◌, List, [], ◌∷◌, Option, Some, None, Ok, slice_get, refl, sym, ap, ◌∙◌, subst}
+use Rattle.std.specs.Prelude.{ℤ, IsSome, Bool, true, false, not, if◌then◌else◌, option_and_then}
 use Rattle.pearl_value.specs.declared.cell.Cell.{Cell}
 use Rattle.pearl_value.specs.declared.cell.Cell.TheVariants.{Fixed, Bits, Chars, Clock, Span, Ref}
 use Rattle.pearl_stack.specs.Frames.{Frame}
@@ -36,6 +36,11 @@ fixed_at o x some e = fixed_is x (subst (λ o. IsSome (option_and_then number_of
 pub loop_is : (f : Frame) (c l m n : ℕ) (control step limit : ℤ) (go : ℕ → ℤ → ℤ → ℤ → Step) → slice_get f.cells c ≡ Some (Fixed l control) →
     slice_get f.cells (c + 1) ≡ Some (Fixed m step) → slice_get f.cells (c + 2) ≡ Some (Fixed n limit) → loop_cells f c go ≡ go l control step limit
 loop_is f c l m n control step limit go d e h = rw (d, e, h) refl
+
+-- the BIT that tells whether a loop goes on
+pub not_if : (past told : Bool) → past ≡ told → Bits 1 (if told then 0 else 1) ≡ Bits 1 (if not past then 1 else 0)
+not_if true told e = ap (λ b. Bits 1 (if b then 0 else 1)) (sym e)
+not_if false told e = ap (λ b. Bits 1 (if b then 0 else 1)) (sym e)
 
 past_is : (x y z : Cell) (l m n : ℕ) (control step limit : ℤ) → x ≡ Fixed l control → y ≡ Fixed m step → z ≡ Fixed n limit → is_past control step limit ≡ are_past x y z
 past_is x y z l m n control step limit d e h = rw (d, e, h) refl

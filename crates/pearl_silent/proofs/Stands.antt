@@ -28,6 +28,7 @@ use Rattle.pearl_silent.specs.Known.{Known}
 use Rattle.pearl_silent.specs.Steps.{Does, Applies, IsFormed, IsSizes, IsHere}
 use Rattle.pearl_silent.specs.Standing.{act_on, instr_of, StandsAt}
 use Rattle.pearl_silent.proofs.Filling.{all_given}
+use Rattle.pearl_silent.proofs.Tops.{has_next}
 
 -- the row is that of the instruction
 pub row_is : (o : Object) (frames : List Frame) (instr : Instr) → instr_of o frames ≡ Some instr → row o frames ≡ act_on o instr frames
@@ -229,6 +230,7 @@ on_frames k o v w (f ∷ lower) most instr here t less sizes there =
       lawful = w;
       stack = t;
       sizes = sizes;
+      next = has_next here (f ∷ lower) sizes;
       ready = subst (λ r. Applies r most) e (row_ready k o v w (f ∷ lower) most t less);
       operands = all_formed o (f.routine ∷ routines_of lower) (shape_before o f.routine t.code f.place) f.operands t.stands.operands;
       cells = all_formed o (routines_of lower) t.code.cells f.cells t.stands.cells;
@@ -249,6 +251,7 @@ stands k o s instr here v w t less sizes there =
       lawful = h.lawful;
       stack = h.stack;
       sizes = h.sizes;
+      next = h.next;
       ready = h.ready;
       operands = h.operands;
       cells = h.cells;

@@ -1,11 +1,10 @@
 -- The top frame of a stack, by its number and by its sizes.
-use Rattle.std.proofs.Common.{◌≡◌, ◌≢◌, ℕ, zero, suc, ◌+◌, ◌-◌, ◌<◌, ◌≤◌, List, [], ◌∷◌, length, drop, slice_get, refl, ap, ◌∙◌, arith, true, eqb, eq-eqb}
+use Rattle.std.proofs.Common.{◌≡◌, ◌≢◌, ℕ, zero, suc, ◌+◌, ◌-◌, ◌<◌, ◌≤◌, List, [], ◌∷◌, length, drop, slice_get, refl, sym, ap, ◌∙◌, subst, arith, true, eqb, eq-eqb}
 use Rattle.std.specs.Prelude.{IsSome}
 use Rattle.pearl_value.specs.declared.cell.Cell.{Cell}
 use Rattle.pearl_stack.specs.declared.stack.Frame as size
-use Rattle.pearl_stack.specs.Frames.{Frame, cell_at, operand_at, top_operands, without, pushed, popped, with_cell}
-use Rattle.pearl_stack.proofs.StackLaws.{reads_from_the_top}
-use Rattle.pearl_silent.specs.Steps.{IsSizes, top_cells, with_top_cell, with_cells}
+use Rattle.pearl_stack.specs.Frames.{Frame, Stack, cell_at, top_operands, used, without, pushed, popped, with_cell}
+use Rattle.pearl_silent.specs.Steps.{IsSizes, IsHere, HasNext, sizes_of, top_cells, with_top_cell, with_cells}
 
 pub top_some : (here : size.Frame) (frames : List Frame) → IsSizes here frames → frames ≢ []
 top_some here [] never = absurd never
@@ -14,6 +13,39 @@ top_some here (f ∷ lower) is = λ e. cc
 pub frames_more : (here : size.Frame) (frames : List Frame) → IsSizes here frames → 0 < length frames
 frames_more here [] never = absurd never
 frames_more here (f ∷ lower) is = omega arith
+
+pub long_some : (frames : List Frame) → 1 < length frames → frames ≢ []
+long_some [] less = absurd (omega (arith, less))
+long_some (f ∷ lower) less = λ e. cc
+
+-- the next instruction
+
+pub has_next : (here : size.Frame) (frames : List Frame) → IsHere here frames → HasNext frames
+has_next here [] is = absurd is.top
+has_next here (f ∷ lower) is = record { some = λ e. cc; next = omega (arith, ap (λ h. h.instruction) is.top, is.next) }
+
+pub sized : (frames : List Frame) → HasNext frames → IsHere (sizes_of frames) frames
+sized [] next = absurd (next.some refl)
+sized (f ∷ lower) next = record { top = refl; next = next.next }
+
+pub next_pushed : (x : Cell) (frames : List Frame) → HasNext frames → HasNext (pushed x frames)
+next_pushed x [] next = absurd (next.some refl)
+next_pushed x (f ∷ lower) next = record { some = λ e. cc; next = next.next }
+
+pub next_without : (n : ℕ) (frames : List Frame) → HasNext frames → HasNext (without n frames)
+next_without n [] next = absurd (next.some refl)
+next_without n (f ∷ lower) next = record { some = λ e. cc; next = next.next }
+
+pub next_with_cell : (c : ℕ) (x : Cell) (frames : List Frame) → HasNext frames → HasNext (with_top_cell c x frames)
+next_with_cell c x [] next = absurd (next.some refl)
+next_with_cell c x (f ∷ lower) next = record { some = λ e. cc; next = next.next }
+
+pub next_with_cells : (cells : List Cell) (frames : List Frame) → HasNext frames → HasNext (with_cells cells frames)
+next_with_cells cells [] next = absurd (next.some refl)
+next_with_cells cells (f ∷ lower) next = record { some = λ e. cc; next = next.next }
+
+pub next_at : (s t : Stack) → s ≡ t → HasNext t.frames → HasNext s.frames
+next_at s t e next = subst (λ (s : Stack). HasNext s.frames) (sym e) next
 
 pub top_count : (here : size.Frame) (frames : List Frame) → IsSizes here frames → here.operands ≡ length (top_operands frames)
 top_count here [] never = absurd never
@@ -29,6 +61,14 @@ pub some_within : (xs : List Cell) (c : ℕ) → IsSome (slice_get xs c) → c <
 some_within [] c some = cc
 some_within (x ∷ xs) zero some = omega arith
 some_within (x ∷ xs) (suc c) some = let less = some_within xs c some in omega (arith, less)
+
+pub own_small : (frames : List Frame) (c : ℕ) → IsSome (slice_get (top_cells frames) c) → c < used frames
+own_small [] c some = cc
+own_small (f ∷ lower) c some = let less = some_within f.cells c some in omega (arith, less)
+
+pub cells_small : (frames : List Frame) → length (top_cells frames) ≤ used frames
+cells_small [] = omega arith
+cells_small (f ∷ lower) = omega arith
 
 pub within_some : (xs : List Cell) (c : ℕ) → c < length xs → IsSome (slice_get xs c)
 within_some [] c less = absurd (omega (arith, less))
@@ -52,13 +92,6 @@ cells_more [] c some = cc
 cells_more (f ∷ lower) c some = omega arith
 
 -- operands
-
-pub top_operand_at : (frames : List Frame) (n count above : ℕ) → suc n ≡ length frames → count ≡ length (top_operands frames) → above < count →
-    operand_at frames n (count - 1 - above) ≡ slice_get (top_operands frames) above
-top_operand_at [] n count above e k less = absurd (omega (arith, k, less))
-top_operand_at (f ∷ lower) n count above e k less =
-    let same : n ≡ length lower = omega (arith, e) in
-    rw (same, k) (reads_from_the_top f lower above (omega (arith, k, less)))
 
 drop_more : (n : ℕ) (xs : List Cell) → drop 1 (drop n xs) ≡ drop (suc n) xs
 drop_more zero [] = refl
@@ -115,3 +148,11 @@ with_some c x (f ∷ lower) some = λ e. cc
 pub cells_some : (cells : List Cell) (frames : List Frame) → frames ≢ [] → with_cells cells frames ≢ []
 cells_some cells [] some = absurd (some refl)
 cells_some cells (f ∷ lower) some = λ e. cc
+
+pub without_long : (n : ℕ) (frames : List Frame) → length (without n frames) ≡ length frames
+without_long n [] = refl
+without_long n (f ∷ lower) = refl
+
+pub left_under : (c : ℕ) (x : Cell) (n : ℕ) (frames : List Frame) → n < length (top_operands frames) → n ≤ length (top_operands (popped (with_top_cell c x frames)))
+left_under c x n [] less = absurd (omega (arith, less))
+left_under c x n (f ∷ lower) less = let fewer = operands_fewer (f ∷ lower) in omega (arith, fewer, less)

@@ -5,7 +5,12 @@ use Rattle.pearl_value.specs.declared.cell.Cell.{Cell}
 use Rattle.pearl_value.specs.declared.cell.Cell.TheVariants.{Fixed}
 use Rattle.pearl_value.specs.declared.trap.Trap.{Trap}
 use Rattle.pearl_value.specs.declared.trap.Trap.TheVariants.{Range}
+use Rattle.pearl_silent.specs.declared.advances.Number.{Number}
 use Rattle.pearl_value.specs.Conversions.{fits_fixed}
+
+-- the value that a number is
+abbrev pub fixed_of : Number → Cell
+fixed_of n = Fixed n.len n.value
 
 -- the control of a loop after its step, where it is still of its kind
 abbrev pub advanced : Cell → Cell → Option Cell

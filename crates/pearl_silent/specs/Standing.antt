@@ -17,7 +17,7 @@ use Rattle.pearl_instructions.specs.Rows.{act, instr_at}
 use Rattle.pearl_instructions.specs.Stacks.{IsStack, Suits, routines_of}
 use Rattle.pearl_instructions.specs.Steps.{Step, Offers}
 use Rattle.pearl_instructions.specs.Valid.{v12}
-use Rattle.pearl_silent.specs.Steps.{on_top, Applies, IsHere, IsFormed, top_cells}
+use Rattle.pearl_silent.specs.Steps.{on_top, Applies, IsHere, HasNext, IsFormed, top_cells}
 
 -- what this instruction does there
 abbrev pub act_on : Object → Instr → List Frame → Step
@@ -81,6 +81,7 @@ pub record StandsAt (o : Object) (instr : Instr) (here : size.Frame) (s : Stack)
   pub lawful : IsObject o
   pub stack : IsStack o s.frames
   pub sizes : IsHere here s.frames
+  pub next : HasNext s.frames
   pub ready : Applies (act_on o instr s.frames) s.room
   pub operands : AllByRecursion IsFormed (top_operands s.frames)
   pub cells : AllByRecursion IsFormed (top_cells s.frames)

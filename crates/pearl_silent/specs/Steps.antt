@@ -1,12 +1,12 @@
 -- What a step and an answer make of a stack in memory, by the row of the instruction at which it stands.
-use Rattle.std.specs.Prelude.{◌≡◌, ℕ, ◌+◌, ◌≤◌, ◌<◌, ◌^◌, pos, Bool, false, ◌==◌, nat_lt, if◌then◌else◌, List, [], ◌∷◌, Option, Some, None, Result, drop}
+use Rattle.std.specs.Prelude.{◌≡◌, ◌≢◌, ℕ, ◌+◌, ◌≤◌, ◌<◌, ◌^◌, pos, Bool, false, ◌==◌, nat_lt, if◌then◌else◌, List, [], ◌∷◌, Option, Some, None, Result, drop}
 use Rattle.pearl_value.specs.declared.cell.Cell.{Cell}
 use Rattle.pearl_value.specs.declared.cell.Cell.TheVariants.{Fixed, Bits, Ref}
 use Rattle.pearl_value.specs.WellFormed.{IsValue}
 use Rattle.pearl_value.specs.declared.trap.Trap.{Trap}
 use Rattle.pearl_rules.specs.declared.action.Answer.{Answer}
 use Rattle.pearl_stack.specs.declared.stack.Frame as size
-use Rattle.pearl_stack.specs.Frames.{Frame, Stack, sizes, used}
+use Rattle.pearl_stack.specs.Frames.{Frame, Stack, sizes, used, place_of, moved}
 use Rattle.pearl_instructions.specs.Steps.{Step, Silent, Offers, Missing, popped, makes, leaves}
 use Rattle.pearl_instructions.specs.Cells.{put, store, cell_reference}
 use Rattle.pearl_instructions.specs.Flow.{target_of}
@@ -55,6 +55,20 @@ IsSizes here (f ∷ lower) = here ≡ sizes f
 pub record IsHere (here : size.Frame) (frames : List Frame) : Type 0 where
   pub top : IsSizes here frames
   pub next : here.instruction + 1 < 2 ^ 64
+
+-- the same of a stack, whatever the sizes of its top frame are
+pub record HasNext (frames : List Frame) : Type 0 where
+  pub some : frames ≢ []
+  pub next : place_of frames + 1 < 2 ^ 64
+
+-- the sizes of the top frame
+abbrev pub sizes_of : List Frame → size.Frame
+sizes_of [] = record { routine = 0; instruction = 0; cells = 0; operands = 0 }
+sizes_of (f ∷ lower) = sizes f
+
+-- the stack whose top frame is at the instruction behind its own
+abbrev pub next_of : List Frame → List Frame
+next_of frames = moved (place_of frames + 1) frames
 
 abbrev pub top_cells : List Frame → List Cell
 top_cells [] = []
@@ -105,8 +119,3 @@ with_cells cells (f ∷ lower) = record f { cells = cells } ∷ lower
 -- a reference to cell c stands in the place of so many operands
 abbrev pub referred_on : ℕ → ℕ → List Frame → Step
 referred_on c n frames = on_top (λ f lower. cell_reference c f lower (drop n f.operands)) frames
-
--- the instruction of the top frame
-abbrev pub place_of : List Frame → ℕ
-place_of [] = 0
-place_of (f ∷ lower) = f.place

@@ -1,20 +1,20 @@
 // The step of a loop, and the test that a step isn't 0.
 
-ghost use Rattle.std.specs.Prelude.{◌≡◌, ◌≤◌, ◌^◌, ◌+ℤ◌, pos, if◌then◌else◌, Some, None};
+ghost use Rattle.std.specs.Prelude.{◌≡◌, ◌≤◌, ◌^◌, ◌+ℤ◌, pos, if◌then◌else◌, Some, None, option_map};
 ghost use Rattle.pearl_value.specs.declared.cell.Cell.{Cell};
 ghost use Rattle.std.specs.List.{AllByRecursion};
 ghost use Rattle.pearl_value.specs.Conversions.{fits_fixed};
 ghost use Rattle.pearl_value.specs.WellFormed.{IsValue};
 ghost use Rattle.pearl_instructions.specs.Flow.{advance as advance_row};
 ghost use Rattle.pearl_instructions.specs.Operators.{non_zero as non_zero_row};
-ghost use Rattle.pearl_silent.specs.Advances.{advanced, null_trap as null_trap_of};
+ghost use Rattle.pearl_silent.specs.Advances.{fixed_of, advanced, null_trap as null_trap_of};
 ghost use Rattle.pearl_silent.specs.Numbers.{HasLoop};
-ghost use Rattle.pearl_silent.specs.Steps.{on_top, top_cells, Does, Applies, IsHere, IsFormed, told};
+ghost use Rattle.pearl_silent.specs.Steps.{on_top, top_cells, Does, Applies, HasNext, IsFormed, told};
 
-use crate::elements::element;
+use crate::outcomes::leave_none;
+use crate::own::{behind, own, set_own_number};
 use crate::stepped::Did;
-use crate::top::{operand, own_cell, pass, set_own_cell};
-use pearl_stack::stack::{Frame, Loaded};
+use pearl_stack::stack::Loaded;
 use pearl_value::cell::Cell;
 use pearl_value::trap::Trap;
 
@@ -35,13 +35,20 @@ fn is_in_range(value: i128, len: u8) -> bool
     -end <= value && value <= end - 1
 }
 
+// A FIXED number.
+#[derive(Clone, Copy)]
+struct Number {
+    len: u8,
+    value: i64,
+}
+
 // The number of this length, where it is one.
-fn fixed(len: u8, value: i128) -> Option<Cell>
+fn fixed(len: u8, value: i128) -> Option<Number>
     requires { len ≤ 63 }
-    ensures { result ≡ if fits_fixed len value then Some (Cell.Fixed len value) else None }
+    ensures { option_map fixed_of result ≡ if fits_fixed len value then Some (Cell.Fixed len value) else None }
 {
     if is_in_range(value, len) {
-        Some(Cell::Fixed {
+        Some(Number {
             len,
             value: value as i64,
         })
@@ -57,9 +64,9 @@ fn sum(a: i64, b: i64) -> i128
 }
 
 // The control of a loop after its step, where it is still of its kind.
-fn next_control(control: &Cell, step: &Cell) -> Option<Cell>
+fn next_control(control: &Cell, step: &Cell) -> Option<Number>
     requires { IsValue control.now }
-    ensures { result ≡ advanced control.now step.now }
+    ensures { option_map fixed_of result ≡ advanced control.now step.now }
 {
     match (control, step) {
         (Cell::Fixed { len, value }, Cell::Fixed { value: by, .. }) => fixed(
@@ -71,20 +78,19 @@ fn next_control(control: &Cell, step: &Cell) -> Option<Cell>
 }
 
 // Advance. The cells of the loop hold numbers.
-pub fn advance(stack: &mut Loaded, here: &Frame, first: u64, past: u64) -> Did
-    requires here { IsHere here.now stack.old.frames }
+pub fn advance(stack: &mut Loaded, first: u64, past: u64) -> Did
+    requires next { HasNext stack.old.frames }
     requires numbers { HasLoop first stack.old.frames }
     requires formed { AllByRecursion IsFormed (top_cells stack.old.frames) }
     ensures { Does (on_top (λ f lower. advance_row first past f lower) stack.old.frames) stack.old stack.new (told result) }
 {
-    let _cells = here.cells;
-    let second = element(here, first, 1);
-    let control = own_cell(stack, here, first);
-    let step = own_cell(stack, here, second);
+    let second = behind(stack, first, 1);
+    let control = own(stack, first);
+    let step = own(stack, second);
     match next_control(control, step) {
         Some(x) => {
-            set_own_cell(stack, first as u32, x);
-            stack.go(here.instruction + 1);
+            set_own_number(stack, first, x.len, x.value);
+            stack.go_on();
             Did::Silent
         }
         None => {
@@ -105,13 +111,13 @@ fn null_trap(x: &Cell) -> Option<Trap>
 }
 
 // NonZero.
-pub fn non_zero(stack: &mut Loaded, here: &Frame) -> Did
-    requires here { IsHere here.now stack.old.frames }
+pub fn non_zero(stack: &mut Loaded) -> Did
+    requires next { HasNext stack.old.frames }
     requires ready { Applies (on_top (λ f lower. non_zero_row f lower) stack.old.frames) stack.old.room }
     ensures { Does (on_top (λ f lower. non_zero_row f lower) stack.old.frames) stack.old stack.new (told result) }
 {
-    match null_trap(operand(stack, here, 0)) {
+    match null_trap(stack.top(0)) {
         Some(trap) => Did::Trapped(trap),
-        None => pass(stack, here, 0),
+        None => leave_none(stack, 0),
     }
 }

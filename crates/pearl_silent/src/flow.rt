@@ -3,16 +3,15 @@
 ghost use Rattle.std.specs.Prelude.{◌≡◌, if◌then◌else◌, unwrap_or};
 ghost use Rattle.pearl_instructions.specs.Steps.{popped as popped_row};
 ghost use Rattle.pearl_instructions.specs.Flow.{goes as goes_row, jump_zero as jump_zero_row, branch as branch_row};
-ghost use Rattle.pearl_silent.specs.Steps.{on_top, is_zero as is_zero_of, target_for, Does, Applies, IsHere, told};
+ghost use Rattle.pearl_silent.specs.Steps.{on_top, is_zero as is_zero_of, target_for, Does, Applies, HasNext, told};
 
 use crate::stepped::Did;
-use crate::top::operand;
-use pearl_stack::stack::{Frame, Loaded};
+use pearl_stack::stack::Loaded;
 use pearl_value::cell::Cell;
 
 // Jump.
-pub fn jump(stack: &mut Loaded, here: &Frame, i: u64) -> Did
-    requires here { IsHere here.now stack.old.frames }
+pub fn jump(stack: &mut Loaded, i: u64) -> Did
+    requires next { HasNext stack.old.frames }
     ensures { Does (on_top (λ f lower. goes_row i f lower f.operands) stack.old.frames) stack.old stack.new (told result) }
 {
     stack.go(i);
@@ -37,13 +36,13 @@ fn zero_or(x: &Cell, i: u64, next: u64) -> u64
 }
 
 // JumpZero.
-pub fn jump_zero(stack: &mut Loaded, here: &Frame, i: u64) -> Did
-    requires here { IsHere here.now stack.old.frames }
+pub fn jump_zero(stack: &mut Loaded, i: u64) -> Did
+    requires next { HasNext stack.old.frames }
     requires ready { Applies (on_top (λ f lower. popped_row f.operands (λ b left. jump_zero_row i f lower left b)) stack.old.frames) stack.old.room }
     ensures { Does (on_top (λ f lower. popped_row f.operands (λ b left. jump_zero_row i f lower left b)) stack.old.frames) stack.old stack.new (told result) }
 {
-    let to = zero_or(operand(stack, here, 0), i, here.instruction + 1);
-    stack.pop();
+    let to = zero_or(stack.top(0), i, stack.place() + 1);
+    stack.drop_top(1);
     stack.go(to);
     Did::Silent
 }
@@ -75,13 +74,13 @@ fn target_or(targets: &[u64], x: &Cell, next: u64) -> u64
 }
 
 // Case.
-pub fn case(stack: &mut Loaded, here: &Frame, targets: &[u64]) -> Did
-    requires here { IsHere here.now stack.old.frames }
+pub fn case(stack: &mut Loaded, targets: &[u64]) -> Did
+    requires next { HasNext stack.old.frames }
     requires ready { Applies (on_top (λ f lower. popped_row f.operands (λ x left. branch_row targets.now f lower left x)) stack.old.frames) stack.old.room }
     ensures { Does (on_top (λ f lower. popped_row f.operands (λ x left. branch_row targets.now f lower left x)) stack.old.frames) stack.old stack.new (told result) }
 {
-    let to = target_or(targets, operand(stack, here, 0), here.instruction + 1);
-    stack.pop();
+    let to = target_or(targets, stack.top(0), stack.place() + 1);
+    stack.drop_top(1);
     stack.go(to);
     Did::Silent
 }

@@ -1,16 +1,17 @@
 // Subscripts.
 
-ghost use Rattle.std.specs.Prelude.{◌≡◌, ◌+◌, ◌*◌, ◌<◌, ◌≤◌, pos, int_le, true, IsSome, IfSome, option_map};
+ghost use Rattle.std.specs.Prelude.{◌≡◌, ◌+◌, ◌*◌, ◌<◌, ◌≤◌, pos, int_le, true, IsSome, IfSome, length, option_map};
 ghost use Rattle.std.specs.List.{list_all};
-ghost use Rattle.pearl_instructions.specs.Operators.{index as index_row, index_of, numbers_of};
+ghost use Rattle.pearl_instructions.specs.Operators.{index as index_row, numbers_of};
 ghost use Rattle.pearl_instructions.specs.Valid.{elements, extent as extent_of, is_array};
-ghost use Rattle.pearl_silent.specs.Indices.{distance_at, offset_among};
-ghost use Rattle.pearl_silent.specs.Steps.{on_top, Does, Applies, IsHere, told};
+ghost use Rattle.pearl_stack.specs.Frames.{top_operands};
+ghost use Rattle.pearl_silent.specs.Indices.{distance_at, offset_among, top_in_order};
+ghost use Rattle.pearl_silent.specs.Steps.{on_top, Does, Applies, HasNext, told};
 
+use crate::outcomes::leave_fixed;
 use crate::stepped::Did;
-use crate::top::{few_values, finish};
 use pearl_instructions::instr::Bounds;
-use pearl_stack::stack::{Frame, Loaded};
+use pearl_stack::stack::Loaded;
 use pearl_value::cell::Cell;
 use pearl_value::trap::Trap;
 
@@ -37,45 +38,33 @@ fn distance(bounds: Bounds, x: &Cell) -> Option<u64>
     }
 }
 
-// The offset of an element, of whose dimensions these are left.
-fn offset_from(so_far: u64, bounds: &[Bounds], xs: &[Cell]) -> Option<u64>
+// The offset of an element, of whose dimensions these are left. Their subscripts are the top operands, the last one on top.
+fn offset_from(stack: &Loaded, so_far: u64, bounds: &[Bounds]) -> Option<u64>
+    requires dimensions { length bounds.now ≤ 3 }
+    requires there { length bounds.now ≤ length (top_operands stack.now.frames) }
     requires ordered { list_all (λ b. int_le b.low b.high) bounds.now ≡ true }
     requires few { (so_far + 1) * elements bounds.now ≤ 65536 }
-    requires numbers { IsSome (numbers_of xs.now) }
-    ensures value { option_map pos result ≡ offset_among (pos so_far) bounds.now xs.now }
+    requires numbers { IsSome (numbers_of (top_in_order (length bounds.now) stack.now.frames)) }
+    ensures value { option_map pos result ≡ offset_among (pos so_far) bounds.now (top_in_order (length bounds.now) stack.now.frames) }
     ensures small { IfSome result (λ n. n < 65536) }
 {
     let Some((pair, others)) = bounds.split_first() else {
         return Some(so_far);
     };
-    let (x, more) = xs.split_first()?;
+    let x = stack.top(others.len() as u32);
     let far = distance(*pair, x)?;
-    offset_from(so_far * extent(*pair) + far, others, more)
-}
-
-// The offset as a value, or the trap.
-fn offset_value(offset: Option<u64>) -> Result<Cell, Trap>
-    requires { IfSome offset (λ n. n < 65536) }
-    ensures { result ≡ index_of (option_map pos offset) }
-{
-    match offset {
-        Some(o) => Ok(Cell::Fixed {
-            len: 31,
-            value: o as i64,
-        }),
-        None => Err(Trap::Index),
-    }
+    offset_from(stack, so_far * extent(*pair) + far, others)
 }
 
 // Index.
-pub fn index(stack: &mut Loaded, here: &Frame, bounds: &[Bounds]) -> Did
-    requires here { IsHere here.now stack.old.frames }
+pub fn index(stack: &mut Loaded, bounds: &[Bounds]) -> Did
+    requires next { HasNext stack.old.frames }
     requires array { is_array bounds.now ≡ true }
     requires ready { Applies (on_top (λ f lower. index_row bounds.now f lower) stack.old.frames) stack.old.room }
     ensures { Does (on_top (λ f lower. index_row bounds.now f lower) stack.old.frames) stack.old stack.new (told result) }
 {
-    let taken = bounds.len() as u32;
-    let xs = few_values(stack, here, taken);
-    let made = offset_value(offset_from(0, bounds, xs.as_slice()));
-    finish(stack, here, taken, made)
+    match offset_from(stack, 0, bounds) {
+        Some(o) => leave_fixed(stack, bounds.len() as u32, 31, o as i64),
+        None => Did::Trapped(Trap::Index),
+    }
 }

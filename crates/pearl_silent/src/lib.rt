@@ -1,7 +1,7 @@
 //! Instructions that offer no action but a trap, carried out on a task's stack in memory: on cells and operands, jumps,
 //! loops and the way back from a procedure.
 //!
-//! [`step::quick_step`] carries one out; where the next instruction may offer another action, nothing changes.
+//! [`run::run_silent`] carries them out one after the other, up to the first one that may offer another action.
 #![tactic(auto)]
 
 mod advances;
@@ -12,7 +12,10 @@ mod indices;
 pub mod known;
 mod loops;
 mod operators;
+mod outcomes;
+mod own;
 mod returns;
+pub mod run;
 pub mod step;
 pub mod stepped;
 pub mod table;

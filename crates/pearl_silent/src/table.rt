@@ -10,7 +10,7 @@ use pearl_stack::stack::Frame;
 use pearl_value::kind::Kind;
 
 // The code of a routine.
-fn code_at(object: &Object, routine: u32) -> &Code
+pub(crate) fn code_at(object: &Object, routine: u32) -> &Code
     requires { IsSome (routine_at object.now routine) }
     ensures { routine_at object.now routine ≡ Some result.now }
 {

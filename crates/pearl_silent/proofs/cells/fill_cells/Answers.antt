@@ -9,8 +9,8 @@ use Rattle.pearl_silent.proofs.cells.fill_cells.Goals as goal
 pub loop-i-init : goal.loop-i-init
 loop-i-init c = record { keeps = keeps_first c.args.stack.now; fills = fills_first (top_cells c.args.stack.now.frames) c.args.first c.args.count c.args.kind }
 
-pub set_own_cell-requires : goal.set_own_cell-requires
-set_own_cell-requires c =
+pub set_own_blank-requires-clause-cell : goal.set_own_blank-requires-clause-cell
+set_own_blank-requires-clause-cell c =
     within_some (top_cells c.loop-i.stack.frames) (c.args.first + c.loop-i.i) (omega (arith, c.requires.there, c.loop-i.invariant.fills.long))
 
 pub loop-i-preserved : goal.loop-i-preserved
@@ -18,10 +18,10 @@ loop-i-preserved c =
     let old : Stack = c.args.stack.now in
     let now : Stack = c.loop-i.stack in
     let more = fills_more (top_cells old.frames) c.args.first c.args.count c.loop-i.i c.args.kind (top_cells now.frames) c.loop-i.invariant.fills (omega arith) c.requires.there in
-    let is : c.set_own_cell.new.stack ≡ record now { frames = with_top_cell (c.args.first + c.loop-i.i) (blank_of c.args.kind) now.frames } =
-    c.set_own_cell.ensures ∙ ap (λ x. record now { frames = with_top_cell (c.args.first + c.loop-i.i) x now.frames }) c.blank.ensures.value in
+    let is : c.set_own_blank.new.stack ≡ record now { frames = with_top_cell (c.args.first + c.loop-i.i) (blank_of c.args.kind) now.frames } =
+    c.set_own_blank.ensures in
     record {
-      keeps = keeps_set (c.args.first + c.loop-i.i) (blank_of c.args.kind) old now c.set_own_cell.new.stack c.loop-i.invariant.keeps is;
+      keeps = keeps_set (c.args.first + c.loop-i.i) (blank_of c.args.kind) old now c.set_own_blank.new.stack c.loop-i.invariant.keeps is;
       fills = subst (Fills (top_cells old.frames) c.args.first c.args.count (c.loop-i.i + 1) c.args.kind)
           (sym (cells_set (c.args.first + c.loop-i.i) (blank_of c.args.kind) now.frames) ∙ ap (λ (s : Stack). top_cells s.frames) (sym is)) more;
     }

@@ -1,25 +1,27 @@
-use Rattle.std.proofs.Common.{◌≡◌, ap, ◌∙◌}
-use Rattle.pearl_stack.specs.Frames.{Stack, popped, moved}
-use Rattle.pearl_silent.proofs.Tops.{top_some, without_some, operands_some}
-use Rattle.pearl_silent.proofs.Made.{silent_does}
+use Rattle.std.proofs.Common.{◌≡◌, ◌+◌, sym, ap, ◌∙◌, arith}
+use Rattle.std.specs.Prelude.{unwrap_or}
+use Rattle.pearl_stack.specs.Frames.{Stack, place_of, popped, moved}
+use Rattle.pearl_instructions.specs.Steps.{Silent}
+use Rattle.pearl_silent.specs.Steps.{target_for}
 use Rattle.pearl_silent.proofs.Applied.{one_there}
+use Rattle.pearl_silent.proofs.Tops.{without_some}
+use Rattle.pearl_silent.proofs.Made.{silent_does}
 use Rattle.pearl_silent.proofs.FlowRows.{case_is}
 use Rattle.pearl_silent.proofs.flow.case.Goals as goal
 
-pub operand-requires-clause-there : goal.operand-requires-clause-there
-operand-requires-clause-there c = one_there c.args.stack.now.frames _ c.args.stack.now.room c.requires.ready
+pub top-requires : goal.top-requires
+top-requires c = one_there c.args.stack.now.frames _ c.args.stack.now.room c.requires.ready
 
-pub pop-requires : goal.pop-requires
-pop-requires c = operands_some c.args.stack.now.frames 0 (one_there c.args.stack.now.frames _ c.args.stack.now.room c.requires.ready)
+pub drop_top-requires : goal.drop_top-requires
+drop_top-requires c = let there = one_there c.args.stack.now.frames _ c.args.stack.now.room c.requires.ready in omega (arith, there)
 
 pub go-requires : goal.go-requires
-go-requires c = rw c.pop.ensures.rest (without_some 1 c.args.stack.now.frames (top_some c.args.here.now c.args.stack.now.frames c.requires.here.top))
+go-requires c = rw c.drop_top.ensures (without_some 1 c.args.stack.now.frames c.requires.next.some)
 
 pub returns : goal.returns
 returns c =
     let old : Stack = c.args.stack.now in
-    let now : c.go.new.self ≡ record old { frames = moved c.target_or-to.result (popped old.frames) } =
-    c.go.ensures ∙ ap (λ (s : Stack). record s { frames = moved c.target_or-to.result s.frames }) c.pop.ensures.rest in
+    let to : c.target_or-to.result ≡ unwrap_or (target_for c.args.targets.now c.top.result.now) (place_of old.frames + 1) = c.target_or-to.ensures ∙ ap (λ p. unwrap_or (target_for c.args.targets.now c.top.result.now) (p + 1)) c.place.ensures in
     silent_does _ old c.go.new.self _
-    (case_is old.frames c.args.here.now c.args.targets.now old.room c.operand.result.now c.requires.here.top c.requires.ready c.operand.ensures)
-    (now ∙ ap (λ i. record old { frames = moved i (popped old.frames) }) c.target_or-to.ensures)
+    (case_is old.frames c.args.targets.now old.room c.top.result.now c.requires.ready c.top.ensures ∙ ap (λ t. Silent (moved t (popped old.frames))) (sym to))
+    (c.go.ensures ∙ ap (λ (s : Stack). record s { frames = moved c.target_or-to.result s.frames }) c.drop_top.ensures)

@@ -1,25 +1,27 @@
-use Rattle.std.proofs.Common.{◌≡◌, ap, ◌∙◌}
-use Rattle.pearl_stack.specs.Frames.{Stack, popped, moved}
-use Rattle.pearl_silent.proofs.Tops.{top_some, without_some, operands_some}
-use Rattle.pearl_silent.proofs.Made.{silent_does}
+use Rattle.std.proofs.Common.{◌≡◌, ◌+◌, sym, ap, ◌∙◌, arith}
+use Rattle.std.specs.Prelude.{if◌then◌else◌}
+use Rattle.pearl_stack.specs.Frames.{Stack, place_of, popped, moved}
+use Rattle.pearl_instructions.specs.Steps.{Silent}
+use Rattle.pearl_silent.specs.Steps.{is_zero}
 use Rattle.pearl_silent.proofs.Applied.{one_there}
+use Rattle.pearl_silent.proofs.Tops.{without_some}
+use Rattle.pearl_silent.proofs.Made.{silent_does}
 use Rattle.pearl_silent.proofs.FlowRows.{jump_zero_is}
 use Rattle.pearl_silent.proofs.flow.jump_zero.Goals as goal
 
-pub operand-requires-clause-there : goal.operand-requires-clause-there
-operand-requires-clause-there c = one_there c.args.stack.now.frames _ c.args.stack.now.room c.requires.ready
+pub top-requires : goal.top-requires
+top-requires c = one_there c.args.stack.now.frames _ c.args.stack.now.room c.requires.ready
 
-pub pop-requires : goal.pop-requires
-pop-requires c = operands_some c.args.stack.now.frames 0 (one_there c.args.stack.now.frames _ c.args.stack.now.room c.requires.ready)
+pub drop_top-requires : goal.drop_top-requires
+drop_top-requires c = let there = one_there c.args.stack.now.frames _ c.args.stack.now.room c.requires.ready in omega (arith, there)
 
 pub go-requires : goal.go-requires
-go-requires c = rw c.pop.ensures.rest (without_some 1 c.args.stack.now.frames (top_some c.args.here.now c.args.stack.now.frames c.requires.here.top))
+go-requires c = rw c.drop_top.ensures (without_some 1 c.args.stack.now.frames c.requires.next.some)
 
 pub returns : goal.returns
 returns c =
     let old : Stack = c.args.stack.now in
-    let now : c.go.new.self ≡ record old { frames = moved c.zero_or-to.result (popped old.frames) } =
-    c.go.ensures ∙ ap (λ (s : Stack). record s { frames = moved c.zero_or-to.result s.frames }) c.pop.ensures.rest in
+    let to : c.zero_or-to.result ≡ (if is_zero c.top.result.now then c.args.i else place_of old.frames + 1) = c.zero_or-to.ensures ∙ ap (λ p. if is_zero c.top.result.now then c.args.i else p + 1) c.place.ensures in
     silent_does _ old c.go.new.self _
-    (jump_zero_is old.frames c.args.here.now c.args.i old.room c.operand.result.now c.requires.here.top c.requires.ready c.operand.ensures)
-    (now ∙ ap (λ i. record old { frames = moved i (popped old.frames) }) c.zero_or-to.ensures)
+    (jump_zero_is old.frames c.args.i old.room c.top.result.now c.requires.ready c.top.ensures ∙ ap (λ t. Silent (moved t (popped old.frames))) (sym to))
+    (c.go.ensures ∙ ap (λ (s : Stack). record s { frames = moved c.zero_or-to.result s.frames }) c.drop_top.ensures)

@@ -4,34 +4,51 @@ use Rattle.pearl_silent.proofs.Made.{same_applies, same_does}
 use Rattle.pearl_silent.proofs.OperatorRows.{dyadic_there, dyadic_applies}
 use Rattle.pearl_silent.proofs.operators.dyadic.Goals as goal
 
-pub operand-right-requires-clause-there : goal.operand-right-requires-clause-there
-operand-right-requires-clause-there c = let there = dyadic_there c.args.op c.args.stack.now.frames c.args.stack.now.room c.requires.ready in omega (arith, there)
+pub top-right-requires : goal.top-right-requires
+top-right-requires c = let there = dyadic_there c.args.op c.args.stack.now.frames c.args.stack.now.room c.requires.ready in omega (arith, there)
 
-pub operand-left-requires-clause-there : goal.operand-left-requires-clause-there
-operand-left-requires-clause-there c = dyadic_there c.args.op c.args.stack.now.frames c.args.stack.now.room c.requires.ready
+pub top-left-requires : goal.top-left-requires
+top-left-requires c = dyadic_there c.args.op c.args.stack.now.frames c.args.stack.now.room c.requires.ready
+
+pub of_numbers-requires-clause-left : goal.of_numbers-requires-clause-left
+of_numbers-requires-clause-left c = (dyadic_applies c.args.op c.args.stack.now.frames c.args.stack.now.room c.top-left.result.now c.top-right.result.now c.requires.ready c.requires.formed c.top-right.ensures c.top-left.ensures).left
+
+pub of_numbers-requires-clause-right : goal.of_numbers-requires-clause-right
+of_numbers-requires-clause-right c = (dyadic_applies c.args.op c.args.stack.now.frames c.args.stack.now.room c.top-left.result.now c.top-right.result.now c.requires.ready c.requires.formed c.top-right.ensures c.top-left.ensures).right
 
 pub apply2-made-requires-clause-left : goal.apply2-made-requires-clause-left
-apply2-made-requires-clause-left c =
-    (dyadic_applies c.args.op c.args.stack.now.frames c.args.stack.now.room c.operand-left.result.now c.operand-right.result.now c.requires.ready c.requires.formed c.operand-right.ensures c.operand-left.ensures).left
+apply2-made-requires-clause-left c = (dyadic_applies c.args.op c.args.stack.now.frames c.args.stack.now.room c.top-left.result.now c.top-right.result.now c.requires.ready c.requires.formed c.top-right.ensures c.top-left.ensures).left
 
 pub apply2-made-requires-clause-right : goal.apply2-made-requires-clause-right
-apply2-made-requires-clause-right c =
-    (dyadic_applies c.args.op c.args.stack.now.frames c.args.stack.now.room c.operand-left.result.now c.operand-right.result.now c.requires.ready c.requires.formed c.operand-right.ensures c.operand-left.ensures).right
+apply2-made-requires-clause-right c = (dyadic_applies c.args.op c.args.stack.now.frames c.args.stack.now.room c.top-left.result.now c.top-right.result.now c.requires.ready c.requires.formed c.top-right.ensures c.top-left.ensures).right
 
 pub apply2-made-requires-clause-row : goal.apply2-made-requires-clause-row
-apply2-made-requires-clause-row c =
-    (dyadic_applies c.args.op c.args.stack.now.frames c.args.stack.now.room c.operand-left.result.now c.operand-right.result.now c.requires.ready c.requires.formed c.operand-right.ensures c.operand-left.ensures).row
+apply2-made-requires-clause-row c = (dyadic_applies c.args.op c.args.stack.now.frames c.args.stack.now.room c.top-left.result.now c.top-right.result.now c.requires.ready c.requires.formed c.top-right.ensures c.top-left.ensures).row
 
-pub finish-requires-clause-there : goal.finish-requires-clause-there
-finish-requires-clause-there c = let there = dyadic_there c.args.op c.args.stack.now.frames c.args.stack.now.room c.requires.ready in omega (arith, there)
+pub leave_made-requires-clause-there : goal.leave_made-requires-clause-there
+leave_made-requires-clause-there c = let there = dyadic_there c.args.op c.args.stack.now.frames c.args.stack.now.room c.requires.ready in omega (arith, there)
 
-pub finish-requires-clause-ready : goal.finish-requires-clause-ready
-finish-requires-clause-ready c =
-    let at = dyadic_applies c.args.op c.args.stack.now.frames c.args.stack.now.room c.operand-left.result.now c.operand-right.result.now c.requires.ready c.requires.formed c.operand-right.ensures c.operand-left.ensures in
+pub leave_made-requires-clause-ready : goal.leave_made-requires-clause-ready
+leave_made-requires-clause-ready c =
+    let at = dyadic_applies c.args.op c.args.stack.now.frames c.args.stack.now.room c.top-left.result.now c.top-right.result.now c.requires.ready c.requires.formed c.top-right.ensures c.top-left.ensures in
+    same_applies _ _ c.args.stack.now.room (at.is ∙ ap (λ m. made_on 2 m c.args.stack.now.frames) (sym c.in-Some.ensures)) c.requires.ready
+
+pub returns-in-Some : goal.returns-in-Some
+returns-in-Some c =
+    let at = dyadic_applies c.args.op c.args.stack.now.frames c.args.stack.now.room c.top-left.result.now c.top-right.result.now c.requires.ready c.requires.formed c.top-right.ensures c.top-left.ensures in
+    same_does _ _ c.args.stack.now c.leave_made.new.stack (told c.leave_made.result)
+    (at.is ∙ ap (λ m. made_on 2 m c.args.stack.now.frames) (sym c.in-Some.ensures)) c.leave_made.ensures
+
+pub leave-requires-clause-there : goal.leave-requires-clause-there
+leave-requires-clause-there c = let there = dyadic_there c.args.op c.args.stack.now.frames c.args.stack.now.room c.requires.ready in omega (arith, there)
+
+pub leave-requires-clause-ready : goal.leave-requires-clause-ready
+leave-requires-clause-ready c =
+    let at = dyadic_applies c.args.op c.args.stack.now.frames c.args.stack.now.room c.top-left.result.now c.top-right.result.now c.requires.ready c.requires.formed c.top-right.ensures c.top-left.ensures in
     same_applies _ _ c.args.stack.now.room (at.is ∙ ap (λ m. made_on 2 m c.args.stack.now.frames) (sym c.apply2-made.ensures.value)) c.requires.ready
 
-pub returns : goal.returns
-returns c =
-    let at = dyadic_applies c.args.op c.args.stack.now.frames c.args.stack.now.room c.operand-left.result.now c.operand-right.result.now c.requires.ready c.requires.formed c.operand-right.ensures c.operand-left.ensures in
-    same_does _ _ c.args.stack.now c.finish.new.stack (told c.finish.result)
-    (at.is ∙ ap (λ m. made_on 2 m c.args.stack.now.frames) (sym c.apply2-made.ensures.value)) c.finish.ensures
+pub returns-in-None : goal.returns-in-None
+returns-in-None c =
+    let at = dyadic_applies c.args.op c.args.stack.now.frames c.args.stack.now.room c.top-left.result.now c.top-right.result.now c.requires.ready c.requires.formed c.top-right.ensures c.top-left.ensures in
+    same_does _ _ c.args.stack.now c.leave.new.stack (told c.leave.result)
+    (at.is ∙ ap (λ m. made_on 2 m c.args.stack.now.frames) (sym c.apply2-made.ensures.value)) c.leave.ensures
