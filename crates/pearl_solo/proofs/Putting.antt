@@ -1,5 +1,5 @@
 -- Values that suit a format.
-use Rattle.std.proofs.Common.{◌≡◌, ℕ, zero, suc, ◌+◌, ◌≤◌, List, [], ◌∷◌, Option, Some, None, length, map, reverse, take, drop, refl, sym, ap, ◌∙◌, subst, arith, true, leb-true}
+use Rattle.std.proofs.Common.{◌≡◌, ℕ, zero, suc, ◌+◌, ◌≤◌, List, [], ◌∷◌, Option, Some, None, length, map, reverse, take, drop, slice_get, refl, sym, ap, ◌∙◌, subst, arith, true, leb-true}
 use Rattle.std.specs.Prelude.{◌&&◌, nat_le, option_map, option_and_then}
 use Rattle.std.specs.List.{AllByRecursion, AllZip}
 use Rattle.std.proofs.lemmas.List.Elements.{All-from_recursion}
@@ -28,7 +28,7 @@ use Rattle.pearl_instructions.specs.Stacks.{Suits as SuitsCell}
 use Rattle.pearl_instructions.specs.Steps.{Offers, given, needed, taken, value_kind}
 use Rattle.pearl_instructions.specs.Valid.{plain_kinds, suits_format, values_suit}
 use Rattle.pearl_silent.specs.Steps.{on_top, Applies}
-use Rattle.pearl_solo.specs.Texts.{MakesText}
+use Rattle.pearl_solo.specs.Texts.{text_offered, MakesText}
 use Rattle.pearl_silent.proofs.Applied.{given_some, needed_true, and_true}
 use Rattle.pearl_silent.proofs.Filling.{all_given}
 use mathlib.Core.List.{reverse_aux}
@@ -206,12 +206,12 @@ makes_text o rs format s xs items w e z there h =
     subst (λ i. MakesText i xs) (sym e)
     (makes_by o rs items s xs (all_given IsFormat o.formats format items w e) z there (ap (λ i. values_suit i s) (sym e) ∙ h))
 
--- the row, where the values make a text
-pub puts_row : (o : Object) (d format : ℕ) (frames : List Frame) (room : ℕ) (items : List Item) (text : List ℕ) → items_at o format ≡ Some items →
-    Applies (on_top (λ f lower. put_values o d format f lower) frames) room → text_of items (reverse (take (data_count items) (top_operands frames))) ≡ Some text →
-    (go : Answer → List Frame) × (on_top (λ f lower. put_values o d format f lower) frames ≡ Offers (action.Put d (record { items = text })) go)
-puts_row o d format [] room items text e a t = absurd a
-puts_row o d format (f ∷ lower) room items text e a t =
+-- the row, by the text of the values
+pub puts_row : (o : Object) (d format : ℕ) (frames : List Frame) (room : ℕ) (items : List Item) → items_at o format ≡ Some items →
+    Applies (on_top (λ f lower. put_values o d format f lower) frames) room →
+    (go : Answer → List Frame) × (on_top (λ f lower. put_values o d format f lower) frames ≡ Offers (text_offered d (text_of items (reverse (take (data_count items) (top_operands frames))))) go)
+puts_row o d format [] room items e a = absurd a
+puts_row o d format (f ∷ lower) room items e a =
     let n = data_count items in
     let values = reverse (take n f.operands) in
     let left = drop n f.operands in
@@ -220,11 +220,24 @@ puts_row o d format (f ∷ lower) room items text e a t =
     ap (λ i. given i (λ items. taken (data_count items) f.operands (λ values left. given (value_kinds values) (λ kinds. needed (items_suit items kinds) (put_text d (text_of items values) f lower left))))) e in
     let there = needed_true (nat_le n (length f.operands)) _ room (subst (λ r. Applies r room) whole a) in
     let kinds = given_some (value_kinds values) _ room there.1 in
-    let suits = needed_true (items_suit items kinds.0) _ room kinds.2 in (
-      _,
+    let suits = needed_true (items_suit items kinds.0) _ room kinds.2 in
+    let offers = texted d (text_of items values) f lower left in (
+      offers.0,
       whole
           ∙ (ap (λ b. needed b (given (value_kinds values) (λ kinds. needed (items_suit items kinds) (put_text d (text_of items values) f lower left)))) there.0
           ∙ (ap (λ k. given k (λ kinds. needed (items_suit items kinds) (put_text d (text_of items values) f lower left))) kinds.1
-          ∙ (ap (λ b. needed b (put_text d (text_of items values) f lower left)) suits.0
-          ∙ ap (λ t. put_text d t f lower left) t))),
+          ∙ (ap (λ b. needed b (put_text d (text_of items values) f lower left)) suits.0 ∙ offers.1))),
     )
+  where
+    texted : (d : ℕ) (text : Option (List ℕ)) (f : Frame) (lower : List Frame) (left : List Cell) → (go : Answer → List Frame) × (put_text d text f lower left ≡ Offers (text_offered d text) go)
+    texted d None f lower left = (_, refl)
+    texted d (Some text) f lower left = (_, refl)
+
+-- one operand in a row
+pub one_operand : (xs : List Cell) (n : ℕ) (x : Cell) → n ≡ 1 → slice_get xs 0 ≡ Some x → x ∷ [] ≡ reverse (take n xs)
+one_operand [] n x one e = cc
+one_operand (y ∷ xs) n x one e = ap (λ z. z ∷ []) (sym (same_Some y x e)) ∙ ap (λ k. reverse (take k (y ∷ xs))) (sym one)
+
+-- what the operands make, where these are the items
+pub texts_are : (items : Option (List Item)) (all : List Item) (xs : List Cell) → items ≡ Some all → MakesText items xs → MakesText (Some all) xs
+texts_are items all xs e h = subst (λ i. MakesText i xs) e h

@@ -17,7 +17,7 @@ use Rattle.pearl_instructions.specs.Cells.{read_reference, write_reference}
 use Rattle.pearl_solo.specs.Answered.{place_in}
 use Rattle.pearl_silent.specs.Steps.{GoesOn, on_top, Applies, Does, IsSizes, made_on}
 use Rattle.pearl_silent.proofs.Applied.{given_some}
-use Rattle.pearl_silent.proofs.Made.{silent_does, made_room, made_silent, same_applies}
+use Rattle.pearl_silent.proofs.Made.{silent_does, made_room, same_applies}
 use Rattle.pearl_silent.proofs.Tops.{pushed_some}
 
 some_of : {A : Type 0} (o : Option A) (x : A) → o ≡ Some x → IsSome o
@@ -101,6 +101,10 @@ cell_under (f ∷ lower) n c = cell_stays f (record f { operands = drop 1 f.oper
 
 -- a copy of the cell is pushed in the place of the reference
 
+made_moved : (frames : List Frame) (here : size.Frame) (x : Cell) → IsSizes here frames → made_on 1 (Ok x) frames ≡ Silent (moved (here.instruction + 1) (pushed x (without 1 frames)))
+made_moved [] here x never = absurd never
+made_moved (f ∷ lower) here x is = ap (λ h. Silent (moved (h.instruction + 1) (pushed x (without 1 (f ∷ lower))))) (sym is)
+
 pub read_there : (old off : Stack) (n c : ℕ) → ReadsCell old.frames n c → off ≡ record old { frames = without 1 old.frames } → IsSome (cell_at off.frames n c)
 read_there old off n c r e = subst (λ o. IsSome o) (sym (ap (λ (s : Stack). cell_at s.frames n c) e ∙ cell_under old.frames n c)) r.there
 
@@ -131,7 +135,7 @@ read_silent old off on now here n c is r e h m = by (cell_at old.frames n c) ref
         let whole : now ≡ record old { frames = moved (here.instruction + 1) (pushed x (without 1 old.frames)) } =
         m ∙ (ap (λ (s : Stack). record s { frames = moved (here.instruction + 1) s.frames }) (sym same)
         ∙ ap (λ (s : Stack). record s { frames = moved (here.instruction + 1) (pushed x s.frames) }) e) in
-        silent_does (read_row old.frames) old now _ (r.is x t ∙ made_silent old.frames here 1 x is) whole
+        silent_does (read_row old.frames) old now _ (r.is x t ∙ made_moved old.frames here x is) whole
 
 -- writing
 

@@ -1,11 +1,12 @@
 // Texts and values of terminals.
 
-ghost use Rattle.std.specs.Prelude.{◌≡◌, ◌<◌, ◌≤◌, ◌^◌, Some, IsSome, IfSome, option_and_then};
+ghost use Rattle.std.specs.Prelude.{◌≡◌, ◌<◌, ◌≤◌, ◌^◌, Some, IsSome, IfSome, length, take, reverse, option_and_then};
 ghost use Rattle.pearl_format.specs.Items.{data_count as count_of, data_here as count_here};
+ghost use Rattle.pearl_format.specs.Texts.{text_of};
 ghost use Rattle.pearl_stack.specs.Frames.{top_operands};
 ghost use Rattle.pearl_instructions.specs.Objects.{items_at as items_of};
 ghost use Rattle.pearl_instructions.specs.Offers.{value_kinds, cells_from, put_values as put_row, get_values as get_row};
-ghost use Rattle.pearl_solo.specs.Texts.{MakesText};
+ghost use Rattle.pearl_solo.specs.Texts.{text_offered, HasText, MakesText};
 ghost use Rattle.pearl_silent.specs.Steps.{on_top, Does, Applies, IsHere, top_cells};
 ghost use Rattle.pearl_exchange.specs.Offers.{action_of};
 ghost use Rattle.pearl_solo.specs.Gives.{gave};
@@ -18,10 +19,12 @@ use pearl_format::item::{Item, ItemCode};
 use pearl_format::put::put_text;
 use pearl_instructions::instr::Reading;
 use pearl_instructions::valid::Valid;
-use pearl_silent::top::own_cell;
+use pearl_silent::top::{operand, own_cell};
 use pearl_stack::stack::{Frame, Loaded};
+use pearl_value::cell::Cell;
 use pearl_value::conversion::kind;
 use pearl_value::kind::Kind;
+use std::slice;
 
 // The items of a format.
 pub fn items_at(code: &Valid, format: u64) -> &[Item]
@@ -54,7 +57,37 @@ pub fn data_count(items: &[Item]) -> u32
     count
 }
 
-// Put. The values are copied, since they stay up to the answer.
+// Offers the text of a Put, or its trap.
+fn offer_text(items: &[Item], values: &[Cell], device: u32, into: &mut Offer)
+    requires { HasText items.now values.now }
+    ensures { action_of into.new ≡ text_offered device (text_of items.now values.now) }
+{
+    match put_text(items, values, &mut into.text) {
+        Ok(()) => into.what = What::Put(device),
+        Err(trap) => into.what = What::Trap(trap),
+    }
+}
+
+// Offers the text of the top operands, which are copied into a row, since they stay up to the answer.
+fn offer_texts(
+    stack: &Loaded,
+    here: &Frame,
+    items: &[Item],
+    count: u32,
+    device: u32,
+    into: &mut Offer,
+)
+    requires here { IsHere here.now stack.now.frames }
+    requires there { count ≤ length (top_operands stack.now.frames) }
+    requires few { count ≤ 64 }
+    requires text { HasText items.now (reverse (take count (top_operands stack.now.frames))) }
+    ensures { action_of into.new ≡ text_offered device (text_of items.now (reverse (take count (top_operands stack.now.frames)))) }
+{
+    let values = top_values(stack, here, count);
+    offer_text(items, values.as_slice(), device, into);
+}
+
+// Put.
 pub fn put(
     code: &Valid,
     stack: &Loaded,
@@ -71,17 +104,13 @@ pub fn put(
 {
     let items = items_at(code, format);
     let count = data_count(items);
-    let values = top_values(stack, here, count);
-    match put_text(items, values.as_slice(), &mut into.text) {
-        Ok(()) => {
-            into.what = What::Put(device as u32);
-            Gave::Offered
-        }
-        Err(trap) => {
-            into.what = What::Trap(trap);
-            Gave::Offered
-        }
+    if count == 1 {
+        let x = operand(stack, here, 0);
+        offer_text(items, slice::from_ref(x), device as u32, into);
+        return Gave::Offered;
     }
+    offer_texts(stack, here, items, count, device as u32, into);
+    Gave::Offered
 }
 
 // The kinds of so many cells of the top frame.

@@ -5,13 +5,12 @@ ghost use Rattle.pearl_instructions.specs.Stacks.{IsStack, task_of, room};
 ghost use Rattle.pearl_exchange.specs.Offers.{action_of};
 ghost use Rattle.pearl_solo.specs.Settling.{Settles};
 
-use crate::step::step;
+use crate::step::step_other;
 use crate::stepped::Gave;
 use pearl_exchange::offer::{Offer, What};
 use pearl_instructions::valid::Valid;
 use pearl_silent::known::laws_hold;
-use pearl_silent::step::quick_step;
-use pearl_silent::stepped::Did;
+use pearl_silent::run::run_silent;
 use pearl_stack::stack::Loaded;
 
 /// Carries out instructions until one offers an action, at which the task stands then, and leaves it beside the stack.
@@ -26,15 +25,12 @@ pub fn settle(code: &Valid, stack: &mut Loaded, into: &mut Offer)
 {
     laws_hold(code);
     loop {
-        match quick_step(code, stack) {
-            Some(did) => match did {
-                Did::Silent => {}
-                Did::Trapped(trap) => {
-                    into.what = What::Trap(trap);
-                    return;
-                }
-            },
-            None => match step(code, stack, into) {
+        match run_silent(code, stack) {
+            Some(trap) => {
+                into.what = What::Trap(trap);
+                return;
+            }
+            None => match step_other(code, stack, into) {
                 Gave::Silent => {}
                 Gave::Offered => return,
             },

@@ -1,8 +1,9 @@
 // One instruction.
 
-ghost use Rattle.std.specs.Prelude.{◌≡◌, ◌≤◌};
+ghost use Rattle.std.specs.Prelude.{◌≡◌, ◌≤◌, None};
 ghost use Rattle.pearl_instructions.specs.Rows.{row};
 ghost use Rattle.pearl_instructions.specs.Stacks.{IsStack, task_of, room};
+ghost use Rattle.pearl_silent.specs.Settling.{Ends};
 ghost use Rattle.pearl_silent.specs.Standing.{act_on, family, StandsAt};
 ghost use Rattle.pearl_silent.specs.Steps.{Does};
 ghost use Rattle.pearl_exchange.specs.Offers.{action_of};
@@ -16,7 +17,7 @@ use pearl_exchange::offer::{Offer, What};
 use pearl_instructions::instr::Instr;
 use pearl_instructions::valid::Valid;
 use pearl_silent::known::laws_hold;
-use pearl_silent::step::on_silent;
+use pearl_silent::run::quick_step;
 use pearl_silent::table::instr_at;
 use pearl_stack::stack::{Frame, Loaded};
 
@@ -141,15 +142,21 @@ fn on_devices(
     }
 }
 
-// Any instruction.
-fn on_any(code: &Valid, stack: &mut Loaded, here: &Frame, instr: &Instr, into: &mut Offer) -> Gave
-    requires { StandsAt code.now instr.now here.now stack.old }
-    ensures { Does (act_on code.now instr.now stack.old.frames) stack.old stack.new (gave result (action_of into.new)) }
+// Carries out one instruction that may offer another action than a trap, or leaves the action beside the stack and changes
+// nothing else.
+pub(crate) fn step_other(code: &Valid, stack: &mut Loaded, into: &mut Offer) -> Gave
+    requires stack { IsStack code.now stack.old.frames }
+    requires room { room code.now stack.old.frames ≤ stack.old.room }
+    requires other { Ends code.now stack.old.frames None }
+    ensures does { Does (row code.now stack.old.frames) stack.old stack.new (gave result (action_of into.new)) }
+    ensures stack { IsStack code.now stack.new.frames }
+    ensures room { room code.now stack.new.frames ≤ stack.new.room }
+    ensures task { task_of code.now stack.new.frames ≡ task_of code.now stack.old.frames }
 {
-    match on_silent(code, stack, here, instr) {
-        Some(did) => tell(did, into),
-        None => on_ways(code, stack, here, instr, into),
-    }
+    laws_hold(code);
+    let here = stack.frame(stack.frames() - 1);
+    let instr = instr_at(code, &here);
+    on_ways(code, stack, &here, instr, into)
 }
 
 /// Carries out one instruction, or leaves the action at which the task stands beside it and changes nothing else.
@@ -161,8 +168,8 @@ pub fn step(code: &Valid, stack: &mut Loaded, into: &mut Offer) -> Gave
     ensures room { room code.now stack.new.frames ≤ stack.new.room }
     ensures task { task_of code.now stack.new.frames ≡ task_of code.now stack.old.frames }
 {
-    laws_hold(code);
-    let here = stack.frame(stack.frames() - 1);
-    let instr = instr_at(code, &here);
-    on_any(code, stack, &here, instr, into)
+    match quick_step(code, stack) {
+        Some(did) => tell(did, into),
+        None => step_other(code, stack, into),
+    }
 }

@@ -1,14 +1,16 @@
-use Rattle.std.proofs.Common.{◌≡◌, refl, sym, ap, ◌∙◌, subst}
-use Rattle.pearl_stack.specs.Frames.{Stack}
+use Rattle.std.proofs.Common.{◌≡◌, refl, sym, ap, ◌∙◌, subst, List}
+use Rattle.pearl_rules.specs.declared.action.Action.TheVariants as action
+use Rattle.pearl_exchange.specs.Offers.{action_of}
+use Rattle.pearl_stack.specs.Frames.{Frame, Stack}
 use Rattle.pearl_instructions.specs.Objects.{routines}
 use Rattle.pearl_instructions.specs.Rows.{row}
 use Rattle.pearl_instructions.specs.Stacks.{all_rows}
-use Rattle.pearl_silent.specs.Steps.{told, Does}
-use Rattle.pearl_silent.proofs.Settling.{falls, run_begins, run_goes}
+use Rattle.pearl_silent.proofs.Settling.{Run, run_begins, run_goes, run_goes_on}
+use Rattle.pearl_solo.proofs.Settling.{falls_behind, run_ends}
 use Rattle.pearl_solo.proofs.settle.settle.Goals as goal
 
-pub loop-did-init : goal.loop-did-init
-loop-did-init c = record {
+pub loop-trap-init : goal.loop-trap-init
+loop-trap-init c = record {
   stack = c.requires.stack;
   room = c.requires.room;
   task = refl;
@@ -17,39 +19,50 @@ loop-did-init c = record {
   same = (refl, refl);
 }
 
-pub loop-did-smaller-in-Silent : goal.loop-did-smaller-in-Silent
-loop-did-smaller-in-Silent c =
-    let does = subst (λ d. Does (row c.args.code.now c.loop-did.stack.frames) c.loop-did.stack c.quick_step.new.stack (told d)) c.in-Silent.is c.in-Some.ensures.tries in
-    falls c.args.code.now (all_rows (routines c.args.code.now)) c.loop-did.stack.frames c.quick_step.new.stack.frames
-    (c.laws_hold.ensures.laws.soon c.args.code.now c.laws_hold.ensures.valid c.laws_hold.ensures.object c.loop-did.stack.frames c.loop-did.invariant.stack)
-    does.0
+pub loop-trap-smaller : goal.loop-trap-smaller
+loop-trap-smaller c =
+    let runs = c.in-None.ensures.runs in
+    let within = c.laws_hold.ensures.laws.soon c.args.code.now c.laws_hold.ensures.valid c.laws_hold.ensures.object c.loop-trap.stack.frames c.loop-trap.invariant.stack in
+    falls_behind c.args.code.now (all_rows (routines c.args.code.now)) runs.rows c.loop-trap.stack.frames c.run_silent.new.stack.frames c.step_other.new.stack.frames within
+    runs.silent c.in-Silent.ensures.does.0
 
-pub loop-did-preserved-in-Silent : goal.loop-did-preserved-in-Silent
-loop-did-preserved-in-Silent c =
-    let does = subst (λ d. Does (row c.args.code.now c.loop-did.stack.frames) c.loop-did.stack c.quick_step.new.stack (told d)) c.in-Silent.is c.in-Some.ensures.tries in
+pub loop-trap-preserved : goal.loop-trap-preserved
+loop-trap-preserved c =
+    let runs = c.in-None.ensures.runs in
     record {
-      stack = c.in-Some.ensures.stack;
-      room = c.in-Some.ensures.room;
-      task = c.in-Some.ensures.task ∙ c.loop-did.invariant.task;
-      run = run_goes c.args.code.now c.args.stack.now.frames c.loop-did.stack.frames c.quick_step.new.stack.frames c.loop-did.invariant.run does.0;
-      same = (does.1 ∙ c.loop-did.invariant.same.0, does.2 ∙ c.loop-did.invariant.same.1);
+      stack = c.in-Silent.ensures.stack;
+      room = c.in-Silent.ensures.room;
+      task = c.in-Silent.ensures.task ∙ (c.in-None.ensures.task ∙ c.loop-trap.invariant.task);
+      run = run_goes c.args.code.now c.args.stack.now.frames c.run_silent.new.stack.frames c.step_other.new.stack.frames
+          (run_goes_on c.args.code.now c.args.stack.now.frames c.loop-trap.stack.frames c.run_silent.new.stack.frames runs.rows c.loop-trap.invariant.run runs.silent) c.in-Silent.ensures.does.0;
+      same = (c.in-Silent.ensures.does.1 ∙ (c.in-None.ensures.memory.0 ∙ c.loop-trap.invariant.same.0), c.in-Silent.ensures.does.2 ∙ (c.in-None.ensures.memory.1 ∙ c.loop-trap.invariant.same.1));
     }
 
-pub loop-did-smaller : goal.loop-did-smaller
-loop-did-smaller c =
-    let e = c.in-None.ensures.tries.1 in
-    falls c.args.code.now (all_rows (routines c.args.code.now)) c.loop-did.stack.frames c.step.new.stack.frames
-    (c.laws_hold.ensures.laws.soon c.args.code.now c.laws_hold.ensures.valid c.laws_hold.ensures.object c.loop-did.stack.frames c.loop-did.invariant.stack)
-    (ap (λ (s : Stack). row c.args.code.now s.frames) (sym e) ∙ c.in-Silent-step.ensures.does.0)
+pub returns-in-Some-clause-settles : goal.returns-in-Some-clause-settles
+returns-in-Some-clause-settles c =
+    let runs = c.in-Some.ensures.runs in
+    run_ends c.args.code.now c.args.stack.now.frames c.run_silent.new.stack.frames (action.Trap c.in-Some.trap) runs.ends.0
+    (run_goes_on c.args.code.now c.args.stack.now.frames c.loop-trap.stack.frames c.run_silent.new.stack.frames runs.rows c.loop-trap.invariant.run runs.silent) runs.ends.1
 
-pub loop-did-preserved : goal.loop-did-preserved
-loop-did-preserved c =
-    let e = c.in-None.ensures.tries.1 in
-    record {
-      stack = c.in-Silent-step.ensures.stack;
-      room = c.in-Silent-step.ensures.room;
-      task = c.in-Silent-step.ensures.task ∙ (c.in-None.ensures.task ∙ c.loop-did.invariant.task);
-      run = run_goes c.args.code.now c.args.stack.now.frames c.loop-did.stack.frames c.step.new.stack.frames c.loop-did.invariant.run
-          (ap (λ (s : Stack). row c.args.code.now s.frames) (sym e) ∙ c.in-Silent-step.ensures.does.0);
-      same = (c.in-Silent-step.ensures.does.1 ∙ (ap (λ (s : Stack). s.room) e ∙ c.loop-did.invariant.same.0), c.in-Silent-step.ensures.does.2 ∙ (ap (λ (s : Stack). s.most) e ∙ c.loop-did.invariant.same.1));
-    }
+pub returns-in-Some-clause-memory : goal.returns-in-Some-clause-memory
+returns-in-Some-clause-memory c = (c.in-Some.ensures.memory.0 ∙ c.loop-trap.invariant.same.0, c.in-Some.ensures.memory.1 ∙ c.loop-trap.invariant.same.1)
+
+pub returns-in-Some-clause-task : goal.returns-in-Some-clause-task
+returns-in-Some-clause-task c = c.in-Some.ensures.task ∙ c.loop-trap.invariant.task
+
+pub returns-in-Offered-clause-settles : goal.returns-in-Offered-clause-settles
+returns-in-Offered-clause-settles c =
+    let o = c.args.code.now in
+    let runs = c.in-None.ensures.runs in
+    let does = c.in-Offered.ensures.does in
+    let run = run_goes_on o c.args.stack.now.frames c.loop-trap.stack.frames c.run_silent.new.stack.frames runs.rows c.loop-trap.invariant.run runs.silent in
+    run_ends o c.args.stack.now.frames c.step_other.new.stack.frames (action_of c.step_other.new.into) does.0
+    (subst (λ (s : Stack). Run o c.args.stack.now.frames s.frames) (sym does.2) run) (ap (λ (s : Stack). row o s.frames) does.2 ∙ does.1)
+
+pub returns-in-Offered-clause-memory : goal.returns-in-Offered-clause-memory
+returns-in-Offered-clause-memory c =
+    let does = c.in-Offered.ensures.does in
+    (ap (λ (s : Stack). s.room) does.2 ∙ (c.in-None.ensures.memory.0 ∙ c.loop-trap.invariant.same.0), ap (λ (s : Stack). s.most) does.2 ∙ (c.in-None.ensures.memory.1 ∙ c.loop-trap.invariant.same.1))
+
+pub returns-in-Offered-clause-task : goal.returns-in-Offered-clause-task
+returns-in-Offered-clause-task c = c.in-Offered.ensures.task ∙ (c.in-None.ensures.task ∙ c.loop-trap.invariant.task)

@@ -1,62 +1,21 @@
-use Rattle.std.proofs.Common.{◌≡◌, suc, ◌-◌, Some, length, sym, ◌∙◌, subst, arith}
-use Rattle.pearl_instructions.specs.Rows.{row}
-use Rattle.pearl_silent.specs.Standing.{instr_of}
-use Rattle.pearl_silent.specs.Steps.{Does, IsSizes}
+use Rattle.std.proofs.Common.{◌≡◌, ◌≤◌, sym, ap, ◌∙◌, subst}
 use Rattle.pearl_exchange.specs.Offers.{action_of}
+use Rattle.pearl_stack.specs.Frames.{Stack}
+use Rattle.pearl_instructions.specs.Rows.{row}
+use Rattle.pearl_instructions.specs.Stacks.{task_of}
+use Rattle.pearl_silent.specs.Steps.{Does}
 use Rattle.pearl_solo.specs.Gives.{gave}
-use Rattle.pearl_silent.proofs.Stands.{row_is, kept, same_task, stands, frames_some, top_sizes, read_is}
 use Rattle.pearl_solo.proofs.step.step.Goals as goal
 
-pub on_any-requires : goal.on_any-requires
-on_any-requires c =
-    let frames = c.args.stack.now.frames in
-    let some = frames_some c.args.code.now frames c.requires.stack in
-    let one : suc (c.frames.result - 1) ≡ length frames = omega (arith, c.frames.ensures, some) in
-    let top : IsSizes c.frame-here.result frames = top_sizes c.args.code.now frames (c.frames.result - 1) c.frame-here.result c.requires.stack one c.frame-here.ensures in
-    let there : instr_of c.args.code.now frames ≡ Some c.instr_at-instr.result.now = sym (read_is c.args.code.now frames c.frame-here.result top) ∙ c.instr_at-instr.ensures.instr in
-    stands c.laws_hold.ensures.laws c.args.code.now c.args.stack.now c.instr_at-instr.result.now c.frame-here.result c.laws_hold.ensures.valid c.laws_hold.ensures.object c.requires.stack c.requires.room
-    (record { top = top; next = c.instr_at-instr.ensures.next }) there
+pub returns-in-Some-clause-does : goal.returns-in-Some-clause-does
+returns-in-Some-clause-does c = subst (Does (row c.args.code.now c.args.stack.now.frames) c.args.stack.now c.quick_step.new.stack) (sym c.tell.ensures) c.in-Some.ensures.tries
 
-pub returns-clause-does : goal.returns-clause-does
-returns-clause-does c =
-    let frames = c.args.stack.now.frames in
-    let some = frames_some c.args.code.now frames c.requires.stack in
-    let one : suc (c.frames.result - 1) ≡ length frames = omega (arith, c.frames.ensures, some) in
-    let top : IsSizes c.frame-here.result frames = top_sizes c.args.code.now frames (c.frames.result - 1) c.frame-here.result c.requires.stack one c.frame-here.ensures in
-    let there : instr_of c.args.code.now frames ≡ Some c.instr_at-instr.result.now = sym (read_is c.args.code.now frames c.frame-here.result top) ∙ c.instr_at-instr.ensures.instr in
-    let does : Does (row c.args.code.now frames) c.args.stack.now c.on_any.new.stack (gave c.on_any.result (action_of c.on_any.new.into)) =
-    subst (λ r. Does r c.args.stack.now c.on_any.new.stack (gave c.on_any.result (action_of c.on_any.new.into))) (sym (row_is c.args.code.now frames c.instr_at-instr.result.now there)) c.on_any.ensures in
-    does
+pub step_other-requires-clause-other : goal.step_other-requires-clause-other
+step_other-requires-clause-other c = rw c.in-None.ensures.tries.1 c.in-None.ensures.tries.0
 
-pub returns-clause-stack : goal.returns-clause-stack
-returns-clause-stack c =
-    let frames = c.args.stack.now.frames in
-    let some = frames_some c.args.code.now frames c.requires.stack in
-    let one : suc (c.frames.result - 1) ≡ length frames = omega (arith, c.frames.ensures, some) in
-    let top : IsSizes c.frame-here.result frames = top_sizes c.args.code.now frames (c.frames.result - 1) c.frame-here.result c.requires.stack one c.frame-here.ensures in
-    let there : instr_of c.args.code.now frames ≡ Some c.instr_at-instr.result.now = sym (read_is c.args.code.now frames c.frame-here.result top) ∙ c.instr_at-instr.ensures.instr in
-    let does : Does (row c.args.code.now frames) c.args.stack.now c.on_any.new.stack (gave c.on_any.result (action_of c.on_any.new.into)) =
-    subst (λ r. Does r c.args.stack.now c.on_any.new.stack (gave c.on_any.result (action_of c.on_any.new.into))) (sym (row_is c.args.code.now frames c.instr_at-instr.result.now there)) c.on_any.ensures in
-    (kept c.laws_hold.ensures.laws c.args.code.now c.args.stack.now c.on_any.new.stack (gave c.on_any.result (action_of c.on_any.new.into)) c.laws_hold.ensures.valid c.laws_hold.ensures.object c.requires.stack c.requires.room does).0
+pub returns-in-None-clause-does : goal.returns-in-None-clause-does
+returns-in-None-clause-does c =
+    subst (λ (s : Stack). Does (row c.args.code.now s.frames) s c.step_other.new.stack (gave c.step_other.result (action_of c.step_other.new.into))) c.in-None.ensures.tries.1 c.step_other.ensures.does
 
-pub returns-clause-room : goal.returns-clause-room
-returns-clause-room c =
-    let frames = c.args.stack.now.frames in
-    let some = frames_some c.args.code.now frames c.requires.stack in
-    let one : suc (c.frames.result - 1) ≡ length frames = omega (arith, c.frames.ensures, some) in
-    let top : IsSizes c.frame-here.result frames = top_sizes c.args.code.now frames (c.frames.result - 1) c.frame-here.result c.requires.stack one c.frame-here.ensures in
-    let there : instr_of c.args.code.now frames ≡ Some c.instr_at-instr.result.now = sym (read_is c.args.code.now frames c.frame-here.result top) ∙ c.instr_at-instr.ensures.instr in
-    let does : Does (row c.args.code.now frames) c.args.stack.now c.on_any.new.stack (gave c.on_any.result (action_of c.on_any.new.into)) =
-    subst (λ r. Does r c.args.stack.now c.on_any.new.stack (gave c.on_any.result (action_of c.on_any.new.into))) (sym (row_is c.args.code.now frames c.instr_at-instr.result.now there)) c.on_any.ensures in
-    (kept c.laws_hold.ensures.laws c.args.code.now c.args.stack.now c.on_any.new.stack (gave c.on_any.result (action_of c.on_any.new.into)) c.laws_hold.ensures.valid c.laws_hold.ensures.object c.requires.stack c.requires.room does).1
-
-pub returns-clause-task : goal.returns-clause-task
-returns-clause-task c =
-    let frames = c.args.stack.now.frames in
-    let some = frames_some c.args.code.now frames c.requires.stack in
-    let one : suc (c.frames.result - 1) ≡ length frames = omega (arith, c.frames.ensures, some) in
-    let top : IsSizes c.frame-here.result frames = top_sizes c.args.code.now frames (c.frames.result - 1) c.frame-here.result c.requires.stack one c.frame-here.ensures in
-    let there : instr_of c.args.code.now frames ≡ Some c.instr_at-instr.result.now = sym (read_is c.args.code.now frames c.frame-here.result top) ∙ c.instr_at-instr.ensures.instr in
-    let does : Does (row c.args.code.now frames) c.args.stack.now c.on_any.new.stack (gave c.on_any.result (action_of c.on_any.new.into)) =
-    subst (λ r. Does r c.args.stack.now c.on_any.new.stack (gave c.on_any.result (action_of c.on_any.new.into))) (sym (row_is c.args.code.now frames c.instr_at-instr.result.now there)) c.on_any.ensures in
-    same_task c.laws_hold.ensures.laws c.args.code.now c.args.stack.now c.on_any.new.stack (gave c.on_any.result (action_of c.on_any.new.into)) c.laws_hold.ensures.valid c.laws_hold.ensures.object c.requires.stack does
+pub returns-in-None-clause-task : goal.returns-in-None-clause-task
+returns-in-None-clause-task c = c.step_other.ensures.task ∙ c.in-None.ensures.task

@@ -1,3 +1,4 @@
+use Rattle.pearl_exchange.specs.Offers.{action_of}
 use Rattle.pearl_engine.specs.Setups.{setup_of}
 use Rattle.pearl_machine.proofs.ReadyLaws.{first_own}
 use Rattle.pearl_machine.proofs.Entering.{ready_silent, ready_stepped}
@@ -18,27 +19,27 @@ step_part-requires-clause-own c =
 pub invariant_of-self : goal.invariant_of-self
 invariant_of-self c =
     let m = c.self.inside in
-    ready_stepped m.code m.setup m.kernel m.parts.items m.due c.self.invariant c.unwrap-task.result
-    (first_of m.kernel c.unsettled.result c.unwrap-task.result c.unsettled.ensures c.unwrap-task.ensures) c.offered.new.self c.step_part.new.parts.items
-    c.in-Some.action c.in-Some.ensures.steps c.step_part.ensures.memory c.offered.ensures.offers
-    (c.offered.ensures.lawful (setup_of m.code) c.self.invariant.lawful c.in-Some.ensures.fits)
-
-pub invariant_of-self-in_default : goal.invariant_of-self-in_default
-invariant_of-self-in_default c =
-    let m = c.self.inside in
     ready_silent m.code m.setup m.kernel m.parts.items m.due c.self.invariant c.unwrap-task.result
-    (first_of m.kernel c.unsettled.result c.unwrap-task.result c.unsettled.ensures c.unwrap-task.ensures) c.step_part.new.parts.items c.in_default.ensures.steps
+    (first_of m.kernel c.unsettled.result c.unwrap-task.result c.unsettled.ensures c.unwrap-task.ensures) c.step_part.new.parts.items c.in-Silent.ensures.steps
     c.step_part.ensures.memory
 
-pub returns-in-Some : goal.returns-in-Some
-returns-in-Some c =
+pub invariant_of-self-in-Offered : goal.invariant_of-self-in-Offered
+invariant_of-self-in-Offered c =
+    let m = c.self.inside in
+    ready_stepped m.code m.setup m.kernel m.parts.items m.due c.self.invariant c.unwrap-task.result
+    (first_of m.kernel c.unsettled.result c.unwrap-task.result c.unsettled.ensures c.unwrap-task.ensures) c.offered.new.self c.step_part.new.parts.items
+    (action_of c.step_part.new.into) c.in-Offered.ensures.steps c.step_part.ensures.memory c.offered.ensures.offers
+    (c.offered.ensures.lawful (setup_of m.code) c.self.invariant.lawful c.in-Offered.ensures.fits)
+
+pub returns-in-Silent : goal.returns-in-Silent
+returns-in-Silent c =
+    let m = c.self.inside in
+    silent_call m.code m.setup m.kernel m.parts.items m.due c.self.invariant c.args.self.now c.self.view_is c.unwrap-task.result
+    (first_of m.kernel c.unsettled.result c.unwrap-task.result c.unsettled.ensures c.unwrap-task.ensures) c.step_part.new.parts.items c.in-Silent.ensures.steps
+
+pub returns-in-Offered : goal.returns-in-Offered
+returns-in-Offered c =
     let m = c.self.inside in
     offers_call m.code m.setup m.kernel m.parts.items m.due c.self.invariant c.args.self.now c.self.view_is c.unwrap-task.result
     (first_of m.kernel c.unsettled.result c.unwrap-task.result c.unsettled.ensures c.unwrap-task.ensures) c.offered.new.self c.step_part.new.parts.items
-    c.in-Some.action c.in-Some.ensures.steps c.offered.ensures.offers
-
-pub returns-in_default : goal.returns-in_default
-returns-in_default c =
-    let m = c.self.inside in
-    silent_call m.code m.setup m.kernel m.parts.items m.due c.self.invariant c.args.self.now c.self.view_is c.unwrap-task.result
-    (first_of m.kernel c.unsettled.result c.unwrap-task.result c.unsettled.ensures c.unwrap-task.ensures) c.step_part.new.parts.items c.in_default.ensures.steps
+    (action_of c.step_part.new.into) c.in-Offered.ensures.steps c.offered.ensures.offers
