@@ -2,15 +2,16 @@
 
 ghost use Rattle.std.specs.Prelude.{◌≡◌, ◌+◌, ◌<◌, ◌≤◌, ℕ, length, IfOk, IfSome};
 ghost use Rattle.std.specs.List.{AllByRecursion};
-ghost use Rattle.pearl_exchange.specs.Heard.{answer_of};
-ghost use Rattle.pearl_exchange.specs.Offers.{action_of};
 ghost use Rattle.pearl_rules.specs.Tables.{IsFormat};
 ghost use Rattle.pearl_instructions.specs.Lawful.{IsLeaf, IsProcedure, IsTask, IsObject};
 ghost use Rattle.pearl_instructions.specs.Objects.{slot_kind};
 ghost use Rattle.pearl_instructions.specs.Rows.{begun};
 ghost use Rattle.pearl_instructions.specs.Stacks.{IsStack, Answers, AreOf, room};
+ghost use Rattle.pearl_exchange.specs.Heard.{answer_of};
+ghost use Rattle.pearl_exchange.specs.Offers.{action_of};
 
 use crate::cases::{Line, instructions, number};
+use arrayvec::ArrayVec;
 use pearl_exchange::heard::{Beside, Heard};
 use pearl_exchange::offer::{Offer, What};
 use pearl_format::item::{Item, ItemCode};
@@ -253,8 +254,8 @@ fn kind_of_slot(leaves: &[Leaf], slot: u32) -> Option<Kind>
     kind_of_slot(others, slot - leaf.slots)
 }
 
-// Both values are heard after a GET of two values of FIXED(31).
-fn both(kinds: &[Kind], values: [i32; 2], beside: &mut Beside) -> Option<Heard>
+// The answer of these two values to a GET of two values of FIXED(31).
+fn both(kinds: &[Kind], heard: [i32; 2], beside: &mut Beside) -> Option<Heard>
     ensures { IfSome result (λ heard. AreOf kinds.now (answer_of heard beside.new)) }
 {
     let (first, others) = kinds.split_first()?;
@@ -263,8 +264,8 @@ fn both(kinds: &[Kind], values: [i32; 2], beside: &mut Beside) -> Option<Heard>
         return None;
     }
     beside.many.clear();
-    beside.many.push(number(values[0]));
-    beside.many.push(number(values[1]));
+    beside.many.push(number(heard[0]));
+    beside.many.push(number(heard[1]));
     Some(Heard::Many)
 }
 
@@ -277,8 +278,7 @@ fn is_number(cell: &Cell, want: i64) -> bool {
 
 // What is heard after an action, where it is the row's and the task goes on.
 fn heard(code: &Valid, offer: &Offer, row: Row, beside: &mut Beside) -> Option<Heard>
-    ensures { IfSome result (λ heard. (own : ℕ) →
-        Answers code.now own (action_of offer.now) (answer_of heard beside.new)) }
+    ensures { IfSome result (λ heard. (own : ℕ) → Answers code.now own (action_of offer.now) (answer_of heard beside.new)) }
 {
     match (offer.what, row) {
         (What::Turn, Row::Turn) | (What::Enter, Row::Enter) => Some(Heard::Nothing),
@@ -316,21 +316,20 @@ fn heard(code: &Valid, offer: &Offer, row: Row, beside: &mut Beside) -> Option<H
     }
 }
 
-fn traps(offer: &Offer, row: Row) -> bool {
-    match (offer.what, row) {
+fn traps(what: What, row: Row) -> bool {
+    match (what, row) {
         (What::Trap(trap), Row::Trap(want)) => trap == want,
         _ => false,
     }
 }
 
-// How many rows are left from the first on that the task doesn't keep to; a trap is the last that it keeps to. One place
-// serves for all actions, and one for all that is heard.
+// How many rows are left from the first on that the task doesn't keep to; a trap is the last that it keeps to.
 fn left(
     code: &Valid,
     stack: &mut Loaded,
+    rows: &[Row],
     offer: &mut Offer,
     beside: &mut Beside,
-    rows: &[Row],
 ) -> usize
     requires stack { IsStack code.now stack.old.frames }
     requires room { room code.now stack.old.frames ≤ stack.old.room }
@@ -340,13 +339,13 @@ fn left(
         return 0;
     };
     settle(code, stack, offer);
-    if traps(offer, *row) {
+    if traps(offer.what, *row) {
         return others.len();
     }
     match heard(code, offer, *row, beside) {
         Some(heard) => {
             answer(code, stack, heard, beside);
-            left(code, stack, offer, beside, others)
+            left(code, stack, others, offer, beside)
         }
         None => rows.len(),
     }
@@ -372,10 +371,10 @@ fn rows_left(alloc: Global, code: &Valid) -> Result<usize, AllocError> {
     match first_depth(code) {
         Some(depth) => {
             let mut stack = Parked::new(alloc, depth as usize, frames)?.load();
-            begin(code, 0, &mut stack);
             let mut offer = Offer::new();
             let mut beside = Beside::new();
-            Ok(left(code, &mut stack, &mut offer, &mut beside, &ROWS))
+            begin(code, 0, &mut stack);
+            Ok(left(code, &mut stack, &ROWS, &mut offer, &mut beside))
         }
         None => Ok(ROWS.len()),
     }
