@@ -2,8 +2,6 @@
 
 ghost use Rattle.std.specs.Prelude.{◌≡◌, ◌+◌, ◌<◌, ◌≤◌, ℕ, length, IfOk, IfSome};
 ghost use Rattle.std.specs.List.{AllByRecursion};
-ghost use Rattle.pearl_exchange.specs.Heard.{answer_of};
-ghost use Rattle.pearl_exchange.specs.Offers.{action_of};
 ghost use Rattle.pearl_rules.specs.Tables.{IsFormat};
 ghost use Rattle.pearl_instructions.specs.Lawful.{IsLeaf, IsProcedure, IsTask, IsObject};
 ghost use Rattle.pearl_instructions.specs.Objects.{slot_kind};
