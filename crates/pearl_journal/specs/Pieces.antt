@@ -70,7 +70,7 @@ read_on setup kept now rest = unless_refused kept.refused (entries_from setup (r
 abbrev pub ended_on : Setup → Kept → (now : ℕ) → (rest : List ℕ) → Entries
 ended_on setup kept now rest = unless_refused kept.refused (entries_from setup (reading_at kept now) (ended_lines (bytes_from kept rest)))
 
--- each whole line was taken
+-- each whole line was taken, and none was refused
 pub record HasNoWhole (kept : Kept) : Type 0 where
   pub unrefused : kept.refused ≡ None
   pub partial : kept.is_whole ≡ false
@@ -127,7 +127,8 @@ IfEntry (Err bad) P = Unit {0}
 abbrev pub IsPartial : Result Next BadLine → Type 0
 IsPartial answer = answer ≡ Ok next.Partial
 
--- what is true of all that is kept: a refused line goes on standing
+-- what is always true of it: no more bytes stand than make a line too long, none of them is a byte 10, a refused line
+-- goes on standing, and behind the end of the journal none stand but those of a whole line
 pub record IsKept (kept : Kept) : Type 0 where
   pub short : length kept.standing ≤ LINE_ROOM
   pub unended : ended_lines kept.standing ≡ []
