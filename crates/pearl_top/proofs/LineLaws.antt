@@ -231,13 +231,13 @@ cut-entry before after seen now answer entry left told later held moment old new
       told = told;
       reads = record {
         all = λ rest. (
-              read_on setup after there rest,
-              answers_as read_on held setup moment seen.state.core.moment before after (Ok answer) (Ok (next.Entry entry)) same at (ap Ok is) read rest,
-            );
+          read_on setup after there rest,
+          answers_as read_on held setup moment seen.state.core.moment before after (Ok answer) (Ok (next.Entry entry)) same at (ap Ok is) read rest,
+        );
         ended = λ rest. (
-              ended_on setup after there rest,
-              answers_as ended_on held setup moment seen.state.core.moment before after (Ok answer) (Ok (next.Entry entry)) same at (ap Ok is) ended rest,
-            );
+          ended_on setup after there rest,
+          answers_as ended_on held setup moment seen.state.core.moment before after (Ok answer) (Ok (next.Entry entry)) same at (ap Ok is) ended rest,
+        );
       };
       breaks = record { after = now; left = left; handles = handles };
       taken = cut_off setup old new told later cut;
