@@ -1,13 +1,12 @@
 // Journals by hand.
 
-ghost use Rattle.std.specs.Prelude.{◌≡◌, ◌<◌, ◌^◌, IfOk, length};
+ghost use Rattle.std.specs.Prelude.{◌≡◌, ◌+◌, ◌<◌, ◌≤◌, ◌^◌, false, IfOk, IsTrue, length};
 
 use crate::journal_inputs::{
     BITS_AND_TEXTS, NUMBERS, TEXTS, TIMES, VALUES_ELSEWHERE, first_other_text,
 };
 use arrayvec::ArrayVec;
-use pearl_journal::lines::next_line;
-use pearl_journal::reading::{Line, Reading};
+use pearl_journal::lines::{BadLine, Lines, Next};
 use pearl_rules::entry::Entry;
 use pearl_rules::setup::{Device, Direction, Setup, TaskEntry};
 use pearl_value::cell::Cell;
@@ -60,20 +59,27 @@ fn as_given(value: &Cell) -> Given {
     }
 }
 
-fn as_told(line: &Line) -> Told {
-    match line {
-        Line::Blank => Told::Blank,
-        Line::Item(Entry::Clock(time)) => Told::Clock(*time),
-        Line::Item(Entry::Run(picks)) => Told::Run(*picks),
-        Line::Item(Entry::Tick(milliseconds)) => Told::Tick(*milliseconds),
-        Line::Item(Entry::Pass { times, picks }) => Told::Pass(*times, *picks),
-        Line::Item(Entry::Irpt(device)) => Told::Irpt(*device),
-        Line::Item(Entry::Chars { device, text }) => Told::Chars(*device, text.len()),
-        Line::Item(Entry::Line { device, text }) => Told::Line(*device, text.len()),
-        Line::Item(Entry::Value { device, value }) => Told::Value(*device, as_given(value)),
-        Line::Item(Entry::Turn(task)) => Told::Turn(*task),
-        Line::Item(Entry::State) => Told::State,
-        Line::Wrong(code) => Told::Wrong(*code),
+fn as_told_entry(entry: &Entry) -> Told {
+    match entry {
+        Entry::Clock(time) => Told::Clock(*time),
+        Entry::Run(picks) => Told::Run(*picks),
+        Entry::Tick(milliseconds) => Told::Tick(*milliseconds),
+        Entry::Pass { times, picks } => Told::Pass(*times, *picks),
+        Entry::Irpt(device) => Told::Irpt(*device),
+        Entry::Chars { device, text } => Told::Chars(*device, text.len()),
+        Entry::Line { device, text } => Told::Line(*device, text.len()),
+        Entry::Value { device, value } => Told::Value(*device, as_given(value)),
+        Entry::Turn(task) => Told::Turn(*task),
+        Entry::State => Told::State,
+    }
+}
+
+fn as_told(answer: &Result<Next, BadLine>) -> Told {
+    match answer {
+        Ok(Next::Entry(entry)) => as_told_entry(entry),
+        Ok(Next::Blank) => Told::Blank,
+        Ok(Next::Partial) => Told::Unread,
+        Err(bad) => Told::Wrong(bad.code),
     }
 }
 
@@ -145,16 +151,18 @@ fn tables(alloc: Global) -> Result<Setup, AllocError>
     })
 }
 
-// What a line means by itself.
-fn alone(setup: &Setup, line: &[u8]) -> Told
+/// What is answered to a line by itself.
+pub fn alone(alloc: Global, setup: &Setup, line: &[u8]) -> Result<Result<Next, BadLine>, AllocError>
     requires tasks { length setup.now.tasks < 2 ^ 32 }
     requires devices { length setup.now.devices < 2 ^ 32 }
 {
-    as_told(&Reading::new().read(setup, line))
+    let mut lines = Lines::new(alloc)?;
+    lines.feed(line);
+    lines.finish();
+    Ok(lines.entry(setup, 0))
 }
 
-static SKIPPED: [Row; 8] = [
-    (b"", Told::Blank),
+static SKIPPED: [Row; 7] = [
     (b" ", Told::Blank),
     (b"\t \t", Told::Blank),
     (b"\r", Told::Blank),
@@ -311,16 +319,16 @@ fn tables_of_lines() -> [(&'static str, &'static [Row]); 14] {
 }
 
 // The number of the first of these rows that is read as something else.
-fn first_other(setup: &Setup, rows: &[Row]) -> Option<usize>
+fn first_other(alloc: Global, setup: &Setup, rows: &[Row]) -> Result<Option<usize>, AllocError>
     requires tasks { length setup.now.tasks < 2 ^ 32 }
     requires devices { length setup.now.devices < 2 ^ 32 }
 {
     for (number, (line, want)) in rows.iter().enumerate() {
-        if alone(setup, line) != *want {
-            return Some(number);
+        if as_told(&alone(alloc, setup, line)?) != *want {
+            return Ok(Some(number));
         }
     }
-    None
+    Ok(None)
 }
 
 // A line of a front, one byte so many times, and an end.
@@ -341,13 +349,18 @@ fn padded(
 }
 
 // Each line has a front, one byte so many times, and an end.
-static LONG_LINES: [(&[u8], u8, usize, &[u8], Told); 18] = [
+static LONG_LINES: [(&[u8], u8, usize, &[u8], Told); 23] = [
     (b"run ", b'0', 1019, b"7", Told::Run(7)),
     (b"run ", b'0', 1020, b"7", Told::Wrong(1)),
     (b"run ", b'0', 1019, b"7\r", Told::Run(7)),
     (b"run ", b'0', 1019, b"7\r\r", Told::Wrong(1)),
     (b"#", b'x', 1023, b"", Told::Blank),
     (b"#", b'x', 1024, b"", Told::Wrong(1)),
+    (b"#", b'x', 1023, b"\r\n", Told::Blank),
+    (b"#", b'x', 1024, b"\r\n", Told::Wrong(1)),
+    (b"#", b'x', 1023, b"\r\r\n", Told::Wrong(1)),
+    (b"#", b'x', 1023, b"\ry\n", Told::Wrong(1)),
+    (b"#", b'x', 1100, b"\n", Told::Wrong(1)),
     (b"", b' ', 1024, b"", Told::Blank),
     (b"", b' ', 1024, b"\r", Told::Blank),
     (b"", b' ', 1025, b"", Told::Wrong(1)),
@@ -362,62 +375,120 @@ static LONG_LINES: [(&[u8], u8, usize, &[u8], Told); 18] = [
     (b"line 1 '", b'x', 254, b"'''''", Told::Wrong(1)),
 ];
 
-// The number of the first of these rows that is read as something else.
+// What was read of a journal: what its lines mean up to the first that is refused, the number of that one, and the
+// moment.
+#[derive(Drop)]
+struct Story {
+    told: Vec<Told>,
+    bad: Option<u64>,
+    now: u64,
+}
+
+fn later(now: u64, told: Told) -> u64 {
+    match told {
+        Told::Tick(milliseconds) => now.saturating_add(milliseconds),
+        Told::Pass(times, _) => now.saturating_add(times),
+        _ => now,
+    }
+}
+
+impl Story {
+    // Takes the line that stands, if it is whole. False where it is refused.
+    fn take(&mut self, lines: &mut Lines, setup: &Setup) -> Result<bool, AllocError>
+        requires counted { lines.old.lines + 1 < 2 ^ 64 }
+        requires tasks { length setup.now.tasks < 2 ^ 32 }
+        requires devices { length setup.now.devices < 2 ^ 32 }
+        ensures taken { IfOk result (λ goes_on. IsTrue goes_on → lines.new.is_whole ≡ false) }
+        ensures finished { lines.new.is_finished ≡ lines.old.is_finished }
+        ensures counted { lines.new.lines ≤ lines.old.lines + 1 }
+    {
+        let answer = lines.entry(setup, self.now);
+        let told = as_told(&answer);
+        if told != Told::Unread {
+            self.told.push(told)?;
+        }
+        self.now = later(self.now, told);
+        match answer {
+            Ok(_) => Ok(true),
+            Err(bad) => {
+                self.bad = Some(bad.line);
+                Ok(false)
+            }
+        }
+    }
+}
+
+// Reads a journal in pieces of at most so many bytes.
+fn in_pieces(alloc: Global, setup: &Setup, journal: &[u8], size: usize) -> Result<Story, AllocError>
+    requires size { 0 < size }
+    requires tasks { length setup.now.tasks < 2 ^ 32 }
+    requires devices { length setup.now.devices < 2 ^ 32 }
+{
+    let mut story = Story {
+        told: Vec::new(alloc),
+        bad: None,
+        now: 0,
+    };
+    let mut lines = Lines::new(alloc)?;
+    let mut left = journal;
+    'pieces: while !left.is_empty() {
+        let count = lines.feed(&left[..size.min(left.len())]);
+        if !story.take(&mut lines, setup)? {
+            return Ok(story);
+        }
+        left = &left[count..];
+    }
+    lines.finish();
+    story.take(&mut lines, setup)?;
+    Ok(story)
+}
+
+// Whether a journal means this, and a line of this number is refused, whatever size its pieces have from this one on.
+fn means_so(
+    alloc: Global,
+    setup: &Setup,
+    journal: &[u8],
+    least: usize,
+    want: &[Told],
+    bad: Option<u64>,
+) -> Result<bool, AllocError>
+    requires least { 0 < least }
+    requires tasks { length setup.now.tasks < 2 ^ 32 }
+    requires devices { length setup.now.devices < 2 ^ 32 }
+{
+    for size in least..journal.len() + 2 {
+        let story = in_pieces(alloc, setup, journal, size)?;
+        if story.told.as_slice() != want || story.bad != bad {
+            return Ok(false);
+        }
+    }
+    Ok(true)
+}
+
+// The number of the first of these lines that is read as something else, cut at a place near its end or not.
 fn first_other_long_line(alloc: Global, setup: &Setup) -> Result<Option<usize>, AllocError>
     requires tasks { length setup.now.tasks < 2 ^ 32 }
     requires devices { length setup.now.devices < 2 ^ 32 }
 {
     for (number, &(front, byte, count, end, want)) in LONG_LINES.iter().enumerate() {
         let line = padded(alloc, front, byte, count, end)?;
-        if alone(setup, line.as_slice()) != want {
+        let bad = match want {
+            Told::Wrong(_) => Some(1),
+            _ => None,
+        };
+        if !means_so(alloc, setup, line.as_slice(), 1020, &[want], bad)? {
             return Ok(Some(number));
         }
     }
     Ok(None)
 }
 
-// What the next line means. The journals here have fewer than 100 lines.
-fn next_told(reading: &mut Reading, setup: &Setup, line: &[u8]) -> Told
-    requires tasks { length setup.now.tasks < 2 ^ 32 }
-    requires devices { length setup.now.devices < 2 ^ 32 }
-{
-    if reading.lines() < 100 {
-        as_told(&reading.read(setup, line))
-    } else {
-        Told::Unread
-    }
-}
-
-// What the lines of a journal mean, one after another, up to the first that is refused, and how many were read.
-fn whole(alloc: Global, setup: &Setup, journal: &[u8]) -> Result<(Vec<Told>, u64), AllocError>
-    requires tasks { length setup.now.tasks < 2 ^ 32 }
-    requires devices { length setup.now.devices < 2 ^ 32 }
-{
-    let mut reading = Reading::new();
-    let mut means = Vec::new(alloc);
-    let mut left = journal;
-    for _ in 0..100 {
-        let Some((line, after)) = next_line(left) else {
-            break;
-        };
-        let line = next_told(&mut reading, setup, line);
-        means.push(line)?;
-        if matches!(line, Told::Wrong(_)) {
-            return Ok((means, reading.lines()));
-        }
-        left = after;
-    }
-    let line = next_told(&mut reading, setup, left);
-    means.push(line)?;
-    Ok((means, reading.lines()))
-}
-
 // In the last six the clock is set by the first entry alone, and no entry leads past the last moment.
-static JOURNALS: [(&[u8], &[Told], u64); 14] = [
-    (b"", &[Told::Blank], 1),
-    (b"\n", &[Told::Blank, Told::Blank], 2),
-    (b"run 5", &[Told::Run(5)], 1),
-    (b"run 5\n", &[Told::Run(5), Told::Blank], 2),
+static JOURNALS: [(&[u8], &[Told], Option<u64>); 14] = [
+    (b"", &[], None),
+    (b"\n", &[Told::Blank], None),
+    (b"run 5", &[Told::Run(5)], None),
+    (b"run 5\n", &[Told::Run(5)], None),
     (
         b"# a plant\r\n\r\nturn PUMP\r\nrun 1\r\nstate\r",
         &[
@@ -427,22 +498,22 @@ static JOURNALS: [(&[u8], &[Told], u64); 14] = [
             Told::Run(1),
             Told::State,
         ],
-        5,
+        None,
     ),
     (
         b"\n#\nrun 1\nturn TANK\nrun 1\n",
         &[Told::Blank, Told::Blank, Told::Run(1), Told::Wrong(2)],
-        4,
+        Some(4),
     ),
     (
         b"state\n\nrun",
         &[Told::State, Told::Blank, Told::Wrong(1)],
-        3,
+        Some(3),
     ),
     (
         b"run 1\r\n# x\n\nrun x",
         &[Told::Run(1), Told::Blank, Told::Blank, Told::Wrong(1)],
-        4,
+        Some(4),
     ),
     (
         b"# x\n\n \nclock 1:0:0\nrun 1",
@@ -453,18 +524,22 @@ static JOURNALS: [(&[u8], &[Told], u64); 14] = [
             Told::Clock(3_600_000),
             Told::Run(1),
         ],
-        5,
+        None,
     ),
     (
         b"clock 1:0:0\nclock 1:0:0\n",
         &[Told::Clock(3_600_000), Told::Wrong(1)],
-        2,
+        Some(2),
     ),
-    (b"run 0\nclock 1:0:0\n", &[Told::Run(0), Told::Wrong(1)], 2),
+    (
+        b"run 0\nclock 1:0:0\n",
+        &[Told::Run(0), Told::Wrong(1)],
+        Some(2),
+    ),
     (
         b"clock 1:0:0\nrun 1\nclock x",
         &[Told::Clock(3_600_000), Told::Run(1), Told::Wrong(1)],
-        3,
+        Some(3),
     ),
     (
         b"tick 1099511627775\npass 1 5\ntick 0\npass 0 1\nrun 1\nstate\ntick 1",
@@ -477,7 +552,7 @@ static JOURNALS: [(&[u8], &[Told], u64); 14] = [
             Told::State,
             Told::Wrong(3),
         ],
-        7,
+        Some(7),
     ),
     (
         b"pass 1099511627000 0\ntick 700\npass 77 1",
@@ -486,32 +561,17 @@ static JOURNALS: [(&[u8], &[Told], u64); 14] = [
             Told::Tick(700),
             Told::Wrong(3),
         ],
-        3,
+        Some(3),
     ),
 ];
 
-// Whether the lines of a journal mean this, and so many were read.
-fn means_so(
-    alloc: Global,
-    setup: &Setup,
-    journal: &[u8],
-    want: &[Told],
-    count: u64,
-) -> Result<bool, AllocError>
-    requires tasks { length setup.now.tasks < 2 ^ 32 }
-    requires devices { length setup.now.devices < 2 ^ 32 }
-{
-    let (means, lines) = whole(alloc, setup, journal)?;
-    Ok(means.as_slice() == want && lines == count)
-}
-
-// The number of the first of these journals that means something else.
+// The number of the first of these journals that means something else, wherever it is cut.
 fn first_other_journal(alloc: Global, setup: &Setup) -> Result<Option<usize>, AllocError>
     requires tasks { length setup.now.tasks < 2 ^ 32 }
     requires devices { length setup.now.devices < 2 ^ 32 }
 {
-    for (number, &(journal, want, count)) in JOURNALS.iter().enumerate() {
-        if !means_so(alloc, setup, journal, want, count)? {
+    for (number, &(journal, want, bad)) in JOURNALS.iter().enumerate() {
+        if !means_so(alloc, setup, journal, 1, want, bad)? {
             return Ok(Some(number));
         }
     }
@@ -524,7 +584,7 @@ fn all_are_so(rt: &impl Abort, alloc: Global, setup: &Setup) -> Result<(), Fail>
     requires devices { length setup.now.devices < 2 ^ 32 }
 {
     for (name, rows) in tables_of_lines() {
-        if let Some(number) = first_other(setup, rows) {
+        if let Some(number) = first_other(alloc, setup, rows)? {
             assert!(rt; false, "row {number} of {name}");
         }
     }
@@ -534,7 +594,7 @@ fn all_are_so(rt: &impl Abort, alloc: Global, setup: &Setup) -> Result<(), Fail>
     if let Some(number) = first_other_journal(alloc, setup)? {
         assert!(rt; false, "journal {number}");
     }
-    if let Some(number) = first_other_text(setup) {
+    if let Some(number) = first_other_text(alloc, setup)? {
         assert!(rt; false, "text {number}");
     }
     Ok(())

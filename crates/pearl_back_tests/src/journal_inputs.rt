@@ -2,10 +2,11 @@
 
 ghost use Rattle.std.specs.Prelude.{◌<◌, ◌^◌, length};
 
-use crate::journal::{Given, Row, Told};
-use pearl_journal::reading::{Line, Reading};
+use crate::journal::{Given, Row, Told, alone};
+use pearl_journal::lines::{BadLine, Next};
 use pearl_rules::entry::Entry;
 use pearl_rules::setup::Setup;
+use std::alloc::{AllocError, Global};
 
 // Terminals 1 and 3 have the places 2 and 4 among the devices; terminal 2 only takes texts.
 pub static TEXTS: [Row; 28] = [
@@ -143,10 +144,10 @@ pub static VALUES_ELSEWHERE: [Row; 13] = [
 ];
 
 // Whether a line brings these characters, without an end of the line.
-fn brings(line: &Line, want: &[u8]) -> bool {
-    match line {
-        Line::Item(Entry::Chars { text, .. }) => text.as_slice() == want,
-        Line::Item(Entry::Line { text, .. }) => text.as_slice() == want,
+fn brings(answer: &Result<Next, BadLine>, want: &[u8]) -> bool {
+    match answer {
+        Ok(Next::Entry(Entry::Chars { text, .. })) => text.as_slice() == want,
+        Ok(Next::Entry(Entry::Line { text, .. })) => text.as_slice() == want,
         _ => false,
     }
 }
@@ -160,14 +161,14 @@ static CHARACTERS: [(&[u8], &[u8]); 5] = [
 ];
 
 /// The number of the first of these lines that brings something else.
-pub fn first_other_text(setup: &Setup) -> Option<usize>
+pub fn first_other_text(alloc: Global, setup: &Setup) -> Result<Option<usize>, AllocError>
     requires tasks { length setup.now.tasks < 2 ^ 32 }
     requires devices { length setup.now.devices < 2 ^ 32 }
 {
     for (number, (line, want)) in CHARACTERS.iter().enumerate() {
-        if !brings(&Reading::new().read(setup, line), want) {
-            return Some(number);
+        if !brings(&alone(alloc, setup, line)?, want) {
+            return Ok(Some(number));
         }
     }
-    None
+    Ok(None)
 }
