@@ -1,13 +1,11 @@
 -- Which lines of a journal are handled, over the bytes that were read of it, and what was carried out of them.
-use Rattle.std.proofs.Common.{◌≡◌, ◌≤◌, ◌<◌, ◌+◌, ℕ, List, [], ◌++◌, Option, Result, Ok, Err, refl, ap, sym, ◌∙◌, subst, arith, length, take, drop, nat_le, Bool, true, false}
+use Rattle.std.proofs.Common.{◌≡◌, ◌≤◌, ◌<◌, ℕ, List, [], ◌++◌, Option, Result, Ok, Err, ap, sym, ◌∙◌, subst, arith, length, take, drop, nat_le, Bool, true, false}
 use Rattle.std.proofs.lemmas.Bool.Decides.{nat_tests}
 use Rattle.std.proofs.lemmas.List.{take-append-drop, take-take}
 use Rattle.std.specs.Prelude.{OnOk, IfErr}
 use Rattle.pearl_rules.specs.declared.entry.Entry.{Entry}
 use Rattle.pearl_rules.specs.declared.setup.Setup.{Setup}
 use Rattle.pearl_engine.specs.Setups.{setup_of}
-use Rattle.pearl_script.specs.declared.refusal.Refusal.{Refusal}
-use Rattle.pearl_script.specs.declared.refusal.Refusal.TheVariants.{Journal, Read, TooLong}
 use Rattle.pearl_machine.specs.Seen.{Seen}
 use Rattle.pearl_journal.specs.Entries.{All, Bad, Entries, entries}
 use Rattle.pearl_journal.specs.Lines.{journal_lines, ended_lines}
@@ -17,7 +15,7 @@ use Rattle.pearl_top.specs.declared.failure.Failure.{Failure}
 use Rattle.pearl_top.specs.declared.failure.Failure.TheVariants as failure
 use Rattle.pearl_top.specs.declared.limits.TheConstants.{JOURNAL_LIMIT}
 use Rattle.pearl_top.specs.JournalDue.{handled, handled_if}
-use Rattle.pearl_top.specs.Replay.{with_front, BeginsWith, Carried, CarriesOut, CutShort, IsFailure, LinesBroken, LinesDone, MeetsBad, Reads, ReadsSuch}
+use Rattle.pearl_top.specs.Replay.{with_front, BeginsWith, Carried, CarriesOut, IsFailure, LinesDone, Reads, ReadsSuch}
 use Rattle.pearl_top.proofs.LineLaws.{bad_behind, begins_behind, front-then, taken-then}
 use Rattle.pearl_top.proofs.ReplayLaws.{advances-then, breaks-behind, breaks-then}
 use Rattle.pearl_top.proofs.TakenLaws.{append_nil}

@@ -17,11 +17,14 @@ use Rattle.pearl_script.specs.Lines.{lines_of, close_line}
 use Rattle.pearl_script.specs.Refusals.{refusal_line}
 use Rattle.pearl_faithful.specs.Faithful.{IsFaithfulTo}
 use Rattle.pearl_machine.specs.Seen.{Seen, at, picked, SameNext, Goes}
-use Rattle.pearl_top.specs.JournalDue.{opening_lines}
 use Rattle.pearl_top.specs.Transcript.{Close, Closed, Cut, IsTranscript}
 use Rattle.pearl_top.specs.Replay.{start_of, started, Advances, Breaks}
 use Rattle.pearl_top.proofs.RunEnds.{opening, stands, IsDone}
 use Rattle.pearl_top.proofs.TranscriptLaws.{lines_of-append, machine_closing, closed_text, cut_text, HasRest, front_text}
+
+-- the lines with which a run opens
+abbrev pub opening_lines : PlainProg → List ℕ
+opening_lines p = lines_of (tables_of p) (first_events 0 (tables_of p).tasks)
 
 -- who acts next, whatever was told
 picked_at : (seen : Seen) (told : List (ℕ × Report)) (left : List Entry) → pick (at seen told left).core (machine_offers (at seen told left)) ≡ picked seen

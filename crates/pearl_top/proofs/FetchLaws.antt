@@ -1,5 +1,5 @@
 -- How the carrying out of a journal ends, from what was read of it.
-use Rattle.std.proofs.Common.{◌≡◌, ◌≤◌, ◌<◌, ◌+◌, ◌-◌, ℕ, List, [], ◌∷◌, ◌++◌, Option, Some, Result, Ok, Err, min, length, take, true, refl, ap, sym, ◌∙◌, subst, arith, length-append}
+use Rattle.std.proofs.Common.{◌≡◌, ◌≤◌, ◌<◌, ◌+◌, ℕ, List, [], ◌∷◌, ◌++◌, Option, Some, Result, Err, length, take, true, refl, ap, sym, ◌∙◌, subst, arith, length-append}
 use Rattle.std.specs.Prelude.{OnOk, IfErr}
 use Rattle.std.proofs.lemmas.List.{length-take, take_all}
 use Rattle.pearl_io.specs.Outside.{Files, IsPiece, content}
@@ -14,7 +14,6 @@ use Rattle.pearl_journal.specs.Pieces.{HasNoWhole, Kept, begin, read_on}
 use Rattle.pearl_top.specs.declared.failure.Failure.{Failure}
 use Rattle.pearl_top.specs.declared.failure.Failure.TheVariants as failure
 use Rattle.pearl_top.specs.declared.limits.TheConstants.{JOURNAL_LIMIT}
-use Rattle.pearl_top.specs.JournalDue.{handled}
 use Rattle.pearl_top.specs.Reading.{MayHave}
 use Rattle.pearl_top.specs.Replay.{Carried, CarriesOut, IsFailure, LinesDone, Progress}
 use Rattle.pearl_top.proofs.DueLaws.{ended_done, ends_at, fails_at, handled-long}

@@ -22,7 +22,7 @@ use Rattle.pearl_journal.specs.declared.lines.Next.TheVariants as next
 use Rattle.pearl_journal.specs.Pieces.{HasNoWhole, IfEntry, Kept, begin, ended_on, moment_said, read_on, said}
 use Rattle.pearl_top.specs.declared.failure.Failure.{Failure}
 use Rattle.pearl_top.specs.declared.failure.Failure.TheVariants as failure
-use Rattle.pearl_top.specs.Replay.{with_front, Advances, BeginsWith, Carried, CutShort, IsFailure, MeetsBad, Reads, ReadsSuch}
+use Rattle.pearl_top.specs.Replay.{with_front, BeginsWith, Carried, CutShort, IsFailure, Reads, ReadsSuch}
 use Rattle.pearl_top.proofs.ReplayLaws.{advances-none, advances-then, breaks-then}
 use Rattle.pearl_top.proofs.TakenLaws.{append_nil, takes_none}
 use Rattle.pearl_top.proofs.TranscriptLaws.{lines_of-append}
@@ -231,13 +231,13 @@ cut-entry before after seen now answer entry left told later held moment old new
       told = told;
       reads = record {
         all = λ rest. (
-              read_on setup after there rest,
-              answers_as read_on held setup moment seen.state.core.moment before after (Ok answer) (Ok (next.Entry entry)) same at (ap Ok is) read rest,
-            );
+          read_on setup after there rest,
+          answers_as read_on held setup moment seen.state.core.moment before after (Ok answer) (Ok (next.Entry entry)) same at (ap Ok is) read rest,
+        );
         ended = λ rest. (
-              ended_on setup after there rest,
-              answers_as ended_on held setup moment seen.state.core.moment before after (Ok answer) (Ok (next.Entry entry)) same at (ap Ok is) ended rest,
-            );
+          ended_on setup after there rest,
+          answers_as ended_on held setup moment seen.state.core.moment before after (Ok answer) (Ok (next.Entry entry)) same at (ap Ok is) ended rest,
+        );
       };
       breaks = record { after = now; left = left; handles = handles };
       taken = cut_off setup old new told later cut;

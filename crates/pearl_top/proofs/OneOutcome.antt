@@ -63,7 +63,7 @@ comes p journal BadObject bytes known due = absurd due
 comes p journal BadJournal bytes known due = record { ending = Bad due.line due.code; is = refl; run = due.run }
 comes p journal ReadFault bytes known due = absurd due.0
 comes p journal WriteFault bytes known due = absurd due
-comes p journal NoMemory bytes known due = absurd (known refl)
+comes p journal NoMemory bytes known due = absurd due
 comes p journal TooLong bytes known due = comes_all p journal bytes false (le_false (length journal) JOURNAL_LIMIT due.0) due.1
 
 -- a program brings one thing about over one journal

@@ -28,7 +28,7 @@ use Rattle.pearl_journal.specs.Readings as readings
 use Rattle.pearl_journal.proofs.FitLaws.{entries-fit}
 use Rattle.pearl_journal.specs.Lines.{ended_lines}
 use Rattle.pearl_top.specs.declared.limits.TheConstants.{JOURNAL_LIMIT}
-use Rattle.pearl_top.specs.JournalDue.{handled, opening_lines, IsRun, JournalDue}
+use Rattle.pearl_top.specs.JournalDue.{handled, IsRun, JournalDue}
 use Rattle.pearl_top.specs.Transcript.{Close, Closed, Cut, IsTranscript}
 use Rattle.pearl_top.specs.Taken.{Finishes, Leaves, Stops}
 use Rattle.pearl_top.specs.Replay.{started, Advances, Breaks, CarriesOut, LinesDone, LinesBroken}
@@ -37,7 +37,7 @@ use Rattle.pearl_top.specs.Ready.{IsReadyFor}
 use Rattle.pearl_top.proofs.DueLaws.{handled-whole, le_of_true, lt_of_false}
 use Rattle.pearl_top.proofs.LineLaws.{cut_off}
 use Rattle.pearl_top.proofs.TranscriptLaws.{machine_closing}
-use Rattle.pearl_top.proofs.Endings.{closes, cuts, Follows, breaks_off}
+use Rattle.pearl_top.proofs.Endings.{closes, cuts, opening_lines, Follows, breaks_off}
 use Rattle.pearl_top.proofs.TakenLaws.{append_nil, stops_in, stops_short}
 
 -- the opening lines by the object's tables are those by the program's

@@ -1,21 +1,15 @@
 -- What is due at and after the journal of an accepted source.
 use Rattle.std.specs.Prelude.{◌≡◌, ℕ, ◌+◌, ◌<◌, ◌≤◌, List, length, take, nat_le, Bool, true, false}
 use Rattle.pearl_rules.specs.declared.entry.Entry.{Entry}
-use Rattle.pearl_rules.specs.Core.{first_events}
 use Rattle.pearl_program.specs.PlainPrograms.{PlainProg}
 use Rattle.pearl_meaning.specs.ProgramRuns.{setup_of as tables_of}
 use Rattle.pearl_script.specs.declared.refusal.Refusal.TheVariants as refusal
-use Rattle.pearl_script.specs.Lines.{lines_of}
 use Rattle.pearl_top.specs.declared.limits.TheConstants.{JOURNAL_LIMIT}
 use Rattle.pearl_top.specs.declared.status.Status.{Status}
 use Rattle.pearl_top.specs.declared.status.Status.TheVariants.{Done, BadJournal, ReadFault, TooLong}
 use Rattle.pearl_journal.specs.Entries.{Ending, All, Bad, entries}
 use Rattle.pearl_journal.specs.Lines.{journal_lines, ended_lines}
 use Rattle.pearl_top.specs.Transcript.{Close, Closed, Cut, IsTranscript}
-
--- the lines with which a run opens
-abbrev pub opening_lines : PlainProg → List ℕ
-opening_lines p = lines_of (tables_of p) (first_events 0 (tables_of p).tasks)
 
 -- the entries of these lines, by the program's tables, end so, and what their run writes, with what closes it, are these bytes
 pub record IsRun (p : PlainProg) (lines : List (List ℕ)) (ending : Ending) (close : Close) (bytes : List ℕ) : Type 0 where

@@ -42,15 +42,24 @@ lines-preserved g c =
     let left = c.lines.left.now in
     let some = some_left c.is_empty.result (length left) c.is_empty.ensures c.lines-test.true in record {
       carried = (
-            so_far.0 ++ take n left,
-            more_front c.args.piece.now so_far.0 left n so_far.1 ∙ ap (λ x. (so_far.0 ++ take n left) ++ x) (sym (take_rest left n)),
-            carried-line c.args.lines.now c.lines.lines c.feed-count.new.self c.carry_out_line.new.lines c.args.machine.now c.lines.machine c.carry_out_line.new.machine so_far.0
-                (take n left) _ _ _ so_far.2 c.feed-count.ensures.read c.feed-count.ensures.ended c.in_ok-carry_out_line.ensures.ok,
-          );
+        so_far.0 ++ take n left,
+        more_front c.args.piece.now so_far.0 left n so_far.1 ∙ ap (λ x. (so_far.0 ++ take n left) ++ x) (sym (take_rest left n)),
+        carried-line c.args.lines.now c.lines.lines c.feed-count.new.self c.carry_out_line.new.lines c.args.machine.now c.lines.machine c.carry_out_line.new.machine so_far.0
+            (take n left) _ _ _ so_far.2 c.feed-count.ensures.read c.feed-count.ensures.ended c.in_ok-carry_out_line.ensures.ok,
+      );
       no_whole = c.in_ok-carry_out_line.ensures.no_whole;
       unfinished = c.carry_out_line.ensures.finished ∙ ap (λ (k : Kept). k.is_finished) c.feed-count.ensures.fed ∙ c.lines.invariant.unfinished;
-      counted = omega (arith, ap length (take_rest left n), length-drop n left, c.feed-count.ensures.count, taken_within left, taken_some left some,
-          ap (λ (k : Kept). k.lines) c.feed-count.ensures.fed, c.carry_out_line.ensures.counted, c.lines.invariant.counted);
+      counted = omega (
+        arith,
+        ap length (take_rest left n),
+        length-drop n left,
+        c.feed-count.ensures.count,
+        taken_within left,
+        taken_some left some,
+        ap (λ (k : Kept). k.lines) c.feed-count.ensures.fed,
+        c.carry_out_line.ensures.counted,
+        c.lines.invariant.counted,
+      );
       taken = c.in_ok-carry_out_line.ensures.all;
       object = c.carry_out_line.ensures.object ∙ c.lines.invariant.object;
       later = omega (arith, c.carry_out_line.ensures.later);

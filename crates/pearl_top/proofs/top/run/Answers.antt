@@ -1,8 +1,12 @@
-use Rattle.std.proofs.Common.{[], ap, ◌∙◌}
+use Rattle.std.proofs.Common.{[], refl, ap, ◌∙◌}
 use Rattle.std.proofs.lemmas.Result.{err_from_is_err_and}
 use Rattle.pearl_io.specs.Outside.{CountRose, WriteFailed}
 use Rattle.pearl_io.proofs.Counts.{rose_since}
 use Rattle.pearl_machine.specs.Seen.{Seen}
+use Rattle.pearl_script.specs.declared.refusal.Refusal.TheVariants as refusal
+use Rattle.pearl_script.specs.Refusals.{refusal_line}
+use Rattle.pearl_top.specs.declared.failure.Failure.TheVariants as failure
+use Rattle.pearl_top.specs.declared.status.Status.TheVariants.{NoMemory}
 use Rattle.pearl_top.specs.declared.limits.TheConstants.{SOURCE_LIMIT}
 use Rattle.pearl_top.specs.JournalDue.{JournalDue}
 use Rattle.pearl_top.specs.Outcome.{RunDue, SourceDue}
@@ -51,8 +55,25 @@ returns-in_err-machine-clause-ends g c =
           c.in_err-machine.ensures.err)),
     )
 
-pub replay-requires : goal.replay-requires
-replay-requires g c = ap (λ (seen : Seen). seen.state.core.moment) c.in_ok-machine.ensures.ok.2.starts
+pub returns-in_err-lines-clause-ends : goal.returns-in_err-lines-clause-ends
+returns-in_err-lines-clause-ends g c =
+    let held = g.S.Shelf.holds c.args.shelf.now in
+    let source_rose : Type 0 = CountRose (g.S.Shelf.faults c.args.shelf.now c.args.source.now) (g.S.Shelf.faults c.read_whole.new.shelf c.args.source.now) in
+    let journal_rose : Type 0 = CountRose (g.S.Shelf.faults c.args.shelf.now c.args.journal.now) (g.S.Shelf.faults c.read_whole.new.shelf c.args.journal.now) in
+    let failed : Type 0 = WriteFailed (g.K.Sink.faults c.args.sink.now) (g.K.Sink.faults c.args.sink.now) (g.K.Sink.full c.args.sink.now) in
+    let read = c.in_ok-bytes.ensures.read in
+    let journal = explained held c.args.journal.now [] in
+    let e = err_from_is_err_and c.from_residual-in_err-lines.result c.from_residual-in_err-lines.ensures.1 in (
+      read.0,
+      journal,
+      read.1,
+      may_have held c.args.journal.now [],
+      rw (e.1, e.2) (leaves_due (g.K.Sink.taken c.args.sink.now) failed (RunDue read.0 journal source_rose journal_rose) (failure.Refused refusal.Memory)
+          (run_unread read.0 journal source_rose journal_rose NoMemory (refusal_line refusal.Memory) refl)),
+    )
+
+pub replay-requires-clause-moment : goal.replay-requires-clause-moment
+replay-requires-clause-moment g c = ap (λ (seen : Seen). seen.state.core.moment) c.in_ok-machine.ensures.ok.2.starts
 
 pub returns-clause-ends : goal.returns-clause-ends
 returns-clause-ends g c =
