@@ -129,7 +129,9 @@ class Source:
 
     def device(self, token, _):
         """S14: what the device asks for."""
-        spec = next(it for it in self.walk.specs if it.place == token.place)
+        spec = next((it for it in self.walk.specs if it.place == token.place), None)
+        if spec is None or spec.name not in self.walk.devices:
+            return []
         word = self.walk.devices[spec.name].word
         asked = {"TERMINAL": "a TERMINAL has ALPHIC", "INPUT": "an INPUT has DATION IN BASIC with its type",
                  "OUTPUT": "an OUTPUT has DATION OUT BASIC with its type"}.get(word)
@@ -137,8 +139,10 @@ class Source:
 
     def dation(self, token, _):
         """S32: the class, the direction, or else the kind."""
-        transfer = next(it for it in self.walk.transfers if it.dation_place == token.place)
-        spec = self.spec(transfer.dation)
+        transfer = next((it for it in self.walk.transfers if it.dation_place == token.place), None)
+        spec = self.spec(token.text)
+        if transfer is None or spec is None:
+            return []
         use, way = ("ALPHIC", {"PUT": "IN", "GET": "OUT"}) if transfer.word in ("PUT", "GET") else ("BASIC", {"SEND": "IN", "TAKE": "OUT"})
         said = f"{spec.name} is specified as DATION {spec.direction} {spec.use}"
         if spec.use != use:

@@ -113,9 +113,9 @@ class Line:
             near = difflib.get_close_matches(word.lower(), WORDS, 1)
             hint = f"; is `{near[0]}` meant?" if near else f": a line begins with {', '.join(WORDS)} or #"
             raise self.bad(1, 0, f"no line begins with `{word}`{hint}")
-        return getattr(self, word)()
+        return getattr(self, f"{word}_line")()
 
-    def clock(self):
+    def clock_line(self):
         self.count(2)
         value, why = clock(self.words[1][0])
         if why:
@@ -124,21 +124,15 @@ class Line:
             raise self.bad(1, 0, "`clock` stands only as the first entry: before any other line but comments")
         return Entry("clock", value=value)
 
-    def run(self):
+    def run_line(self):
         self.count(2)
         return Entry("run", picks=self.number(1, "N"))
 
-    def tick(self):
+    def tick_line(self):
         self.count(2)
         return Entry("tick", count=self.passing(self.number(1, "N")))
 
-    def __getattr__(self, name):
-        # `pass` is a word of Python's.
-        if name == "pass":
-            return self.pass_time
-        raise AttributeError(name)
-
-    def pass_time(self):
+    def pass_line(self):
         if len(self.words) == 2:
             raise self.bad(1, 2, "N is missing: `pass D N` lets D milliseconds pass, and up to N actions in each of them")
         self.count(3)
@@ -150,7 +144,7 @@ class Line:
             raise self.bad(3, 1, f"the moment would be {self.moment + count}, and no run goes past {LAST} milliseconds (2^40)")
         return count
 
-    def irpt(self):
+    def irpt_line(self):
         self.count(2)
         number = self.number(1, "K")
         self.specified(number, self.plant.interrupts, "INTERRUPT")
@@ -162,13 +156,13 @@ class Line:
         known = ", ".join(f"{it} ({spec.name})" for it, spec in sorted(there.items())) or "none"
         raise self.bad(2, 1, f"{word}({number}) isn't specified in the problem part; there: {known}")
 
-    def chars(self):
-        return self.text_line(1)
+    def chars_line(self):
+        return self.text_entry(1)
 
-    def line(self):
-        return self.text_line(0)
+    def line_line(self):
+        return self.text_entry(0)
 
-    def text_line(self, least):
+    def text_entry(self, least):
         self.at_least(3)
         number = self.number(1, "K")
         column, rest = self.rest(2)
@@ -182,7 +176,7 @@ class Line:
             raise self.bad(2, 1, f"nothing comes in at {self.plant.terminals[number].name}: it is specified as OUT")
         return Entry(self.words[0][0], device=number, value=text)
 
-    def value(self):
+    def value_line(self):
         self.at_least(3)
         number = self.number(1, "K")
         column, rest = self.rest(2)
@@ -193,7 +187,7 @@ class Line:
             raise Bad(4, column, why)
         return Entry("value", device=number, value=value, kind=kind)
 
-    def turn(self):
+    def turn_line(self):
         self.count(2)
         name = self.words[1][0]
         if not re.fullmatch(r"[A-Za-z]\w{0,62}", name, re.A):
@@ -204,7 +198,7 @@ class Line:
             raise self.bad(2, 1, f"no task is called `{name}`{hint}")
         return Entry("turn", value=name)
 
-    def state(self):
+    def state_line(self):
         self.count(1)
         return Entry("state")
 

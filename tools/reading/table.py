@@ -7,6 +7,7 @@ value; else each further column is headed by a device's name, and an empty cell 
 import csv
 import re
 from dataclasses import dataclass
+from datetime import date
 from decimal import Decimal, InvalidOperation
 
 from . import journal
@@ -41,7 +42,6 @@ def time_text(milliseconds):
 
 def days(year, month, day):
     """The number of a day of the calendar."""
-    from datetime import date
     try:
         return date(int(year), int(month), int(day)).toordinal()
     except ValueError as error:
@@ -152,6 +152,8 @@ class Table:
         mark = max(";\t,", key=head.count)
         reader = csv.reader(text.splitlines(), delimiter=mark)
         header = [cell.strip() for cell in next(reader, [])]
+        if len(header) < 2:
+            self.faults.append((1, "the header has a column for the time, and one for each device or two for device and value"))
         long = [it.lower() for it in header[1:]] in (["device", "value"], ["ger\u00e4t", "wert"], ["geraet", "wert"])
         columns = [] if long else [self.device(1, name) for name in header[1:]]
         for cells in reader:
