@@ -187,8 +187,10 @@ def cited_files():
     return wrong
 
 
-def part_of(source, name):
-    """The text of the function in a source, from its name to the next function."""
+def part_of(source, owner, name):
+    """The text of a function in a source, or in what an owner implements, from its name to the next function."""
+    if owner:
+        source = "\n".join(re.findall(rf"^impl\b[^{{\n]*\b{owner}\b.*?^}}", source, re.M | re.S))
     found = re.search(rf"\bfn {name}\b.*?(?=^\s*(?:pub )?fn |\Z)", source, re.M | re.S)
     return found[0] if found else ""
 
@@ -199,11 +201,10 @@ def missing(path, names):
     if path.endswith(".antt"):
         return [name for name in names if not re.search(rf"^(?:\w+ )*{name}\b", source, re.M)]
     owner, _, name = names[0].rpartition("::")
-    part = part_of(source, name)
-    if not part and not re.search(rf"\b(?:struct|enum|trait) {name}\b", source):
+    part = part_of(source, owner, name)
+    if not part and (owner or not re.search(rf"\b(?:struct|enum|trait) {name}\b", source)):
         return [names[0]]
-    wrong = [owner] if owner and not re.search(rf"\b{owner}\b", source) else []
-    return wrong + [clause for clause in names[1:] if not re.search(rf"\b(?:ensures|requires) {clause} ", part)]
+    return [clause for clause in names[1:] if not re.search(rf"\b(?:ensures|requires) {clause} ", part)]
 
 
 def promises():
