@@ -75,16 +75,19 @@ FORMS = [
          at_fault=True, wants="an item of a format"),
     Form("PUT and GET without BY", ["TO|FROM id ^;"], at_fault=True, wants="BY"),
     Form("BY in TAKE and SEND", ["TO|FROM id ^BY"], at_fault=True, wants=";"),
+    Form("several values in TAKE and SEND", ["TAKE|SEND id ^, id", "TAKE|SEND id ( .. ^,"]),
     Form("PRIO behind CONTINUE", ["CONTINUE id ^PRIO"]),
     Form("schedules before other statements",
          ["^TERMINATE|PREVENT|SUSPEND|REQUEST|RELEASE|ENABLE|DISABLE|TRIGGER|INDUCE|CALL|PUT|SEND|TAKE|GET"],
          at_fault=True, wants="ACTIVATE"),
+    Form("ALL before RESUME and CONTINUE", ["^RESUME|CONTINUE"], at_fault=True, wants="ACTIVATE"),
     Form("DATE", ["^DATE not::=|=|:|("]),
     Form("connections in SYSTEM", ["^- >", "^< -", "^: id *", "id ^* number", ") ^* number"], part="SYSTEM"),
     Form("devices without a number", [": id ^;", ": id ^, "], part="SYSTEM"),
     Form("lines of a preprocessor", ["^#"], part=""),
     Form("INIT of arrays of structures", ["id ( .. ^STRUCT [ .. INIT|INITIAL (", "id ( .. INV ^STRUCT [ .. INIT|INITIAL ("],
          means_otherwise=True),
+    Form("control characters in texts", [r"^re:'.*\\.*'"], means_otherwise=True),
 ]
 
 SLIPS = [
