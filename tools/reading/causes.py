@@ -9,7 +9,10 @@ from .leftout import at_fault
 from .recovery import LEFT_OVER, WholeWalk
 from .tokens import WORDS, NoToken
 
-VALUES = {"A": "CHAR", "B": "BIT", "B1": "BIT", "B2": "BIT", "B3": "BIT", "B4": "BIT", "F": "FIXED", "T": "CLOCK", "D": "DURATION"}
+# The kind that each data item is for.
+VALUES = {"A": "CHAR", **dict.fromkeys(["B", "B1", "B2", "B3", "B4"], "BIT"), "F": "FIXED", "T": "CLOCK", "D": "DURATION"}
+# The class that each transfer asks for, and the direction that it can't use.
+TRANSFERS = {"PUT": ("ALPHIC", "IN"), "GET": ("ALPHIC", "OUT"), "SEND": ("BASIC", "IN"), "TAKE": ("BASIC", "OUT")}
 
 
 def listed(names):
@@ -143,11 +146,11 @@ class Source:
         spec = self.spec(token.text)
         if transfer is None or spec is None:
             return []
-        use, way = ("ALPHIC", {"PUT": "IN", "GET": "OUT"}) if transfer.word in ("PUT", "GET") else ("BASIC", {"SEND": "IN", "TAKE": "OUT"})
+        use, way = TRANSFERS[transfer.word]
         said = f"{spec.name} is specified as DATION {spec.direction} {spec.use}"
         if spec.use != use:
             return [f"{said}, and {transfer.word} is for {use}"]
-        if spec.direction == way[transfer.word]:
+        if spec.direction == way:
             return [f"{said}, and {transfer.word} goes the other way"]
         kind = kind_text(spec.kind)
         if transfer.word == "SEND":

@@ -201,7 +201,8 @@ class Walk:
         word = self.step()
         number = self.in_brackets(self.number)
         self.take(";")
-        self.devices.setdefault(name.text, Device("INTERRUPT" if word.term == "INTERRUPT" else word.text, number, name.place))
+        told = word.term if word.term == "INTERRUPT" else word.text
+        self.devices.setdefault(name.text, Device(told, number, name.place))
 
     def declaration(self):
         if self.skip("LENGTH"):

@@ -4,6 +4,8 @@ import difflib
 import re
 from dataclasses import dataclass
 
+from .places import MARK, MARKED, character
+
 LAST = 2**40
 MOST_NUMBER = 2**63 - 1
 WORDS = {
@@ -13,7 +15,8 @@ WORDS = {
 CLOCK = re.compile(r"(\d+):(\d+):(\d+)(?:\.(\d+))?", re.A)
 TEXT = re.compile(r"'(?:[ -&(-~]|'')*'")
 BITS = re.compile(r"'([0-9A-Za-z]*)'B([1-4]?)")
-SPAN = re.compile(r"(?:(\d+)[ \t]*HRS(?:[ \t]+|$))?(?:(\d+)[ \t]*MIN(?:[ \t]+|$))?(?:(\d+)(?:\.(\d{1,3}))?[ \t]*SEC)?", re.A)
+SPAN = re.compile(
+    r"(?:(\d+)[ \t]*HRS(?:[ \t]+|$))?(?:(\d+)[ \t]*MIN(?:[ \t]+|$))?(?:(\d+)(?:\.(\d{1,3}))?[ \t]*SEC)?", re.A)
 
 
 class Bad(Exception):
@@ -141,7 +144,8 @@ class Line:
 
     def passing(self, count):
         if self.moment + count > LAST:
-            raise self.bad(3, 1, f"the moment would be {self.moment + count}, and no run goes past {LAST} milliseconds (2^40)")
+            moment = self.moment + count
+            raise self.bad(3, 1, f"the moment would be {moment}, and no run goes past {LAST} milliseconds (2^40)")
         return count
 
     def irpt_line(self):
@@ -228,19 +232,9 @@ def literal_text(rest, column):
     if begun == len(rest):
         raise Bad(1, column, "the text isn't closed by an apostrophe")
     if rest[begun] == "'":
-        raise Bad(1, column + begun, "behind the closing apostrophe stands something; an apostrophe in a text is written twice")
-    raise Bad(1, column + begun, f"a text has characters from 32 to 126 alone, and {shown(rest[begun:])} is none of them")
-
-
-def shown(text):
-    """The first character, where the bytes are those of one."""
-    raw = text[:4].encode("latin-1")
-    for length in range(1, 5):
-        try:
-            return f"`{raw[:length].decode('utf-8')}`"
-        except UnicodeDecodeError:
-            continue
-    return f"the byte {raw[0]}"
+        why = "behind the closing apostrophe stands something; an apostrophe in a text is written twice"
+        raise Bad(1, column + begun, why)
+    raise Bad(1, column + begun, f"a text has characters from 32 to 126 alone, and {character(rest, begun)} is none of them")
 
 
 def literal(rest, column):
@@ -251,7 +245,8 @@ def literal(rest, column):
         wrong = [it for it in found[1] if it not in "0123456789ABCDEF"[:1 << bits]]
         if not wrong and 1 <= len(found[1]) * bits <= 64:
             return "".join(f"{int(it, 16):0{bits}b}" for it in found[1]), ("BIT", len(found[1]) * bits)
-        raise Bad(1, column, f"`{wrong[0]}` is no digit of {bits} bit{'s' if bits > 1 else ''}" if wrong else "bits are 1 to 64")
+        no_digit = wrong and f"`{wrong[0]}` is no digit of {bits} bit{'s' if bits > 1 else ''}"
+        raise Bad(1, column, no_digit or "bits are 1 to 64")
     if rest[:1] == "'":
         text = literal_text(rest, column)
         if not 1 <= len(text) <= 255:
@@ -275,7 +270,8 @@ def number_or_span(rest, column):
     if found and any(found.groups()):
         hours, minutes, seconds = (value_of(it or "0") for it in found.groups()[:3])
         if max(hours, minutes, seconds) <= MOST_NUMBER:
-            return sign * (((hours * 60 + minutes) * 60 + seconds) * 1000 + int((found[4] or "").ljust(3, "0"))), ("DURATION", 0)
+            thousandths = int((found[4] or "").ljust(3, "0"))
+            return sign * (((hours * 60 + minutes) * 60 + seconds) * 1000 + thousandths), ("DURATION", 0)
     if re.fullmatch(r"[-+]?\d+[.,]\d+", rest, re.A):
         raise Bad(1, column, f"{rest} isn't whole: values are whole numbers, so send tenths, as {re.sub('[.,]', '', rest)}")
     if re.fullmatch(r"\+\d+", rest, re.A):
@@ -309,8 +305,8 @@ def read_line(raw, plant, first=False, moment=0):
     if len(raw) > 1024:
         raise Bad(1, 1024, f"a line has at most 1,024 bytes, and this has {len(raw)}")
     text = raw.decode("latin-1")
-    if text.startswith("\xef\xbb\xbf"):
-        raise Bad(1, 0, "here stand the bytes EF BB BF, a mark that some editors put before a text: save it without (UTF-8 without BOM)")
+    if text.startswith(MARK):
+        raise Bad(1, 0, MARKED)
     stripped = text.strip(" \t")
     if not stripped or stripped[0] == "#":
         return None

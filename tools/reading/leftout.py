@@ -3,7 +3,8 @@
 Each form has a name, which is that of its row in docs/use/porting.md, and patterns over the tokens. A pattern is a row
 of words, each for one token: a spelling; `id`, `number`, `decimal`, `text`; `re:` and an expression; `..` for all up to
 and with the closing bracket; `a|b` for one of several; `not:a|b` for any other. The token before which `^` stands is that
-of the form. A form is looked for in the whole source, or only where a fault is (`at_fault`), as its words are right elsewhere; `wants` is what must be possible there.
+of the form. A form is looked for in the whole source, or only where a fault is (`at_fault`), as its words are right
+elsewhere; `wants` is what must be possible at a fault.
 """
 
 import re
@@ -97,7 +98,7 @@ SLIPS = [
     Form("times without seconds", ["^number : number"], at_fault=True),
     Form("brackets without arguments", ["id ( ^)"], at_fault=True, wants="an expression"),
     Form("RETURN without brackets", ["RETURN ^id|number|text|bits|clock|-|+|NOT"], at_fault=True),
-    Form("units of time", ["number ^S|MS|MSEC|SECS|SECONDS|SECOND|MINUTES|MINUTE|MINS|HOUR|HOURS|H|M|D|DAYS|ms|s|min|h|sec"]),
+    Form("units of time", ["number ^S|MS|MSEC|SECS|SECONDS|SECOND|MINUTES|MINUTE|MINS|HOUR|HOURS|H|M|DAYS|ms|s|min|h|sec"]),
     Form("BY before TO", ["^BY F|A|B|T|D|X|SKIP|B1|B2|B3|B4"], at_fault=True, wants="TO"),
     Form("ELSIF", ["^ELSIF|ELSEIF|ELIF|FI|ENDIF|ENDFOR|ENDCASE|ENDLOOP"]),
 ]
@@ -147,7 +148,8 @@ def matched(pattern, tokens, at):
                 return None
             at = end + 1
             continue
-        if at >= len(tokens) or not any(is_one(tokens[at], it) for it in ([word] if word.startswith("not:") else word.split("|"))):
+        choices = [word] if word.startswith("not:") else word.split("|")
+        if at >= len(tokens) or not any(is_one(tokens[at], it) for it in choices):
             return None
         at += 1
     return at - 1, told

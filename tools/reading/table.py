@@ -153,7 +153,7 @@ class Table:
         reader = csv.reader(text.splitlines(), delimiter=mark)
         header = [cell.strip() for cell in next(reader, [])]
         if len(header) < 2:
-            self.faults.append((1, "the header has a column for the time, and one for each device or two for device and value"))
+            self.faults.append((1, "the header has the time, and then a column for each device, or device and value"))
         long = [it.lower() for it in header[1:]] in (["device", "value"], ["ger\u00e4t", "wert"], ["geraet", "wert"])
         columns = [] if long else [self.device(1, name) for name in header[1:]]
         for cells in reader:
@@ -193,7 +193,7 @@ class Table:
         self.values += [Value(line, moment, *device, cell) for device, cell in pairs if device]
 
     def moment(self, cell):
-        """The milliseconds from the start on; a time of day before the last one by more than half a day is the next day's."""
+        """The milliseconds from the start on; what is more than half a day before the row above is the next day's."""
         moment, day, clock = time_of(cell)
         if moment is None:
             if self.start is None:
@@ -205,6 +205,6 @@ class Table:
             else:
                 moment += -(-(self.before - DAY // 2 - moment) // DAY) * DAY if moment < self.before - DAY // 2 else 0
         if moment < self.before:
-            raise Wrong(f"the time {cell} is before that of a row above" if self.before else f"the time {cell} is before the start")
+            raise Wrong(f"the time {cell} is before {'that of a row above' if self.before else 'the start'}")
         self.before = moment
         return moment
