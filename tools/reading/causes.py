@@ -9,7 +9,10 @@ from .leftout import at_fault
 from .recovery import LEFT_OVER, WholeWalk
 from .tokens import WORDS, NoToken
 
-VALUES = {"A": "CHAR", "B": "BIT", "B1": "BIT", "B2": "BIT", "B3": "BIT", "B4": "BIT", "F": "FIXED", "T": "CLOCK", "D": "DURATION"}
+# The kind that each data item is for.
+VALUES = {"A": "CHAR", **dict.fromkeys(["B", "B1", "B2", "B3", "B4"], "BIT"), "F": "FIXED", "T": "CLOCK", "D": "DURATION"}
+# The class that each transfer asks for, and the direction that it can't use.
+TRANSFERS = {"PUT": ("ALPHIC", "IN"), "GET": ("ALPHIC", "OUT"), "SEND": ("BASIC", "IN"), "TAKE": ("BASIC", "OUT")}
 
 
 def listed(names):
@@ -129,7 +132,9 @@ class Source:
 
     def device(self, token, _):
         """S14: what the device asks for."""
-        spec = next(it for it in self.walk.specs if it.place == token.place)
+        spec = next((it for it in self.walk.specs if it.place == token.place), None)
+        if spec is None or spec.name not in self.walk.devices:
+            return []
         word = self.walk.devices[spec.name].word
         asked = {"TERMINAL": "a TERMINAL has ALPHIC", "INPUT": "an INPUT has DATION IN BASIC with its type",
                  "OUTPUT": "an OUTPUT has DATION OUT BASIC with its type"}.get(word)
@@ -137,13 +142,15 @@ class Source:
 
     def dation(self, token, _):
         """S32: the class, the direction, or else the kind."""
-        transfer = next(it for it in self.walk.transfers if it.dation_place == token.place)
-        spec = self.spec(transfer.dation)
-        use, way = ("ALPHIC", {"PUT": "IN", "GET": "OUT"}) if transfer.word in ("PUT", "GET") else ("BASIC", {"SEND": "IN", "TAKE": "OUT"})
+        transfer = next((it for it in self.walk.transfers if it.dation_place == token.place), None)
+        spec = self.spec(token.text)
+        if transfer is None or spec is None:
+            return []
+        use, way = TRANSFERS[transfer.word]
         said = f"{spec.name} is specified as DATION {spec.direction} {spec.use}"
         if spec.use != use:
             return [f"{said}, and {transfer.word} is for {use}"]
-        if spec.direction == way[transfer.word]:
+        if spec.direction == way:
             return [f"{said}, and {transfer.word} goes the other way"]
         kind = kind_text(spec.kind)
         if transfer.word == "SEND":

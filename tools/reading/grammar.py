@@ -110,11 +110,11 @@ class Walk:
         self.wanted += [name] if name else terms if isinstance(terms, list) else [terms]
         return False
 
-    def reads(self, *words):
-        """Whether the token is a name that is spelled as one of these."""
+    def reads(self, words, name):
+        """Whether the token is a name that is spelled as one of these; else the name is kept as what could stand here."""
         if self.term == "id" and self.token.text in words:
             return True
-        self.wanted += words
+        self.wanted.append(name)
         return False
 
     def step(self):
@@ -201,7 +201,8 @@ class Walk:
         word = self.step()
         number = self.in_brackets(self.number)
         self.take(";")
-        self.devices.setdefault(name.text, Device("INTERRUPT" if word.term == "INTERRUPT" else word.text, number, name.place))
+        told = word.term if word.term == "INTERRUPT" else word.text
+        self.devices.setdefault(name.text, Device(told, number, name.place))
 
     def declaration(self):
         if self.skip("LENGTH"):
@@ -338,7 +339,7 @@ class Walk:
         use, kind = self.take("ALPHIC", "BASIC").term, ()
         if use == "BASIC":
             kind = self.basic()
-        if self.reads("CONTROL"):
+        if self.reads(["CONTROL"], "CONTROL"):
             self.step()
             self.in_brackets(lambda: self.take("ALL"))
         self.specs += [Spec(it.text, it.place, use, direction, kind) for it in names]
@@ -537,11 +538,11 @@ class Walk:
 
     def format_item(self):
         place, width = self.token.place, None
-        if self.reads(*FREE_ITEMS):
+        if self.reads(FREE_ITEMS, "an item of a format"):
             word = self.step().text
             if self.sees(["("]):
                 width = self.in_brackets(self.number)
-        elif self.reads(*WIDE_ITEMS):
+        elif self.reads(WIDE_ITEMS, "an item of a format"):
             word = self.step().text
             width = self.in_brackets(self.number)
         else:

@@ -4,6 +4,8 @@ import difflib
 import re
 from dataclasses import dataclass
 
+from .places import MARK, MARKED, character
+
 LAST = 2**40
 MOST_NUMBER = 2**63 - 1
 WORDS = {
@@ -13,7 +15,8 @@ WORDS = {
 CLOCK = re.compile(r"(\d+):(\d+):(\d+)(?:\.(\d+))?", re.A)
 TEXT = re.compile(r"'(?:[ -&(-~]|'')*'")
 BITS = re.compile(r"'([0-9A-Za-z]*)'B([1-4]?)")
-SPAN = re.compile(r"(?:(\d+)[ \t]*HRS(?:[ \t]+|$))?(?:(\d+)[ \t]*MIN(?:[ \t]+|$))?(?:(\d+)(?:\.(\d{1,3}))?[ \t]*SEC)?", re.A)
+SPAN = re.compile(
+    r"(?:(\d+)[ \t]*HRS(?:[ \t]+|$))?(?:(\d+)[ \t]*MIN(?:[ \t]+|$))?(?:(\d+)(?:\.(\d{1,3}))?[ \t]*SEC)?", re.A)
 
 
 class Bad(Exception):
@@ -113,9 +116,9 @@ class Line:
             near = difflib.get_close_matches(word.lower(), WORDS, 1)
             hint = f"; is `{near[0]}` meant?" if near else f": a line begins with {', '.join(WORDS)} or #"
             raise self.bad(1, 0, f"no line begins with `{word}`{hint}")
-        return getattr(self, word)()
+        return getattr(self, f"{word}_line")()
 
-    def clock(self):
+    def clock_line(self):
         self.count(2)
         value, why = clock(self.words[1][0])
         if why:
@@ -124,21 +127,15 @@ class Line:
             raise self.bad(1, 0, "`clock` stands only as the first entry: before any other line but comments")
         return Entry("clock", value=value)
 
-    def run(self):
+    def run_line(self):
         self.count(2)
         return Entry("run", picks=self.number(1, "N"))
 
-    def tick(self):
+    def tick_line(self):
         self.count(2)
         return Entry("tick", count=self.passing(self.number(1, "N")))
 
-    def __getattr__(self, name):
-        # `pass` is a word of Python's.
-        if name == "pass":
-            return self.pass_time
-        raise AttributeError(name)
-
-    def pass_time(self):
+    def pass_line(self):
         if len(self.words) == 2:
             raise self.bad(1, 2, "N is missing: `pass D N` lets D milliseconds pass, and up to N actions in each of them")
         self.count(3)
@@ -147,10 +144,11 @@ class Line:
 
     def passing(self, count):
         if self.moment + count > LAST:
-            raise self.bad(3, 1, f"the moment would be {self.moment + count}, and no run goes past {LAST} milliseconds (2^40)")
+            moment = self.moment + count
+            raise self.bad(3, 1, f"the moment would be {moment}, and no run goes past {LAST} milliseconds (2^40)")
         return count
 
-    def irpt(self):
+    def irpt_line(self):
         self.count(2)
         number = self.number(1, "K")
         self.specified(number, self.plant.interrupts, "INTERRUPT")
@@ -162,13 +160,13 @@ class Line:
         known = ", ".join(f"{it} ({spec.name})" for it, spec in sorted(there.items())) or "none"
         raise self.bad(2, 1, f"{word}({number}) isn't specified in the problem part; there: {known}")
 
-    def chars(self):
-        return self.text_line(1)
+    def chars_line(self):
+        return self.text_entry(1)
 
-    def line(self):
-        return self.text_line(0)
+    def line_line(self):
+        return self.text_entry(0)
 
-    def text_line(self, least):
+    def text_entry(self, least):
         self.at_least(3)
         number = self.number(1, "K")
         column, rest = self.rest(2)
@@ -182,7 +180,7 @@ class Line:
             raise self.bad(2, 1, f"nothing comes in at {self.plant.terminals[number].name}: it is specified as OUT")
         return Entry(self.words[0][0], device=number, value=text)
 
-    def value(self):
+    def value_line(self):
         self.at_least(3)
         number = self.number(1, "K")
         column, rest = self.rest(2)
@@ -193,7 +191,7 @@ class Line:
             raise Bad(4, column, why)
         return Entry("value", device=number, value=value, kind=kind)
 
-    def turn(self):
+    def turn_line(self):
         self.count(2)
         name = self.words[1][0]
         if not re.fullmatch(r"[A-Za-z]\w{0,62}", name, re.A):
@@ -204,7 +202,7 @@ class Line:
             raise self.bad(2, 1, f"no task is called `{name}`{hint}")
         return Entry("turn", value=name)
 
-    def state(self):
+    def state_line(self):
         self.count(1)
         return Entry("state")
 
@@ -234,19 +232,9 @@ def literal_text(rest, column):
     if begun == len(rest):
         raise Bad(1, column, "the text isn't closed by an apostrophe")
     if rest[begun] == "'":
-        raise Bad(1, column + begun, "behind the closing apostrophe stands something; an apostrophe in a text is written twice")
-    raise Bad(1, column + begun, f"a text has characters from 32 to 126 alone, and {shown(rest[begun:])} is none of them")
-
-
-def shown(text):
-    """The first character, where the bytes are those of one."""
-    raw = text[:4].encode("latin-1")
-    for length in range(1, 5):
-        try:
-            return f"`{raw[:length].decode('utf-8')}`"
-        except UnicodeDecodeError:
-            continue
-    return f"the byte {raw[0]}"
+        why = "behind the closing apostrophe stands something; an apostrophe in a text is written twice"
+        raise Bad(1, column + begun, why)
+    raise Bad(1, column + begun, f"a text has characters from 32 to 126 alone, and {character(rest, begun)} is none of them")
 
 
 def literal(rest, column):
@@ -257,7 +245,8 @@ def literal(rest, column):
         wrong = [it for it in found[1] if it not in "0123456789ABCDEF"[:1 << bits]]
         if not wrong and 1 <= len(found[1]) * bits <= 64:
             return "".join(f"{int(it, 16):0{bits}b}" for it in found[1]), ("BIT", len(found[1]) * bits)
-        raise Bad(1, column, f"`{wrong[0]}` is no digit of {bits} bit{'s' if bits > 1 else ''}" if wrong else "bits are 1 to 64")
+        no_digit = wrong and f"`{wrong[0]}` is no digit of {bits} bit{'s' if bits > 1 else ''}"
+        raise Bad(1, column, no_digit or "bits are 1 to 64")
     if rest[:1] == "'":
         text = literal_text(rest, column)
         if not 1 <= len(text) <= 255:
@@ -281,7 +270,8 @@ def number_or_span(rest, column):
     if found and any(found.groups()):
         hours, minutes, seconds = (value_of(it or "0") for it in found.groups()[:3])
         if max(hours, minutes, seconds) <= MOST_NUMBER:
-            return sign * (((hours * 60 + minutes) * 60 + seconds) * 1000 + int((found[4] or "").ljust(3, "0"))), ("DURATION", 0)
+            thousandths = int((found[4] or "").ljust(3, "0"))
+            return sign * (((hours * 60 + minutes) * 60 + seconds) * 1000 + thousandths), ("DURATION", 0)
     if re.fullmatch(r"[-+]?\d+[.,]\d+", rest, re.A):
         raise Bad(1, column, f"{rest} isn't whole: values are whole numbers, so send tenths, as {re.sub('[.,]', '', rest)}")
     if re.fullmatch(r"\+\d+", rest, re.A):
@@ -315,8 +305,8 @@ def read_line(raw, plant, first=False, moment=0):
     if len(raw) > 1024:
         raise Bad(1, 1024, f"a line has at most 1,024 bytes, and this has {len(raw)}")
     text = raw.decode("latin-1")
-    if text.startswith("\xef\xbb\xbf"):
-        raise Bad(1, 0, "here stand the bytes EF BB BF, a mark that some editors put before a text: save it without (UTF-8 without BOM)")
+    if text.startswith(MARK):
+        raise Bad(1, 0, MARKED)
     stripped = text.strip(" \t")
     if not stripped or stripped[0] == "#":
         return None

@@ -3,7 +3,8 @@
 Each form has a name, which is that of its row in docs/use/porting.md, and patterns over the tokens. A pattern is a row
 of words, each for one token: a spelling; `id`, `number`, `decimal`, `text`; `re:` and an expression; `..` for all up to
 and with the closing bracket; `a|b` for one of several; `not:a|b` for any other. The token before which `^` stands is that
-of the form. A form is looked for in the whole source, or only where a fault is (`at_fault`), as its words are right elsewhere; `wants` is what must be possible there.
+of the form. A form is looked for in the whole source, or only where a fault is (`at_fault`), as its words are right
+elsewhere; `wants` is what must be possible at a fault.
 """
 
 import re
@@ -28,9 +29,9 @@ class Form:
 
 FORMS = [
     Form("GOTO", ["^GOTO id"]),
-    Form("labels", [f"{BEFORE} ^id : not:TASK|PROC"]),
-    Form("EXIT with a name", ["EXIT ^id"]),
-    Form("a name behind END", ["END ^id ;"]),
+    Form("labels", [f"{BEFORE} ^id : not:TASK|PROC"], wants=":="),
+    Form("EXIT with a name", ["EXIT ^id"], wants=";"),
+    Form("a name behind END", ["END ^id ;"], wants=";"),
     Form("values behind ALT", ["ALT ^( .."]),
     Form("SIGNAL, ON, INDUCE", ["^SIGNAL ;|,|(", f"{BEFORE} ^ON id :", "^INDUCE id", "^RST ("]),
     Form("FLOAT", ["^FLOAT (", "^FLOAT not::=|="]),
@@ -52,37 +53,42 @@ FORMS = [
     Form("names in bounds", ["DCL|,|TYPE|) id ( ^id", "DCL|,|TYPE|) id ( number|- : ^id", "DCL|,|TYPE|) id ( .. : ^id"],
          at_fault=True),
     Form("names in INIT", ["INIT ( ^id", "INIT|INITIAL ( + ^id", "INIT|INITIAL ( - ^id"]),
-    Form("names in INIT", ["number|text|bits|clock|SEC|MIN|HRS , ^id"], at_fault=True),
+    Form("names in INIT", ["number|text|bits|clock|SEC|MIN|HRS , ^id"], at_fault=True, wants="a literal"),
     Form("repetition in INIT", ["number ^* number|text|bits"], at_fault=True),
     Form("INITIAL", ["^INITIAL ("]),
     Form("names as lengths", ["FIXED|BIT|CHAR ( ^id )", "PRIO ^id MAIN|;|RESIDENT|GLOBAL"], at_fault=True),
     Form("INV parameters", ["^INV FIXED|BIT|CHAR|CLOCK|DURATION|id"], at_fault=True),
-    Form("arrays as parameters", ["(|, id ^( )", "(|, id ^( ,"], at_fault=True),
-    Form("structures as parameters", ["(|, id ^STRUCT|id", "RETURNS ( ^id|STRUCT"], at_fault=True),
+    Form("arrays as parameters", ["(|, id ^( )", "(|, id ^( ,"], at_fault=True, wants="FIXED"),
+    Form("structures as parameters", ["(|, id ^STRUCT|id", "RETURNS ( ^id|STRUCT"], at_fault=True, wants="FIXED"),
     Form("REENT", ["^REENT ;|RETURNS|GLOBAL"]),
     Form("RESIDENT", ["^RESIDENT ;|,|GLOBAL|MAIN|PRIO"]),
-    Form("GLOBAL", ["^GLOBAL", "SPC|SPECIFY id ^FIXED|BIT|CHAR|CLOCK|DURATION|STRUCT|SEMA|TASK|PROC|ENTRY|FLOAT|INV|("]),
+    Form("GLOBAL", ["^GLOBAL", "SPC|SPECIFY id ^FIXED|BIT|CHAR|CLOCK|DURATION|STRUCT|SEMA|TASK|PROC|ENTRY|FLOAT|INV"]),
     Form("BOLT", ["^BOLT", "^RESERVE|FREE|ENTER|LEAVE id"]),
     Form("operators of one's own", ["^OPERATOR|PRECEDENCE id|+|-|*|//|REM|("]),
     Form("procedures in procedures", ["id ^: PROC|TASK"], at_fault=True),
     Form("OPEN, CLOSE", ["^OPEN|CLOSE id"]),
     Form("READ, WRITE", ["^READ|WRITE id|text"]),
-    Form("items E, LIST, PAGE and others", ["BY|, ^E|LIST|PAGE|COL|LINE|POS|ADV|SOP|R|S|RST|IDF|NO|EOF ;|,|("], at_fault=True),
+    Form("items E, LIST, PAGE and others", ["BY|, ^E|LIST|PAGE|COL|LINE|POS|ADV|SOP|R|S|RST|IDF|NO|EOF ;|,|("],
+         at_fault=True, wants="an item of a format"),
     Form("decimals in F", ["F ( number ^, number"]),
-    Form("widths by a name", ["F|T|D|A|B|B1|B2|B3|B4|X|SKIP ( ^id|("], at_fault=True),
-    Form("repeated items", ["BY|, ^( number )", "BY|, ^( id )", "BY|, ^number A|F|B|X|(", "BY|, ^( F|A|B|X"], at_fault=True),
+    Form("widths by a name", ["F|T|D|A|B|B1|B2|B3|B4|X|SKIP ( ^id"], at_fault=True, wants="a number"),
+    Form("repeated items", ["BY|, ^( number )", "BY|, ^( id )", "BY|, ^number A|F|B|X|(", "BY|, ^( F|A|B|X"],
+         at_fault=True, wants="an item of a format"),
     Form("PUT and GET without BY", ["TO|FROM id ^;"], at_fault=True, wants="BY"),
-    Form("BY in TAKE and SEND", ["TAKE|SEND id TO|FROM id ^BY", "TO|FROM id ^BY"], at_fault=True),
+    Form("BY in TAKE and SEND", ["TO|FROM id ^BY"], at_fault=True, wants=";"),
+    Form("several values in TAKE and SEND", ["TAKE|SEND id ^, id", "TAKE|SEND id ( .. ^,"]),
     Form("PRIO behind CONTINUE", ["CONTINUE id ^PRIO"]),
     Form("schedules before other statements",
          ["^TERMINATE|PREVENT|SUSPEND|REQUEST|RELEASE|ENABLE|DISABLE|TRIGGER|INDUCE|CALL|PUT|SEND|TAKE|GET"],
          at_fault=True, wants="ACTIVATE"),
+    Form("ALL before RESUME and CONTINUE", ["^RESUME|CONTINUE"], at_fault=True, wants="ACTIVATE"),
     Form("DATE", ["^DATE not::=|=|:|("]),
     Form("connections in SYSTEM", ["^- >", "^< -", "^: id *", "id ^* number", ") ^* number"], part="SYSTEM"),
     Form("devices without a number", [": id ^;", ": id ^, "], part="SYSTEM"),
     Form("lines of a preprocessor", ["^#"], part=""),
     Form("INIT of arrays of structures", ["id ( .. ^STRUCT [ .. INIT|INITIAL (", "id ( .. INV ^STRUCT [ .. INIT|INITIAL ("],
          means_otherwise=True),
+    Form("control characters in texts", [r"^re:'.*\\.*'"], means_otherwise=True),
 ]
 
 SLIPS = [
@@ -90,9 +96,9 @@ SLIPS = [
     Form("= as a comparison", ["^= not:;"], at_fault=True, wants="an operator"),
     Form("DO", ["^DO|LOOP"], at_fault=True, wants="REPEAT"),
     Form("times without seconds", ["^number : number"], at_fault=True),
-    Form("brackets without arguments", ["id ( ^)"], at_fault=True),
+    Form("brackets without arguments", ["id ( ^)"], at_fault=True, wants="an expression"),
     Form("RETURN without brackets", ["RETURN ^id|number|text|bits|clock|-|+|NOT"], at_fault=True),
-    Form("units of time", ["number ^S|MS|MSEC|SECS|SECONDS|SECOND|MINUTES|MINUTE|MINS|HOUR|HOURS|H|M|D|DAYS|ms|s|min|h|sec"]),
+    Form("units of time", ["number ^S|MS|MSEC|SECS|SECONDS|SECOND|MINUTES|MINUTE|MINS|HOUR|HOURS|H|M|DAYS|ms|s|min|h|sec"]),
     Form("BY before TO", ["^BY F|A|B|T|D|X|SKIP|B1|B2|B3|B4"], at_fault=True, wants="TO"),
     Form("ELSIF", ["^ELSIF|ELSEIF|ELIF|FI|ENDIF|ENDFOR|ENDCASE|ENDLOOP"]),
 ]
@@ -142,7 +148,8 @@ def matched(pattern, tokens, at):
                 return None
             at = end + 1
             continue
-        if at >= len(tokens) or not any(is_one(tokens[at], it) for it in ([word] if word.startswith("not:") else word.split("|"))):
+        choices = [word] if word.startswith("not:") else word.split("|")
+        if at >= len(tokens) or not any(is_one(tokens[at], it) for it in choices):
             return None
         at += 1
     return at - 1, told

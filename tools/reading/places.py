@@ -4,6 +4,9 @@ import unicodedata
 
 # A longer line is shown in part.
 LONG = 200
+# What is told where a file begins with the mark of its encoding.
+MARK = "\xef\xbb\xbf"
+MARKED = "here stand the bytes EF BB BF, a mark that some editors put before a text: save it without (UTF-8 without BOM)"
 
 
 def decoded(line):
@@ -12,6 +15,18 @@ def decoded(line):
         return line.decode("utf-8")
     except UnicodeDecodeError:
         return line.decode("latin-1")
+
+
+def character(text, at):
+    """The character whose first byte stands at this place of a text with a character for each byte."""
+    raw = text[at:at + 4].encode("latin-1")
+    for length in range(1, 5):
+        try:
+            char = raw[:length].decode("utf-8")
+        except UnicodeDecodeError:
+            continue
+        return f"`{char}`" if char.isprintable() else f"the byte {raw[0]}"
+    return f"the byte {raw[0]}"
 
 
 def columns(char):

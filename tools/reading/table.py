@@ -7,6 +7,7 @@ value; else each further column is headed by a device's name, and an empty cell 
 import csv
 import re
 from dataclasses import dataclass
+from datetime import date
 from decimal import Decimal, InvalidOperation
 
 from . import journal
@@ -41,7 +42,6 @@ def time_text(milliseconds):
 
 def days(year, month, day):
     """The number of a day of the calendar."""
-    from datetime import date
     try:
         return date(int(year), int(month), int(day)).toordinal()
     except ValueError as error:
@@ -152,6 +152,8 @@ class Table:
         mark = max(";\t,", key=head.count)
         reader = csv.reader(text.splitlines(), delimiter=mark)
         header = [cell.strip() for cell in next(reader, [])]
+        if len(header) < 2:
+            self.faults.append((1, "the header has the time, and then a column for each device, or device and value"))
         long = [it.lower() for it in header[1:]] in (["device", "value"], ["ger\u00e4t", "wert"], ["geraet", "wert"])
         columns = [] if long else [self.device(1, name) for name in header[1:]]
         for cells in reader:
@@ -191,7 +193,7 @@ class Table:
         self.values += [Value(line, moment, *device, cell) for device, cell in pairs if device]
 
     def moment(self, cell):
-        """The milliseconds from the start on; a time of day before the last one by more than half a day is the next day's."""
+        """The milliseconds from the start on; what is more than half a day before the row above is the next day's."""
         moment, day, clock = time_of(cell)
         if moment is None:
             if self.start is None:
@@ -203,6 +205,6 @@ class Table:
             else:
                 moment += -(-(self.before - DAY // 2 - moment) // DAY) * DAY if moment < self.before - DAY // 2 else 0
         if moment < self.before:
-            raise Wrong(f"the time {cell} is before that of a row above" if self.before else f"the time {cell} is before the start")
+            raise Wrong(f"the time {cell} is before {'that of a row above' if self.before else 'the start'}")
         self.before = moment
         return moment

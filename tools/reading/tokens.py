@@ -4,6 +4,8 @@ import os
 import re
 from dataclasses import dataclass
 
+from .places import MARK, MARKED, character
+
 TOP = os.path.dirname(os.path.dirname(os.path.dirname(os.path.realpath(__file__))))
 WORD_TABLE = os.path.join(TOP, "crates", "pearl_tree", "src", "word.rt")
 
@@ -86,20 +88,8 @@ def unclosed(text, at):
     line = re.compile(r"'(?:[ -&(-~]|'')*").match(text, at)
     if line.end() == len(text) or text[line.end()] in "\r\n":
         return "the text isn't closed in its line by an apostrophe"
-    shown = shown_byte(text, line.end())
+    shown = character(text, line.end())
     return f"a text has characters from 32 to 126 alone, and {shown} is none of them"
-
-
-def shown_byte(text, at):
-    """The byte at this place, as a character where it is the beginning of one."""
-    raw = text[at:at + 4].encode("latin-1")
-    for length in range(1, 5):
-        try:
-            char = raw[:length].decode("utf-8")
-        except UnicodeDecodeError:
-            continue
-        return f"`{char}`" if char.isprintable() else f"the byte {raw[0]}"
-    return f"the byte {raw[0]}"
 
 
 def quoted(text, at):
@@ -128,11 +118,11 @@ def nothing(text, at):
     """Why no token begins at this place."""
     if text.startswith("/*", at):
         return "the comment isn't closed by */"
-    if text.startswith("\xef\xbb\xbf", at):
-        return "here stand the bytes EF BB BF, a mark that some editors put before a text: save it without (UTF-8 without BOM)"
+    if text.startswith(MARK, at):
+        return MARKED
     if text[at] == '"':
         return "a text stands between apostrophes: 'text'"
-    return f"{shown_byte(text, at)} begins no token"
+    return f"{character(text, at)} begins no token"
 
 
 def token_at(text, at):

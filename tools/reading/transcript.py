@@ -35,8 +35,8 @@ class Line:
         """What the line is about: a sort, and a name or a number."""
         if self.word == "lost":
             return self.parts
-        sort = {"masked": "interrupt", "out": "terminal", "send": "output", "state": "state", "close": "run"}.get(self.word, "task")
-        return sort, (self.parts or ("",))[0]
+        sorts = {"masked": "interrupt", "out": "terminal", "send": "output", "state": "state", "close": "run"}
+        return sorts.get(self.word, "task"), (self.parts or ("",))[0]
 
 
 def parsed(text):

@@ -28,6 +28,12 @@ class Tables(unittest.TestCase):
         self.is_kept("day.journal", "--picks", "20", "--start", "21:58:00", "--until", "00:10:02", data("crossing.pearl"),
                      "day.csv")
 
+    def test_logger(self):
+        """The journal of an example is that of its table."""
+        told = run("journal", "--start", "0:00:00", "--scale", "Fuehler=10", "--until", "86410000", "logger.pearl", "logger.csv",
+                   folder=data(""))
+        self.assertEqual(told, (0, read(data("logger.journal")), ""))
+
     def test_kinds(self):
         """A value of each kind, a line for a terminal, and milliseconds."""
         self.is_kept("kinds.journal", "--scale", "Zahl=10", "kinds.pearl", "kinds.csv")

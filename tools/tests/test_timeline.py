@@ -108,6 +108,19 @@ class Pictures(unittest.TestCase):
         self.assertNotIn(f"<title>{last[1]} out", picture)
 
 
+class Documents(unittest.TestCase):
+    """The pictures of docs/use are those of the kept transcripts."""
+
+    def is_kept(self, name, *words):
+        picture = drawn(*words, "--source", data(f"{name}.pearl"), "--journal", data(f"{name}.journal"), data(f"{name}.transcript"))
+        self.assertEqual(picture, (0, read(HERE, "..", "..", "docs", "use", f"{name}.svg")))
+
+    def test_each(self):
+        self.is_kept("readers")
+        self.is_kept("lift")
+        self.is_kept("logger", "--from", "46800000", "--to", "68400000")
+
+
 class Words(unittest.TestCase):
     """What can't be drawn."""
 
