@@ -1,5 +1,7 @@
 -- what contracts see of a kernel, when it is lawful, and what its calls do
 pub mod Kept
+-- what is offered at a task's place for its offer
+pub mod Bids
 -- how a device stands in the rules' core
 pub mod Channels
 -- when plans fire, and how far in time a kernel can be

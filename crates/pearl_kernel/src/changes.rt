@@ -1,10 +1,11 @@
 // What of all that decides whether an offer can be done may have changed, and which tasks that touches.
 
 ghost use Rattle.std.specs.Prelude.{◌≡◌};
+ghost use Rattle.pearl_exchange.specs.Offers.{action_of};
 ghost use Rattle.pearl_kernel.specs.Changes.{looks_at, is_counts, is_device};
 ghost use Rattle.pearl_kernel.specs.Touched.{touched_if};
 
-use pearl_rules::action::Action;
+use pearl_exchange::offer::{Offer, What};
 
 /// Of the counts, and of what waits at terminals and inputs, what may have changed.
 #[derive(Clone, Copy)]
@@ -36,12 +37,12 @@ pub fn touched_if(changed: Option<Changed>) -> Touched
 }
 
 /// Whether an action waits for what changed.
-pub fn looks_at(changed: Changed, action: &Action) -> bool
-    ensures { result ≡ looks_at changed action.now }
+pub fn looks_at(changed: Changed, offer: &Offer) -> bool
+    ensures { result ≡ looks_at changed (action_of offer.now) }
 {
-    match action {
-        Action::Request(_) => is_counts(changed),
-        Action::Get { device, .. } | Action::Take(device) => is_device(changed, *device),
+    match offer.what {
+        What::Request => is_counts(changed),
+        What::Get { device, .. } | What::Take(device) => is_device(changed, device),
         _ => false,
     }
 }

@@ -8,6 +8,7 @@
 //! waits there ([`Kernel::input`]).
 #![tactic(auto)]
 
+mod bid;
 mod changes;
 mod channel;
 mod inputs;

@@ -4,10 +4,10 @@ ghost use Rattle.std.specs.Prelude.{◌≡◌, ◌≤◌, [], None, IfOk, length
 ghost use Rattle.pearl_rules.specs.Core.{first_row as first_row_of, first_channel as first_channel_of, first_events};
 ghost use Rattle.pearl_kernel.specs.Kept.{stamped};
 
+use crate::bid::Bid;
 use crate::channel::Channel;
 use circular_buffer::HeapCircularBuffer;
 use pearl_format::item::Item;
-use pearl_rules::action::Action;
 use pearl_rules::event::Event;
 use pearl_rules::row::{Mode, TaskRow};
 use pearl_rules::setup::{Device, TaskEntry};
@@ -45,13 +45,13 @@ pub fn first_rows(alloc: Global, tasks: &[TaskEntry]) -> Result<Vec<TaskRow>, Al
     Ok(rows)
 }
 
-/// Room for the offer of each task.
-pub fn no_offers(alloc: Global, count: usize) -> Result<Vec<Option<Action>>, AllocError>
+/// The place for the offer of each task.
+pub fn no_offers(alloc: Global, count: usize) -> Result<Vec<Bid>, AllocError>
     ensures { IfOk result (λ offers. offers.items ≡ replicate count None) }
 {
     let mut offers = Vec::with_capacity(alloc, count)?;
     for _ in 0..count {
-        offers.push(None)?;
+        offers.push(Bid::new(alloc)?)?;
     }
     Ok(offers)
 }

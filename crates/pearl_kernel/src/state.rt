@@ -18,6 +18,7 @@ ghost use Rattle.pearl_rules.specs.Tables.{IsPreset};
 ghost use Rattle.pearl_port.specs.Pending.{IsTyped};
 ghost use Rattle.pearl_sema.specs.Waiting.{AreThere};
 ghost use Rattle.pearl_value.specs.Kinds.{IsKind};
+ghost use Rattle.pearl_exchange.specs.Offers.{action_of};
 ghost use Rattle.pearl_kernel.specs.Channels.{HasSwitch, HasBytes, HasValuesFor, taken_in_of};
 ghost use Rattle.pearl_scan.specs.Answers.{told};
 ghost use Rattle.pearl_kernel.specs.Kept.{at_start, offered as offered_of};
@@ -28,6 +29,7 @@ ghost use Rattle.pearl_kernel.specs.Eligible.{entry_if};
 ghost use Rattle.pearl_kernel.specs.Changes.{renewed, renewed_offer};
 
 use crate::changes::{Changed, looks_at};
+use crate::bid::Bid;
 use crate::channel::Channel;
 use crate::mirror::keep_row;
 use crate::opening::{
@@ -35,15 +37,16 @@ use crate::opening::{
 };
 use arrayvec::ArrayVec;
 use circular_buffer::HeapCircularBuffer;
+use pearl_exchange::offer::{Offer, What};
 use pearl_format::item::Item;
-use pearl_rules::action::Action;
 use pearl_rules::event::Event;
 use pearl_rules::row::{Mode, TaskRow};
 use pearl_rules::setup::Setup;
+use pearl_cells::put::put_copy;
 use pearl_scan::scan::{Scanned, scan};
 use pearl_sema::semas::Semas;
 use pearl_timer::timer::Timer;
-use pearl_value::cell::{Cell, copy_of};
+use pearl_value::cell::Cell;
 use pearl_value::kind::Kind;
 use pearl_value::listing::Listing;
 use std::alloc::{AllocError, Global};
@@ -55,7 +58,7 @@ pub struct State {
     rows: Vec<TaskRow>,
     // The series of the rows' plans.
     timer: Timer,
-    offers: Vec<Option<Action>>,
+    offers: Vec<Bid>,
     slots: Vec<Cell>,
     semas: Semas,
     channels: Vec<Channel>,
@@ -161,10 +164,18 @@ impl State {
     fn is_silent(&self, task: u32) -> bool
         ensures { result ≡ is_silent_in (offered_of self.now task) }
     {
-        match self.offers.get(task as usize) {
-            Some(Some(_)) => false,
-            _ => true,
+        match self.offer(task) {
+            None => true,
+            Some(_) => false,
         }
+    }
+
+    // What a task has offered.
+    fn offer(&self, task: u32) -> Option<&Offer>
+        ensures { MatchOption result (offered_of self.now task ≡ None)
+            (λ offer. offered_of self.now task ≡ Some (action_of offer.now)) }
+    {
+        self.offers.get(task as usize)?.offer()
     }
 
     /// A task's row.
@@ -218,34 +229,47 @@ impl State {
         self.last = Some(task as usize);
     }
 
-    pub fn set_offer(&mut self, task: u32, offer: Option<Action>)
+    /// A task offers this action.
+    pub fn set_offer(&mut self, task: u32, offer: &Offer)
         requires { task < length self.old.offers }
-        ensures { self.new ≡ record self.old { offers = slice_set self.old.offers task offer } }
+        ensures { self.new ≡ record self.old { offers = slice_set self.old.offers task (Some (action_of offer.now)) } }
     {
-        self.offers[task as usize] = offer;
+        self.offers[task as usize].put(offer);
     }
 
-    pub fn take_offer(&mut self, task: u32) -> Option<Action>
+    /// What a task has offered is gone.
+    pub fn clear_offer(&mut self, task: u32)
         requires { task < length self.old.offers }
-        ensures taken { result ≡ offered_of self.old task }
+        ensures { self.new ≡ record self.old { offers = slice_set self.old.offers task None } }
+    {
+        self.offers[task as usize].clear();
+    }
+
+    /// What a task has offered is in this place from now on. The answer tells whether it had offered anything.
+    pub fn take_offer(&mut self, task: u32, into: &mut Box<Offer>) -> bool
+        requires { task < length self.old.offers }
+        ensures taken { result ≡ true → offered_of self.old task ≡ Some (action_of into.new.value) }
+        ensures none { result ≡ false → offered_of self.old task ≡ None }
         ensures rest { self.new ≡ record self.old { offers = slice_set self.old.offers task None } }
     {
-        self.offers[task as usize].take()
+        self.offers[task as usize].take(into)
     }
 
-    pub fn slot(&self, slot: u32) -> Cell
+    /// Puts a slot's value there.
+    pub fn read_slot(&self, slot: u32, into: &mut Cell)
         requires { slot < length self.now.core.slots }
-        ensures { result ≡ value_at self.now.core.slots slot }
+        ensures { into.new ≡ value_at self.now.core.slots slot }
     {
-        copy_of(&self.slots[slot as usize])
+        put_copy(into, &self.slots[slot as usize]);
     }
 
-    pub fn set_slot(&mut self, slot: u32, value: Cell)
+    /// A slot has this value from now on.
+    pub fn write_slot(&mut self, slot: u32, value: &Cell)
         requires { slot < length self.old.core.slots }
         ensures { let core = self.old.core in
-            self.new ≡ record self.old { core = record core { slots = slice_set core.slots slot value } } }
+            self.new ≡ record self.old { core = record core { slots = slice_set core.slots slot value.now } } }
     {
-        self.slots[slot as usize] = value;
+        put_copy(&mut self.slots[slot as usize], value);
     }
 
     /// Whether each of these semaphores has a count above 0.
@@ -283,27 +307,25 @@ impl State {
         requires { (a : Acting.Action) → offered_of self.now task ≡ Some a → Names self.now.core a }
         ensures { result ≡ is_possible_in self.now.core (offered_of self.now task) }
     {
-        match self.offers.get(task as usize) {
-            Some(Some(action)) => self.can_do(action),
-            _ => false,
+        match self.offer(task) {
+            None => false,
+            Some(offer) => self.can_do(offer),
         }
     }
 
-    fn can_do(&self, action: &Action) -> bool
-        requires { Names self.now.core action.now }
-        ensures { result ≡ guard self.now.core action.now }
+    fn can_do(&self, offer: &Offer) -> bool
+        requires { Names self.now.core (action_of offer.now) }
+        ensures { result ≡ guard self.now.core (action_of offer.now) }
     {
-        match action {
-            Action::Request(list) => self.is_free(list),
-            Action::Get {
-                device,
-                format,
-                kinds,
-            } => match self.scanned(*device, *format, kinds.as_slice()) {
-                Scanned::Short => false,
-                _ => true,
-            },
-            Action::Take(device) => self.has_value(*device),
+        match offer.what {
+            What::Request => self.is_free(&offer.list),
+            What::Get { device, format } => {
+                match self.scanned(device, format, offer.kinds.as_slice()) {
+                    Scanned::Short => false,
+                    _ => true,
+                }
+            }
+            What::Take(device) => self.has_value(device),
             _ => true,
         }
     }
@@ -314,18 +336,18 @@ impl State {
         requires { (a : Acting.Action) → offered_of self.now task ≡ Some a → Names self.now.core a }
         ensures { result ≡ renewed changed self.now task before }
     {
-        match self.offers.get(task as usize) {
-            Some(Some(action)) => self.renewed_action(action, changed, before),
-            _ => false,
+        match self.offer(task) {
+            None => false,
+            Some(offer) => self.renewed_action(offer, changed, before),
         }
     }
 
-    fn renewed_action(&self, action: &Action, changed: Changed, before: bool) -> bool
-        requires { Names self.now.core action.now }
-        ensures { result ≡ renewed_offer changed self.now.core (Some action.now) before }
+    fn renewed_action(&self, offer: &Offer, changed: Changed, before: bool) -> bool
+        requires { Names self.now.core (action_of offer.now) }
+        ensures { result ≡ renewed_offer changed self.now.core (Some (action_of offer.now)) before }
     {
-        if looks_at(changed, action) {
-            self.can_do(action)
+        if looks_at(changed, offer) {
+            self.can_do(offer)
         } else {
             before
         }
@@ -342,6 +364,13 @@ impl State {
             } => { if able { Some(priority) } else { None } }
             _ => None,
         }
+    }
+
+    /// Whether each event was taken.
+    pub fn is_told(&self) -> bool
+        ensures { result ≡ is_empty_list self.now.core.told }
+    {
+        self.events.is_empty()
     }
 
     /// The next event that wasn't taken.
