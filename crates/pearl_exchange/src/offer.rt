@@ -5,8 +5,9 @@ ghost use Rattle.pearl_rules.specs.declared.action.Action.TheVariants.{Turn};
 ghost use Rattle.pearl_exchange.specs.Offers.{action_of};
 
 use arrayvec::ArrayVec;
+use pearl_cells::put::put_copy;
 use pearl_rules::action::{Repeat, Start};
-use pearl_value::cell::{Cell, copy_of};
+use pearl_value::cell::Cell;
 use pearl_value::kind::Kind;
 use pearl_value::trap::Trap;
 
@@ -95,7 +96,7 @@ impl Offer {
     {
         self.what = other.what;
         match other.what {
-            What::Write(_) | What::Send(_) => self.value = copy_of(&other.value),
+            What::Write(_) | What::Send(_) => put_copy(&mut self.value, &other.value),
             What::Request | What::Release => {
                 self.list.clear();
                 self.list

@@ -14,6 +14,8 @@ use Rattle.pearl_rules.specs.Runs.{dropped, kept_at}
 use Rattle.pearl_rules.specs.Entries.{last_moment_of_all}
 use Rattle.pearl_rules.specs.Slots.{Fits, HasKinds, HasUrgencies, HasPlans}
 use Rattle.pearl_rules.specs.Tables.{IsPreset}
+use Rattle.pearl_exchange.specs.declared.heard.Beside.{Beside}
+use Rattle.pearl_exchange.specs.Heard.{answer_of}
 use Rattle.pearl_kernel.specs.declared.kernel.Acted.{Acted}
 use Rattle.pearl_kernel.specs.declared.kernel.Acted.TheVariants.{Idle, Went, Ended}
 
@@ -106,14 +108,14 @@ pub record Acts (old : Kept) (t : ℕ) (reply : Reply) (new : Kept) : Type 0 whe
   pub same_reply : (effect old.core t action).reply ≡ reply
   pub same : new ≡ done old t action
 
--- what a task has of its action
-abbrev pub Replied : ℕ → Reply → Acted → Type 0
-Replied t reply Idle = ⊥
-Replied t reply (Went u answer) = (u ≡ t) × (reply ≡ Hears answer)
-Replied t reply (Ended u) = (u ≡ t) × (reply ≡ Ends)
+-- what a task has of its action, where these values lie beside what it hears
+abbrev pub Replied : ℕ → Reply → Acted → Beside → Type 0
+Replied t reply Idle beside = ⊥
+Replied t reply (Went u heard) beside = (u ≡ t) × (reply ≡ Hears (answer_of heard beside))
+Replied t reply (Ended u) beside = (u ≡ t) × (reply ≡ Ends)
 
 -- what `act` did
-abbrev pub Marks : Kept → Kept → Acted → Type 0
-Marks old new Idle = (pick old.core (offered old) ≡ None) × (new ≡ old)
-Marks old new (Went t answer) = Acts old t (Hears answer) new
-Marks old new (Ended t) = Acts old t Ends new
+abbrev pub Marks : Kept → Kept → Acted → Beside → Type 0
+Marks old new Idle beside = (pick old.core (offered old) ≡ None) × (new ≡ old)
+Marks old new (Went t heard) beside = Acts old t (Hears (answer_of heard beside)) new
+Marks old new (Ended t) beside = Acts old t Ends new

@@ -1,6 +1,6 @@
 // The core's steps, one call for each.
 
-ghost use Rattle.std.specs.Prelude.{◌≡◌, ◌<◌, ◌≤◌, ◌+◌, [], ◌∷◌, Some, None, true};
+ghost use Rattle.std.specs.Prelude.{◌≡◌, ◌≢◌, ◌<◌, ◌≤◌, ◌+◌, [], ◌∷◌, Some, None, true, false};
 ghost use Rattle.std.specs.Prelude.{IfOk, IfSome, MatchOption, length, slice_get, slice_set};
 ghost use Rattle.pearl_rules.specs.declared.setup.Setup as Tables;
 ghost use Rattle.pearl_timer.specs.Series.{IsNext, NoneIsNext};
@@ -13,6 +13,7 @@ ghost use Rattle.pearl_rules.specs.Plans.{millisecond};
 ghost use Rattle.pearl_rules.specs.Pick.{pick, turned, can_turn as can_turn_in, shown_of};
 ghost use Rattle.pearl_rules.specs.Slots.{Fits};
 ghost use Rattle.pearl_rules.specs.Tables.{IsSetup, IsInterrupt};
+ghost use Rattle.pearl_exchange.specs.Offers.{action_of};
 ghost use Rattle.pearl_kernel.specs.Kept.{at_start, offered as offered_of, IsLawful, Marks, NamesWhatIsThere};
 ghost use Rattle.pearl_kernel.specs.Kept.{is_unsettled as is_unsettled_in, IsFirst, AllSettled};
 ghost use Rattle.pearl_kernel.specs.Eligible.{possible, entry};
@@ -21,7 +22,8 @@ ghost use Rattle.pearl_kernel.specs.Timing.{timetable, passed, IsQuiet};
 use crate::changes::Changed;
 use crate::standing::Standing;
 use crate::state::State;
-use pearl_rules::action::{Action, Answer};
+use pearl_exchange::heard::{Beside, Heard};
+use pearl_exchange::offer::Offer;
 use pearl_rules::entry::Entry;
 use pearl_rules::event::{Event, Shown};
 use pearl_rules::row::Mode;
@@ -30,12 +32,12 @@ use std::alloc::{AllocError, Global};
 use std::marker::Model;
 
 /// What became of the task that was to act.
-#[derive(Drop)]
+#[derive(Clone, Copy)]
 pub enum Acted {
     /// No task can act.
     Idle,
-    /// It goes on with this answer.
-    Went(u32, Answer),
+    /// It goes on, and hears this.
+    Went(u32, Heard),
     /// It ended.
     Ended(u32),
 }
@@ -45,6 +47,8 @@ pub enum Acted {
 pub struct Kernel {
     state: State,
     standing: Standing,
+    // The place of the action that is being done.
+    acting: Box<Offer>,
 }
 
 impl Model for Kernel {
@@ -67,7 +71,12 @@ impl Kernel {
     {
         let state = State::new(alloc, setup)?;
         let standing = Standing::new(alloc, state.tasks())?;
-        Ok(Kernel { state, standing })
+        let acting = Box::new(alloc, Offer::new())?;
+        Ok(Kernel {
+            state,
+            standing,
+            acting,
+        })
     }
 
     /// The first active task that has offered nothing.
@@ -84,31 +93,31 @@ impl Kernel {
     }
 
     /// A task offers its next action.
-    pub fn offered(&mut self, task: u32, action: Action)
+    pub fn offered(&mut self, task: u32, offer: &Offer)
         requires unsettled { is_unsettled_in self.old task ≡ true }
-        requires fits { (setup : Tables.Setup) × IsLawful setup self.old × Fits setup action }
-        ensures offers { self.new ≡ record self.old { offers = slice_set self.old.offers task (Some action) } }
-        ensures lawful { (setup : Tables.Setup) → IsLawful setup self.old → Fits setup action →
+        requires fits { (setup : Tables.Setup) × IsLawful setup self.old × Fits setup (action_of offer.now) }
+        ensures offers { self.new ≡ record self.old { offers = slice_set self.old.offers task (Some (action_of offer.now)) } }
+        ensures lawful { (setup : Tables.Setup) → IsLawful setup self.old → Fits setup (action_of offer.now) →
             IsLawful setup self.new }
     {
-        self.state.set_offer(task, Some(action));
+        self.state.set_offer(task, offer);
         self.standing.offered(&self.state, task);
     }
 
     /// The task that acts next does its action. It is called once every active task has offered one; it doesn't ask for
-    /// that, and goes by those that have.
-    pub fn act(&mut self) -> Acted
+    /// that, and goes by those that have. The values that it hears come to lie in `beside`.
+    pub fn act(&mut self, beside: &mut Beside) -> Acted
         requires { self.old.core.told ≡ [] }
-        ensures acted { Marks self.old self.new result }
+        ensures acted { Marks self.old self.new result beside.new }
         ensures lawful { (setup : Tables.Setup) → IsLawful setup self.old → IsLawful setup self.new }
     {
         let Some(task) = self.picked() else {
             return Acted::Idle;
         };
-        let Some(action) = self.state.take_offer(task) else {
+        if !self.state.take_offer(task, &mut self.acting) {
             return Acted::Idle;
-        };
-        let done = self.state.act(task, action);
+        }
+        let done = self.state.act(task, &self.acting, beside);
         self.standing.renew(&self.state, task, done.touched);
         done.acted
     }
@@ -243,6 +252,14 @@ impl Kernel {
                 }
             }
         }
+    }
+
+    /// Whether each event was taken.
+    pub fn is_told(&self) -> bool
+        ensures told { result ≡ true → self.now.core.told ≡ [] }
+        ensures left { result ≡ false → self.now.core.told ≢ [] }
+    {
+        self.state.is_told()
     }
 
     /// The next event that wasn't taken yet.

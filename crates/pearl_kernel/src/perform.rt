@@ -3,14 +3,20 @@
 ghost use Rattle.std.specs.List.{AllByRecursion};
 ghost use Rattle.std.specs.Prelude.{◌≡◌, ◌<◌, ◌≤◌, [], ◌∷◌, None, IsTrue, true, length, nat_lt};
 ghost use Rattle.pearl_rules.specs.Counts.{all_below_most, all_free, count_at, lowered};
-ghost use Rattle.pearl_rules.specs.Effect.{effect, effect_of, ending, activated, priority_or_declared, is_at_once};
+ghost use Rattle.pearl_rules.specs.Effect.{Hears, effect, effect_of, ending, activated, priority_or_declared, is_at_once};
 ghost use Rattle.pearl_rules.specs.Effect.{continues, resuming, prevented, stopping, releasing, trying, getting, taking};
 ghost use Rattle.pearl_rules.specs.Devices.{channel_of, interrupted, items_of, bytes_at, values_at, without_bytes};
-ghost use Rattle.pearl_rules.specs.Plans.{with_mark};
+ghost use Rattle.pearl_rules.specs.Plans.{with_mark, time_at};
 ghost use Rattle.pearl_rules.specs.Pick.{guard, is_complete, is_some_value};
 ghost use Rattle.pearl_rules.specs.Scan.{scan};
 ghost use Rattle.pearl_sema.specs.Waiting.{AreThere};
-ghost use Rattle.pearl_rules.specs.declared.action.Answer.TheVariants.{Nothing, One};
+ghost use Rattle.pearl_rules.specs.declared.action.Answer.TheVariants as answer;
+ghost use Rattle.pearl_rules.specs.declared.event.Event.TheVariants as event;
+ghost use Rattle.pearl_exchange.specs.declared.heard.Heard.TheVariants.{Nothing, One};
+ghost use Rattle.pearl_exchange.specs.declared.heard.Beside as places;
+ghost use Rattle.pearl_exchange.specs.Offers.{action_of};
+ghost use Rattle.pearl_rules.specs.Core.{note as noted, value_at};
+ghost use Rattle.pearl_value.specs.declared.cell.Cell.TheVariants.{Clock};
 ghost use Rattle.pearl_kernel.specs.declared.kernel.Acted.TheVariants.{Went};
 ghost use Rattle.pearl_kernel.specs.Kept.{after, Replied};
 ghost use Rattle.pearl_kernel.specs.Changes.{Stirs};
@@ -25,16 +31,19 @@ use crate::changes::{Changed, Touched, touched_if};
 use crate::kernel::Acted;
 use crate::state::State;
 use arrayvec::ArrayVec;
-use pearl_rules::action::{Action, Answer, Repeat, Start};
+use pearl_cells::put::put_bits;
+use pearl_exchange::heard::{Beside, Heard};
+use pearl_exchange::offer::{Offer, What};
+use pearl_rules::action::{Repeat, Start};
 use pearl_rules::event::Event;
 use pearl_rules::row::{Activation, Mode};
 use pearl_scan::scan::Scanned;
-use pearl_value::cell::Cell;
+use pearl_value::cell::{Cell, copy_of};
 use pearl_value::kind::Kind;
 use pearl_value::trap::Trap;
 
 /// What an action did: what became of its task, and which tasks besides it are touched.
-#[derive(Drop)]
+#[derive(Clone, Copy)]
 pub struct Done {
     pub acted: Acted,
     pub touched: Touched,
@@ -43,72 +52,104 @@ pub struct Done {
 impl State {
     /// Does an action of the task `own`, which acted last from now on.
     #[tactic(auto, unfolding(pearl_rules::specs::Effect::effect))]
-    pub fn act(&mut self, own: u32, action: Action) -> Done
+    pub fn act(&mut self, own: u32, offer: &Offer, beside: &mut Beside) -> Done
         requires room { HasRoom self.old own }
-        requires names { Names self.old.core action }
-        requires able { guard self.old.core action ≡ true }
-        ensures state { self.new ≡ after self.old (effect self.old.core own action) }
-        ensures reply { Replied own (effect self.old.core own action).reply result.acted }
+        requires names { Names self.old.core (action_of offer.now) }
+        requires able { guard self.old.core (action_of offer.now) ≡ true }
+        ensures state { self.new ≡ after self.old (effect self.old.core own (action_of offer.now)) }
+        ensures reply { Replied own (effect self.old.core own (action_of offer.now)).reply result.acted beside.new }
         ensures leaves { Leaves own self.old self.new result.touched }
     {
         self.set_last(own);
-        self.perform(own, action)
+        self.perform(own, offer, beside)
     }
 
     // One arm for each row of the actions. Those that don't return here touch no other task, and their task hears
     // nothing.
-    fn perform(&mut self, own: u32, action: Action) -> Done
+    fn perform(&mut self, own: u32, offer: &Offer, beside: &mut Beside) -> Done
         requires room { HasRoom self.old own }
-        requires names { Names self.old.core action }
-        requires able { guard self.old.core action ≡ true }
-        ensures state { self.new ≡ after self.old (effect_of self.old.core own action) }
-        ensures reply { Replied own (effect_of self.old.core own action).reply result.acted }
+        requires names { Names self.old.core (action_of offer.now) }
+        requires able { guard self.old.core (action_of offer.now) ≡ true }
+        ensures state { self.new ≡ after self.old (effect_of self.old.core own (action_of offer.now)) }
+        ensures reply { Replied own (effect_of self.old.core own (action_of offer.now)).reply result.acted beside.new }
         ensures leaves { Leaves own self.old self.new result.touched }
     {
-        match action {
-            Action::Read(slot) => return hears(own, self.slot(slot), Touched::Own),
-            Action::Write(slot, value) => self.set_slot(slot, value),
-            Action::Turn | Action::Enter => {}
-            Action::Now => return hears(own, Cell::Clock(self.time_at(self.now())), Touched::Own),
-            Action::Request(list) => return self.request(own, &list),
-            Action::Release(list) => return self.release(own, &list),
-            Action::Try(semaphore) => return self.attempt(own, semaphore),
-            Action::Activate {
-                task,
-                start,
-                repeat,
-                priority,
-            } => return self.activate(own, task, start, repeat, priority),
-            Action::Continue { task, start } => return self.continue_task(own, task, start),
-            Action::Resume(start) => self.resume(own, start),
-            Action::Suspend(task) => return self.suspend(own, task),
-            Action::Terminate(task) => return self.stop(own, task),
-            Action::Prevent(task) => return self.prevent(own, task),
-            Action::Enable(device) => self.set_switch(device, true),
-            Action::Disable(device) => self.set_switch(device, false),
-            Action::Trigger(device) => return self.trigger(own, device),
-            Action::Put { device, text } => self.note(Event::Out { device, text }),
-            Action::End => return self.end(own, Event::End(own)),
-            Action::Trap(trap) => return self.end(own, Event::Trap { task: own, trap }),
-            Action::Get {
-                device,
-                format,
-                kinds,
-            } => return self.get(own, device, format, kinds.as_slice()),
-            Action::Take(device) => return self.take(own, device),
-            Action::Send(device, value) => self.note(Event::Send { device, value }),
+        match offer.what {
+            What::Read(slot) => return self.read(own, slot, beside),
+            What::Write(slot) => self.write_slot(slot, &offer.value),
+            What::Turn | What::Enter => {}
+            What::Now => return self.tell_time(own, beside),
+            What::Request => return self.request(own, &offer.list),
+            What::Release => return self.release(own, &offer.list),
+            What::Try(semaphore) => return self.attempt(own, semaphore, beside),
+            What::Activate { task, priority } => {
+                return self.activate(own, task, offer.start, offer.repeat, priority);
+            }
+            What::Continue(task) => return self.continue_task(own, task, offer.start),
+            What::Resume => self.resume(own, offer.start),
+            What::Suspend(task) => return self.suspend(own, task),
+            What::Terminate(task) => return self.stop(own, task),
+            What::Prevent(task) => return self.prevent(own, task),
+            What::Enable(device) => self.set_switch(device, true),
+            What::Disable(device) => self.set_switch(device, false),
+            What::Trigger(device) => return self.trigger(own, device),
+            What::Put(device) => self.write_out(device, &offer.text),
+            What::End => return self.end(own, Event::End(own)),
+            What::Trap(trap) => return self.end(own, Event::Trap { task: own, trap }),
+            What::Get { device, format } => {
+                return self.get(own, device, format, offer.kinds.as_slice(), beside);
+            }
+            What::Take(device) => return self.take(own, device, beside),
+            What::Send(device) => self.send(device, &offer.value),
         }
-        Done {
-            acted: Acted::Went(own, Answer::Nothing),
-            touched: Touched::Own,
-        }
+        goes_on(own, Touched::Own)
+    }
+
+    // A slot's value.
+    fn read(&mut self, own: u32, slot: u32, beside: &mut Beside) -> Done
+        requires { slot < length self.old.core.slots }
+        ensures state { self.new ≡ self.old }
+        ensures reply { Replied own (Hears (answer.One (value_at self.old.core.slots slot))) result.acted beside.new }
+        ensures leaves { Leaves own self.old self.new result.touched }
+    {
+        self.read_slot(slot, &mut beside.one);
+        hears(own, Touched::Own)
+    }
+
+    // The time of day.
+    fn tell_time(&mut self, own: u32, beside: &mut Beside) -> Done
+        requires { IsTimely self.old.core }
+        ensures state { self.new ≡ self.old }
+        ensures reply { Replied own (Hears (answer.One (Clock (time_at self.old.core self.old.core.moment)))) result.acted beside.new }
+        ensures leaves { Leaves own self.old self.new result.touched }
+    {
+        beside.one = Cell::Clock(self.time_at(self.now()));
+        hears(own, Touched::Own)
+    }
+
+    // A text is written to a terminal.
+    fn write_out(&mut self, device: u32, text: &ArrayVec<u8, 1024>)
+        requires { length self.old.core.told < 200 }
+        ensures { self.new ≡ record self.old { core = noted self.old.core (event.Out device text.now) } }
+    {
+        let text = text.clone().unwrap();
+        self.note(Event::Out { device, text });
+    }
+
+    // A value is sent to an output.
+    fn send(&mut self, device: u32, value: &Cell)
+        requires { length self.old.core.told < 200 }
+        ensures { self.new ≡ record self.old { core = noted self.old.core (event.Send device value.now) } }
+    {
+        let value = copy_of(value);
+        self.note(Event::Send { device, value });
     }
 
     // The task ends, and this event tells it.
     fn end(&mut self, own: u32, event: Event) -> Done
         requires { HasRoom self.old own }
         ensures state { self.new ≡ after self.old (ending self.old.core own event) }
-        ensures reply { Replied own (ending self.old.core own event).reply result.acted }
+        ensures reply { (beside : places.Beside) → Replied own (ending self.old.core own event).reply result.acted beside }
         ensures leaves { Leaves own self.old self.new result.touched }
     {
         self.finish(own, event);
@@ -123,7 +164,7 @@ impl State {
         requires { HasRoom self.old task }
         ensures { self.new ≡ after self.old (ending self.old.core task event) }
     {
-        self.set_offer(task, None);
+        self.clear_offer(task);
         let mut row = self.row(task);
         row.mode = Mode::Dormant;
         row.continuation = None;
@@ -241,7 +282,7 @@ impl State {
     fn stop(&mut self, own: u32, task: u32) -> Done
         requires { HasRoom self.old task }
         ensures state { self.new ≡ after self.old (stopping self.old.core own task) }
-        ensures reply { Replied own (stopping self.old.core own task).reply result.acted }
+        ensures reply { (beside : places.Beside) → Replied own (stopping self.old.core own task).reply result.acted beside }
         ensures leaves { Leaves own self.old self.new result.touched }
     {
         match self.mode(task) {
@@ -252,7 +293,7 @@ impl State {
             acted: if task == own {
                 Acted::Ended(own)
             } else {
-                Acted::Went(own, Answer::Nothing)
+                Acted::Went(own, Heard::Nothing)
             },
             touched: Touched::Other(task),
         }
@@ -278,7 +319,7 @@ impl State {
         ensures state { let can_raise = all_below_most self.old.core.counts list.now.items in
             self.new ≡ after self.old (releasing self.old.core own list.now.items can_raise) }
         ensures reply { let can_raise = all_below_most self.old.core.counts list.now.items in
-            Replied own (releasing self.old.core own list.now.items can_raise).reply result.acted }
+            (beside : places.Beside) → Replied own (releasing self.old.core own list.now.items can_raise).reply result.acted beside }
         ensures leaves { Leaves own self.old self.new result.touched }
     {
         if self.raise(list) {
@@ -289,25 +330,23 @@ impl State {
     }
 
     // A semaphore's count is lower by 1 where it is above 0, and the answer tells whether it was.
-    fn attempt(&mut self, own: u32, semaphore: u16) -> Done
+    fn attempt(&mut self, own: u32, semaphore: u16, beside: &mut Beside) -> Done
         requires { semaphore < length self.old.core.counts }
         ensures state { let free = nat_lt 0 (count_at self.old.core.counts semaphore) in
             self.new ≡ after self.old (trying self.old.core semaphore free) }
         ensures reply { let free = nat_lt 0 (count_at self.old.core.counts semaphore) in
-            Replied own (trying self.old.core semaphore free).reply result.acted }
+            Replied own (trying self.old.core semaphore free).reply result.acted beside.new }
         ensures leaves { Leaves own self.old self.new result.touched }
     {
         let mut list = ArrayVec::new();
         list.push(semaphore);
         if !self.is_free(&list) {
-            return hears(own, Cell::Bits { len: 1, value: 0 }, Touched::Own);
+            put_bits(&mut beside.one, 1, 0);
+            return hears(own, Touched::Own);
         }
         self.lower(&list);
-        hears(
-            own,
-            Cell::Bits { len: 1, value: 1 },
-            Touched::All(Changed::Counts),
-        )
+        put_bits(&mut beside.one, 1, 1);
+        hears(own, Touched::All(Changed::Counts))
     }
 
     // An interrupt occurs; a masked one touches no task.
@@ -324,7 +363,14 @@ impl State {
     }
 
     // The values that a terminal's bytes give, or the task is broken off.
-    fn get(&mut self, own: u32, device: u32, format: u32, kinds: &[Kind]) -> Done
+    fn get(
+        &mut self,
+        own: u32,
+        device: u32,
+        format: u32,
+        kinds: &[Kind],
+        beside: &mut Beside,
+    ) -> Done
         requires room { HasRoom self.old own }
         requires terminal { HasBytes (channel_of self.old.core device) }
         requires few { length kinds.now ≤ 64 }
@@ -333,7 +379,7 @@ impl State {
         ensures state { self.new ≡ after self.old (getting self.old.core own device
             (scan (items_of self.old.core format) kinds.now (bytes_at self.old.core device))) }
         ensures reply { Replied own (getting self.old.core own device
-            (scan (items_of self.old.core format) kinds.now (bytes_at self.old.core device))).reply result.acted }
+            (scan (items_of self.old.core format) kinds.now (bytes_at self.old.core device))).reply result.acted beside.new }
         ensures leaves { Leaves own self.old self.new result.touched }
     {
         match self.scanned(device, format, kinds) {
@@ -349,8 +395,9 @@ impl State {
             }
             Scanned::Got(used, values) => {
                 let changed = self.use_up(device, used);
+                beside.many = values;
                 Done {
-                    acted: Acted::Went(own, Answer::Many(values)),
+                    acted: Acted::Went(own, Heard::Many),
                     touched: touched_if(changed),
                 }
             }
@@ -373,16 +420,19 @@ impl State {
     }
 
     // The oldest value of an input.
-    fn take(&mut self, own: u32, device: u32) -> Done
+    fn take(&mut self, own: u32, device: u32, beside: &mut Beside) -> Done
         requires there { device < length self.old.core.channels }
         requires able { is_some_value (values_at self.old.core device) ≡ true }
         ensures state { self.new ≡ after self.old (taking self.old.core own device (values_at self.old.core device)) }
-        ensures reply { Replied own (taking self.old.core own device (values_at self.old.core device)).reply result.acted }
+        ensures reply { Replied own (taking self.old.core own device (values_at self.old.core device)).reply result.acted beside.new }
         ensures leaves { Leaves own self.old self.new result.touched }
     {
         match self.next_value(device) {
             None => unreachable!(),
-            Some(value) => hears(own, value, Touched::All(Changed::Device(device))),
+            Some(value) => {
+                beside.one = value;
+                hears(own, Touched::All(Changed::Device(device)))
+            }
         }
     }
 }
@@ -392,17 +442,17 @@ fn goes_on(own: u32, touched: Touched) -> Done
     ensures { result ≡ record { acted = Went own Nothing; touched = touched } }
 {
     Done {
-        acted: Acted::Went(own, Answer::Nothing),
+        acted: Acted::Went(own, Heard::Nothing),
         touched,
     }
 }
 
-// The task goes on with this value.
-fn hears(own: u32, value: Cell, touched: Touched) -> Done
-    ensures { result ≡ record { acted = Went own (One value); touched = touched } }
+// The task goes on and hears one value.
+fn hears(own: u32, touched: Touched) -> Done
+    ensures { result ≡ record { acted = Went own One; touched = touched } }
 {
     Done {
-        acted: Acted::Went(own, Answer::One(value)),
+        acted: Acted::Went(own, Heard::One),
         touched,
     }
 }

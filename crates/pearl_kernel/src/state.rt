@@ -1,6 +1,6 @@
 // The core's state with the offered actions, and its small changes.
 
-ghost use Rattle.std.specs.Prelude.{◌≡◌, ◌<◌, ◌≤◌, [], ◌∷◌, ◌++◌, Some, None, true, false};
+ghost use Rattle.std.specs.Prelude.{◌≡◌, ◌≢◌, ◌<◌, ◌≤◌, [], ◌∷◌, ◌++◌, Some, None, true, false};
 ghost use Rattle.std.specs.Prelude.{All, IsTrue, IfOk, MatchOption, length, nat_le, nat_lt, slice_get, slice_set, if◌then◌else◌};
 ghost use Rattle.std.specs.List.{AllByRecursion};
 ghost use Rattle.pearl_rules.specs.declared.action.Action as Acting;
@@ -28,8 +28,8 @@ ghost use Rattle.pearl_kernel.specs.Timing.{timetable};
 ghost use Rattle.pearl_kernel.specs.Eligible.{entry_if};
 ghost use Rattle.pearl_kernel.specs.Changes.{renewed, renewed_offer};
 
-use crate::changes::{Changed, looks_at};
 use crate::bid::Bid;
+use crate::changes::{Changed, looks_at};
 use crate::channel::Channel;
 use crate::mirror::keep_row;
 use crate::opening::{
@@ -37,12 +37,12 @@ use crate::opening::{
 };
 use arrayvec::ArrayVec;
 use circular_buffer::HeapCircularBuffer;
+use pearl_cells::put::put_copy;
 use pearl_exchange::offer::{Offer, What};
 use pearl_format::item::Item;
 use pearl_rules::event::Event;
 use pearl_rules::row::{Mode, TaskRow};
 use pearl_rules::setup::Setup;
-use pearl_cells::put::put_copy;
 use pearl_scan::scan::{Scanned, scan};
 use pearl_sema::semas::Semas;
 use pearl_timer::timer::Timer;
@@ -368,7 +368,8 @@ impl State {
 
     /// Whether each event was taken.
     pub fn is_told(&self) -> bool
-        ensures { result ≡ is_empty_list self.now.core.told }
+        ensures told { result ≡ true → self.now.core.told ≡ [] }
+        ensures left { result ≡ false → self.now.core.told ≢ [] }
     {
         self.events.is_empty()
     }
