@@ -1,5 +1,6 @@
 use Rattle.std.proofs.Common.{◌≡◌, ◌<◌, [], Some, true, length, sym, subst, ◌∙◌, length-set}
 use Rattle.pearl_rules.specs.Pick.{pick, guard}
+use Rattle.pearl_exchange.specs.Offers.{action_of}
 use Rattle.pearl_kernel.specs.Kept.{Kept, offered, done, IsLawful}
 use Rattle.pearl_kernel.specs.Names.{Names}
 use Rattle.pearl_kernel.specs.Whole.{IsWhole, IsOfTasks, HasRoom}
@@ -12,19 +13,19 @@ pub invariant_of-self : goal.invariant_of-self
 invariant_of-self c =
     let picked = subst (λ (k : Kept). pick k.core (offered k) ≡ Some c.in-Some.task) (sym c.self.view_is)
     (sym c.in-Some.ensures.picked) in
-    absurd (picked-offers c.self.inside.state c.in-Some.task picked (sym c.in_default-take_offer.ensures.taken))
+    absurd (picked-offers c.self.inside.state c.in-Some.task picked (c.take_offer.ensures.none c.if-not-take_offer.true))
 
-pub returns-in_default-take_offer-clause-acted : goal.returns-in_default-take_offer-clause-acted
-returns-in_default-take_offer-clause-acted c =
+pub returns-then-not-take_offer-clause-acted : goal.returns-then-not-take_offer-clause-acted
+returns-then-not-take_offer-clause-acted c =
     let picked = subst (λ (k : Kept). pick k.core (offered k) ≡ Some c.in-Some.task) (sym c.self.view_is)
     (sym c.in-Some.ensures.picked) in
-    absurd (picked-offers c.self.inside.state c.in-Some.task picked (sym c.in_default-take_offer.ensures.taken))
+    absurd (picked-offers c.self.inside.state c.in-Some.task picked (c.take_offer.ensures.none c.if-not-take_offer.true))
 
-pub returns-in_default-take_offer-clause-lawful : goal.returns-in_default-take_offer-clause-lawful
-returns-in_default-take_offer-clause-lawful c =
+pub returns-then-not-take_offer-clause-lawful : goal.returns-then-not-take_offer-clause-lawful
+returns-then-not-take_offer-clause-lawful c =
     let picked = subst (λ (k : Kept). pick k.core (offered k) ≡ Some c.in-Some.task) (sym c.self.view_is)
     (sym c.in-Some.ensures.picked) in
-    absurd (picked-offers c.self.inside.state c.in-Some.task picked (sym c.in_default-take_offer.ensures.taken))
+    absurd (picked-offers c.self.inside.state c.in-Some.task picked (c.take_offer.ensures.none c.if-not-take_offer.true))
 
 pub act-done-requires-clause-room : goal.act-done-requires-clause-room
 act-done-requires-clause-room c =
@@ -45,27 +46,27 @@ act-done-requires-clause-room c =
 pub act-done-requires-clause-names : goal.act-done-requires-clause-names
 act-done-requires-clause-names c =
     let of = c.self.invariant.lawful in
-    subst (λ (k : Kept). Names k.core c.in-Some-take_offer.action) (sym c.take_offer.ensures.rest)
-    (names-all of.0 c.self.inside.state of.1 c.in-Some.task c.in-Some-take_offer.action
-    (sym c.in-Some-take_offer.ensures.taken))
+    subst (λ (k : Kept). Names k.core (action_of c.take_offer.new.into.value)) (sym c.take_offer.ensures.rest)
+    (names-all of.0 c.self.inside.state of.1 c.in-Some.task (action_of c.take_offer.new.into.value)
+    (c.take_offer.ensures.taken c.if-not-take_offer.false))
 
 pub act-done-requires-clause-able : goal.act-done-requires-clause-able
 act-done-requires-clause-able c =
     let s = c.self.inside.state in
     let picked = subst (λ (k : Kept). pick k.core (offered k) ≡ Some c.in-Some.task) (sym c.self.view_is)
     (sym c.in-Some.ensures.picked) in
-    subst (λ (k : Kept). guard k.core c.in-Some-take_offer.action ≡ true) (sym c.take_offer.ensures.rest)
-    (picked-able s c.in-Some.task c.in-Some-take_offer.action picked (sym c.in-Some-take_offer.ensures.taken))
+    subst (λ (k : Kept). guard k.core (action_of c.take_offer.new.into.value) ≡ true) (sym c.take_offer.ensures.rest)
+    (picked-able s c.in-Some.task (action_of c.take_offer.new.into.value) picked (c.take_offer.ensures.taken c.if-not-take_offer.false))
 
 pub renew-requires-clause-tasks : goal.renew-requires-clause-tasks
 renew-requires-clause-tasks c =
     let s = c.self.inside.state in
     let of = c.self.invariant.lawful in
     let t = c.in-Some.task in
-    let a = c.in-Some-take_offer.action in
+    let a = (action_of c.take_offer.new.into.value) in
     let there = subst (λ (k : Kept). t < length k.core.tasks) (sym c.self.view_is) c.in-Some.ensures.there in
     let new = acted of.0 s c.take_offer.new.self c.act-done.new.self t a of.1 there
-    (sym c.in-Some-take_offer.ensures.taken) c.take_offer.ensures.rest c.act-done.ensures.state in
+    (c.take_offer.ensures.taken c.if-not-take_offer.false) c.take_offer.ensures.rest c.act-done.ensures.state in
     subst (λ (k : Kept). IsOfTasks k c.self.inside.standing) (sym new.is)
     (still-of of.0 s (done s t a) c.self.inside.standing of.1 new.lawful c.self.invariant)
 
@@ -74,10 +75,10 @@ renew-requires-clause-own c =
     let s = c.self.inside.state in
     let of = c.self.invariant.lawful in
     let t = c.in-Some.task in
-    let a = c.in-Some-take_offer.action in
+    let a = (action_of c.take_offer.new.into.value) in
     let there = subst (λ (k : Kept). t < length k.core.tasks) (sym c.self.view_is) c.in-Some.ensures.there in
     let new = acted of.0 s c.take_offer.new.self c.act-done.new.self t a of.1 there
-    (sym c.in-Some-take_offer.ensures.taken) c.take_offer.ensures.rest c.act-done.ensures.state in
+    (c.take_offer.ensures.taken c.if-not-take_offer.false) c.take_offer.ensures.rest c.act-done.ensures.state in
     subst (λ (k : Kept). t < length k.core.tasks) (sym new.is)
     (subst (λ n. t < n) (of.1.tasks ∙ sym new.lawful.tasks) there)
 
@@ -86,10 +87,10 @@ renew-requires-clause-there c =
     let s = c.self.inside.state in
     let of = c.self.invariant.lawful in
     let t = c.in-Some.task in
-    let a = c.in-Some-take_offer.action in
+    let a = (action_of c.take_offer.new.into.value) in
     let there = subst (λ (k : Kept). t < length k.core.tasks) (sym c.self.view_is) c.in-Some.ensures.there in
     let new = acted of.0 s c.take_offer.new.self c.act-done.new.self t a of.1 there
-    (sym c.in-Some-take_offer.ensures.taken) c.take_offer.ensures.rest c.act-done.ensures.state in
+    (c.take_offer.ensures.taken c.if-not-take_offer.false) c.take_offer.ensures.rest c.act-done.ensures.state in
     let touched = c.act-done.result.touched in
     let named = subst (λ (k : Kept). IsThere k.core touched) c.take_offer.ensures.rest
     c.act-done.ensures.leaves.there in
@@ -101,10 +102,10 @@ invariant_of-self-2 c =
     let s = c.self.inside.state in
     let of = c.self.invariant.lawful in
     let t = c.in-Some.task in
-    let a = c.in-Some-take_offer.action in
+    let a = (action_of c.take_offer.new.into.value) in
     let there = subst (λ (k : Kept). t < length k.core.tasks) (sym c.self.view_is) c.in-Some.ensures.there in
     let new = acted of.0 s c.take_offer.new.self c.act-done.new.self t a of.1 there
-    (sym c.in-Some-take_offer.ensures.taken) c.take_offer.ensures.rest c.act-done.ensures.state in
+    (c.take_offer.ensures.taken c.if-not-take_offer.false) c.take_offer.ensures.rest c.act-done.ensures.state in
     let standing = c.self.inside.standing in
     let touched = c.act-done.result.touched in
     let renewed = subst (λ (k : Kept). IsRenewed k t touched standing c.renew.new.self) new.is
@@ -121,9 +122,9 @@ pub returns-clause-lawful : goal.returns-clause-lawful
 returns-clause-lawful c = λ setup lawful.
     let s = c.self.inside.state in
     let t = c.in-Some.task in
-    let a = c.in-Some-take_offer.action in
+    let a = (action_of c.take_offer.new.into.value) in
     let before = subst (λ (k : Kept). IsLawful setup k) (sym c.self.view_is) lawful in
     let there = subst (λ (k : Kept). t < length k.core.tasks) (sym c.self.view_is) c.in-Some.ensures.there in
     let new = acted setup s c.take_offer.new.self c.act-done.new.self t a before there
-    (sym c.in-Some-take_offer.ensures.taken) c.take_offer.ensures.rest c.act-done.ensures.state in
+    (c.take_offer.ensures.taken c.if-not-take_offer.false) c.take_offer.ensures.rest c.act-done.ensures.state in
     subst (λ (k : Kept). IsLawful setup k) (sym new.is) new.lawful
