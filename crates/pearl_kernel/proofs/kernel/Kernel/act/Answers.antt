@@ -1,5 +1,6 @@
-use Rattle.std.proofs.Common.{◌≡◌, ◌<◌, [], Some, true, length, sym, subst, ◌∙◌, length-set}
+use Rattle.std.proofs.Common.{◌≡◌, ℕ, ◌<◌, [], Some, true, length, sym, subst, ◌∙◌, length-set}
 use Rattle.pearl_rules.specs.Pick.{pick, guard}
+use Rattle.pearl_exchange.specs.declared.offer.Offer.{Offer}
 use Rattle.pearl_exchange.specs.Offers.{action_of}
 use Rattle.pearl_kernel.specs.Kept.{Kept, offered, done, IsLawful}
 use Rattle.pearl_kernel.specs.Names.{Names}
@@ -8,6 +9,9 @@ use Rattle.pearl_kernel.specs.Touched.{IsThere, IsRenewed, Leaves}
 use Rattle.pearl_kernel.proofs.Acting.{picked-offers, picked-able, still-of, there-after, kept-after, acted}
 use Rattle.pearl_kernel.proofs.Naming.{names-all, lawful-timely}
 use Rattle.pearl_kernel.proofs.kernel.Kernel.act.Goals as goal
+
+taken : (s : Kept) (t : ℕ) (kept at : Offer) → offered s t ≡ Some (action_of kept) → at ≡ kept → offered s t ≡ Some (action_of at)
+taken s t kept at offers same = subst (λ (o : Offer). offered s t ≡ Some (action_of o)) (sym same) offers
 
 pub invariant_of-self : goal.invariant_of-self
 invariant_of-self c =
@@ -46,27 +50,27 @@ act-done-requires-clause-room c =
 pub act-done-requires-clause-names : goal.act-done-requires-clause-names
 act-done-requires-clause-names c =
     let of = c.self.invariant.lawful in
-    subst (λ (k : Kept). Names k.core (action_of c.take_offer.new.into.value)) (sym c.take_offer.ensures.rest)
-    (names-all of.0 c.self.inside.state of.1 c.in-Some.task (action_of c.take_offer.new.into.value)
-    (c.take_offer.ensures.taken c.if-not-take_offer.false))
+    subst (λ (k : Kept). Names k.core (action_of c.deref.result.now)) (sym c.take_offer.ensures.rest)
+    (names-all of.0 c.self.inside.state of.1 c.in-Some.task (action_of c.deref.result.now)
+    (taken c.self.inside.state c.in-Some.task _ _ (c.take_offer.ensures.taken c.if-not-take_offer.false) c.deref.ensures))
 
 pub act-done-requires-clause-able : goal.act-done-requires-clause-able
 act-done-requires-clause-able c =
     let s = c.self.inside.state in
     let picked = subst (λ (k : Kept). pick k.core (offered k) ≡ Some c.in-Some.task) (sym c.self.view_is)
     (sym c.in-Some.ensures.picked) in
-    subst (λ (k : Kept). guard k.core (action_of c.take_offer.new.into.value) ≡ true) (sym c.take_offer.ensures.rest)
-    (picked-able s c.in-Some.task (action_of c.take_offer.new.into.value) picked (c.take_offer.ensures.taken c.if-not-take_offer.false))
+    subst (λ (k : Kept). guard k.core (action_of c.deref.result.now) ≡ true) (sym c.take_offer.ensures.rest)
+    (picked-able s c.in-Some.task (action_of c.deref.result.now) picked (taken c.self.inside.state c.in-Some.task _ _ (c.take_offer.ensures.taken c.if-not-take_offer.false) c.deref.ensures))
 
 pub renew-requires-clause-tasks : goal.renew-requires-clause-tasks
 renew-requires-clause-tasks c =
     let s = c.self.inside.state in
     let of = c.self.invariant.lawful in
     let t = c.in-Some.task in
-    let a = (action_of c.take_offer.new.into.value) in
+    let a = (action_of c.deref.result.now) in
     let there = subst (λ (k : Kept). t < length k.core.tasks) (sym c.self.view_is) c.in-Some.ensures.there in
     let new = acted of.0 s c.take_offer.new.self c.act-done.new.self t a of.1 there
-    (c.take_offer.ensures.taken c.if-not-take_offer.false) c.take_offer.ensures.rest c.act-done.ensures.state in
+    (taken c.self.inside.state c.in-Some.task _ _ (c.take_offer.ensures.taken c.if-not-take_offer.false) c.deref.ensures) c.take_offer.ensures.rest c.act-done.ensures.state in
     subst (λ (k : Kept). IsOfTasks k c.self.inside.standing) (sym new.is)
     (still-of of.0 s (done s t a) c.self.inside.standing of.1 new.lawful c.self.invariant)
 
@@ -75,10 +79,10 @@ renew-requires-clause-own c =
     let s = c.self.inside.state in
     let of = c.self.invariant.lawful in
     let t = c.in-Some.task in
-    let a = (action_of c.take_offer.new.into.value) in
+    let a = (action_of c.deref.result.now) in
     let there = subst (λ (k : Kept). t < length k.core.tasks) (sym c.self.view_is) c.in-Some.ensures.there in
     let new = acted of.0 s c.take_offer.new.self c.act-done.new.self t a of.1 there
-    (c.take_offer.ensures.taken c.if-not-take_offer.false) c.take_offer.ensures.rest c.act-done.ensures.state in
+    (taken c.self.inside.state c.in-Some.task _ _ (c.take_offer.ensures.taken c.if-not-take_offer.false) c.deref.ensures) c.take_offer.ensures.rest c.act-done.ensures.state in
     subst (λ (k : Kept). t < length k.core.tasks) (sym new.is)
     (subst (λ n. t < n) (of.1.tasks ∙ sym new.lawful.tasks) there)
 
@@ -87,10 +91,10 @@ renew-requires-clause-there c =
     let s = c.self.inside.state in
     let of = c.self.invariant.lawful in
     let t = c.in-Some.task in
-    let a = (action_of c.take_offer.new.into.value) in
+    let a = (action_of c.deref.result.now) in
     let there = subst (λ (k : Kept). t < length k.core.tasks) (sym c.self.view_is) c.in-Some.ensures.there in
     let new = acted of.0 s c.take_offer.new.self c.act-done.new.self t a of.1 there
-    (c.take_offer.ensures.taken c.if-not-take_offer.false) c.take_offer.ensures.rest c.act-done.ensures.state in
+    (taken c.self.inside.state c.in-Some.task _ _ (c.take_offer.ensures.taken c.if-not-take_offer.false) c.deref.ensures) c.take_offer.ensures.rest c.act-done.ensures.state in
     let touched = c.act-done.result.touched in
     let named = subst (λ (k : Kept). IsThere k.core touched) c.take_offer.ensures.rest
     c.act-done.ensures.leaves.there in
@@ -102,10 +106,10 @@ invariant_of-self-2 c =
     let s = c.self.inside.state in
     let of = c.self.invariant.lawful in
     let t = c.in-Some.task in
-    let a = (action_of c.take_offer.new.into.value) in
+    let a = (action_of c.deref.result.now) in
     let there = subst (λ (k : Kept). t < length k.core.tasks) (sym c.self.view_is) c.in-Some.ensures.there in
     let new = acted of.0 s c.take_offer.new.self c.act-done.new.self t a of.1 there
-    (c.take_offer.ensures.taken c.if-not-take_offer.false) c.take_offer.ensures.rest c.act-done.ensures.state in
+    (taken c.self.inside.state c.in-Some.task _ _ (c.take_offer.ensures.taken c.if-not-take_offer.false) c.deref.ensures) c.take_offer.ensures.rest c.act-done.ensures.state in
     let standing = c.self.inside.standing in
     let touched = c.act-done.result.touched in
     let renewed = subst (λ (k : Kept). IsRenewed k t touched standing c.renew.new.self) new.is
@@ -122,9 +126,9 @@ pub returns-clause-lawful : goal.returns-clause-lawful
 returns-clause-lawful c = λ setup lawful.
     let s = c.self.inside.state in
     let t = c.in-Some.task in
-    let a = (action_of c.take_offer.new.into.value) in
+    let a = (action_of c.deref.result.now) in
     let before = subst (λ (k : Kept). IsLawful setup k) (sym c.self.view_is) lawful in
     let there = subst (λ (k : Kept). t < length k.core.tasks) (sym c.self.view_is) c.in-Some.ensures.there in
     let new = acted setup s c.take_offer.new.self c.act-done.new.self t a before there
-    (c.take_offer.ensures.taken c.if-not-take_offer.false) c.take_offer.ensures.rest c.act-done.ensures.state in
+    (taken c.self.inside.state c.in-Some.task _ _ (c.take_offer.ensures.taken c.if-not-take_offer.false) c.deref.ensures) c.take_offer.ensures.rest c.act-done.ensures.state in
     subst (λ (k : Kept). IsLawful setup k) (sym new.is) new.lawful
