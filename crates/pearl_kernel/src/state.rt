@@ -13,7 +13,7 @@ ghost use Rattle.pearl_rules.specs.Devices.{is_enabled as is_enabled_in, channel
 ghost use Rattle.pearl_rules.specs.Devices.{without_bytes, values_at, without_value, terminal_room, input_room};
 ghost use Rattle.pearl_rules.specs.Scan.{scan as scan_spec};
 ghost use Rattle.pearl_rules.specs.Plans.{with_mode};
-ghost use Rattle.pearl_rules.specs.Pick.{is_possible as is_possible_in, is_some_value, guard};
+ghost use Rattle.pearl_rules.specs.Pick.{is_complete as is_complete_of, is_possible as is_possible_in, is_some_value, guard};
 ghost use Rattle.pearl_rules.specs.Tables.{IsPreset};
 ghost use Rattle.pearl_port.specs.Pending.{IsTyped};
 ghost use Rattle.pearl_sema.specs.Waiting.{AreThere};
@@ -43,7 +43,7 @@ use pearl_format::item::Item;
 use pearl_rules::event::Event;
 use pearl_rules::row::{Mode, TaskRow};
 use pearl_rules::setup::Setup;
-use pearl_scan::scan::{Scanned, scan};
+use pearl_scan::scan::{Scanned, is_complete, scan};
 use pearl_sema::semas::Semas;
 use pearl_timer::timer::Timer;
 use pearl_value::cell::Cell;
@@ -320,10 +320,7 @@ impl State {
         match offer.what {
             What::Request => self.is_free(&offer.list),
             What::Get { device, format } => {
-                match self.scanned(device, format, offer.kinds.as_slice()) {
-                    Scanned::Short => false,
-                    _ => true,
-                }
+                self.is_enough(device, format, offer.kinds.as_slice())
             }
             What::Take(device) => self.has_value(device),
             _ => true,
@@ -484,28 +481,43 @@ impl State {
         self.channels[device as usize].take_in(value)
     }
 
+    // The bytes that wait at a terminal.
+    fn bytes(&self, device: u32) -> &[u8]
+        ensures bytes { result.now ≡ bytes_at self.now.core device }
+        ensures within { length result.now ≤ 4096 }
+    {
+        match self.channels.get(device as usize) {
+            None => &[],
+            Some(channel) => channel.bytes(),
+        }
+    }
+
+    // The items of a format.
+    fn items(&self, format: u32) -> &[Item]
+        ensures { result.now ≡ items_of self.now.core format }
+    {
+        match self.formats.get(format as usize) {
+            None => &[],
+            Some(items) => items.as_slice(),
+        }
+    }
+
     /// What GET reads from the bytes that wait at a terminal.
     pub fn scanned(&self, device: u32, format: u32, kinds: &[Kind]) -> Scanned
         requires few { length kinds.now ≤ 64 }
         requires are { AllByRecursion IsKind kinds.now }
         ensures { told result ≡ scan_spec (items_of self.now.core format) kinds.now (bytes_at self.now.core device) }
     {
-        match self.channels.get(device as usize) {
-            None => self.scan_bytes(format, kinds, &[]),
-            Some(channel) => self.scan_bytes(format, kinds, channel.bytes()),
-        }
+        scan(self.items(format), kinds, self.bytes(device))
     }
 
-    fn scan_bytes(&self, format: u32, kinds: &[Kind], bytes: &[u8]) -> Scanned
+    // Whether the bytes that wait at a terminal are enough for a GET.
+    fn is_enough(&self, device: u32, format: u32, kinds: &[Kind]) -> bool
         requires few { length kinds.now ≤ 64 }
         requires are { AllByRecursion IsKind kinds.now }
-        requires near { length bytes.now ≤ 4096 }
-        ensures { told result ≡ scan_spec (items_of self.now.core format) kinds.now bytes.now }
+        ensures { result ≡ is_complete_of (scan_spec (items_of self.now.core format) kinds.now (bytes_at self.now.core device)) }
     {
-        match self.formats.get(format as usize) {
-            None => scan(&[], kinds, bytes),
-            Some(items) => scan(items.as_slice(), kinds, bytes),
-        }
+        is_complete(self.items(format), kinds, self.bytes(device))
     }
 
     // Whether a value waits at an input.

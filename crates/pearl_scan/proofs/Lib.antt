@@ -3,3 +3,4 @@ pub mod Numbers
 pub mod BitLaws
 pub mod Pieces
 pub mod Steps
+pub mod Completing
