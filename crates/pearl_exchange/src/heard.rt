@@ -1,5 +1,8 @@
 // What a task hears after its action, and the values that lie beside that.
 
+ghost use Rattle.std.specs.Prelude.{◌≡◌, pos, []};
+ghost use Rattle.pearl_value.specs.declared.cell.Cell.{Cell};
+
 use arrayvec::ArrayVec;
 use pearl_value::cell::Cell;
 
@@ -22,7 +25,10 @@ pub struct Beside {
 
 impl Beside {
     /// A place for values, of which none is heard yet.
-    pub fn new() -> Beside {
+    pub fn new() -> Beside
+        ensures one { result.one ≡ Cell.Fixed 31 (pos 0) }
+        ensures many { result.many.items ≡ [] }
+    {
         Beside {
             one: Cell::default(),
             many: ArrayVec::new(),
