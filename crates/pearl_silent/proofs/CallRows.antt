@@ -1,5 +1,5 @@
 -- Calls and the way back.
-use Rattle.std.proofs.Common.{◌≡◌, ◌≢◌, ℕ, suc, ◌+◌, ◌-◌, ◌<◌, ◌≤◌, List, [], ◌∷◌, ◌++◌, Option, Some, None, length, take, drop, map, reverse, replicate, slice_get, refl, sym, ap, ◌∙◌, arith, true, false, eqb, eq-eqb, ne_eqb, length-take-le}
+use Rattle.std.proofs.Common.{◌≡◌, ◌≢◌, ℕ, suc, ◌-◌, ◌<◌, ◌≤◌, List, [], ◌∷◌, ◌++◌, Option, Some, None, length, take, drop, map, reverse, replicate, slice_get, refl, sym, ap, ◌∙◌, arith, true, false, eqb, eq-eqb, ne_eqb, length-take-le}
 use Rattle.std.specs.Prelude.{IsSome, option_map}
 use Rattle.std.proofs.lemmas.Option.{same_Some}
 use Rattle.std.proofs.lemmas.List.{length-reverse}
@@ -7,7 +7,7 @@ use Rattle.std.proofs.Math.Seq.{take-append_seam}
 use Rattle.pearl_value.specs.declared.kind.Kind.{Kind}
 use Rattle.pearl_value.specs.declared.cell.Cell.{Cell}
 use Rattle.pearl_stack.specs.declared.stack.Frame as size
-use Rattle.pearl_stack.specs.Frames.{Frame, top_operands, used, unset, frame_at, sizes, place_of, pushed, popped, moved, entered}
+use Rattle.pearl_stack.specs.Frames.{Frame, top_operands, unset, frame_at, sizes, place_of, pushed, entered}
 use Rattle.pearl_instructions.specs.declared.object.Procedure.{Procedure}
 use Rattle.pearl_instructions.specs.Steps as step
 use Rattle.pearl_instructions.specs.Steps.{Step, Silent, leaves}

@@ -1,5 +1,5 @@
 -- The instruction at which a stack is, by the instructions of its top frame's routine.
-use Rattle.std.proofs.Common.{◌≡◌, ◌≢◌, ℕ, suc, ◌+◌, ◌<◌, ◌≤◌, ◌^◌, List, [], ◌∷◌, Option, Some, None, length, slice_get, refl, sym, ap, ◌∙◌, subst, arith}
+use Rattle.std.proofs.Common.{◌≡◌, ◌≢◌, ℕ, ◌+◌, ◌<◌, ◌≤◌, ◌^◌, List, [], ◌∷◌, Option, Some, None, length, slice_get, refl, sym, ap, ◌∙◌, subst, arith}
 use Rattle.std.specs.Prelude.{IsSome, Bool, true, false, option_map, option_and_then}
 use Rattle.std.proofs.lemmas.Option.{same_Some}
 use Rattle.pearl_rules.specs.declared.action.Action.{Action}
@@ -15,7 +15,7 @@ use Rattle.pearl_instructions.specs.Flow.{call}
 use Rattle.pearl_instructions.specs.Lawful.{IsObject}
 use Rattle.pearl_instructions.specs.Objects.{routine_at}
 use Rattle.pearl_instructions.specs.Owned.{Moves, Proceeds, Afterwards, IsOfTask}
-use Rattle.pearl_instructions.specs.Rows.{row, act, instr_at}
+use Rattle.pearl_instructions.specs.Rows.{row, act}
 use Rattle.pearl_instructions.specs.Stacks.{IsStack, task_of, room}
 use Rattle.pearl_instructions.specs.Steps.{Step, Silent, Offers, needed}
 use Rattle.pearl_instructions.specs.Valid.{IsValid}

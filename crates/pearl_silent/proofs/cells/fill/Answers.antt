@@ -1,4 +1,4 @@
-use Rattle.std.proofs.Common.{◌≡◌, ap, ◌∙◌}
+use Rattle.std.proofs.Common.{ap, ◌∙◌}
 use Rattle.pearl_stack.specs.Frames.{Stack}
 use Rattle.pearl_silent.specs.Steps.{next_of}
 use Rattle.pearl_silent.proofs.Tops.{next_at, next_with_cells}

@@ -1,4 +1,4 @@
-use Rattle.std.proofs.Common.{◌≡◌, ◌+◌, Ok, slice_get, sym, ap, ◌∙◌}
+use Rattle.std.proofs.Common.{◌+◌, Ok, slice_get, sym, ap, ◌∙◌}
 use Rattle.pearl_silent.specs.Steps.{told, made_on, top_cells}
 use Rattle.pearl_silent.proofs.Made.{same_applies, same_does}
 use Rattle.pearl_silent.proofs.Tops.{some_within}

@@ -1,6 +1,6 @@
-use Rattle.std.proofs.Common.{refl, ap, ◌∙◌, subst}
+use Rattle.std.proofs.Common.{refl, ap, ◌∙◌}
 use Rattle.pearl_stack.specs.Frames.{Stack}
-use Rattle.pearl_silent.specs.Steps.{Applies, made_on}
+use Rattle.pearl_silent.specs.Steps.{made_on}
 use Rattle.pearl_silent.proofs.Made.{made_traps}
 use Rattle.pearl_silent.proofs.outcomes.leave.Goals as goal
 

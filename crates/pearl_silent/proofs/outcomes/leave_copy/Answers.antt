@@ -1,6 +1,6 @@
 use Rattle.std.proofs.Common.{◌≡◌, Ok, ap, ◌∙◌}
 use Rattle.pearl_stack.specs.Frames.{Stack, pushed, without}
-use Rattle.pearl_silent.specs.Steps.{HasNext, next_of, made_on}
+use Rattle.pearl_silent.specs.Steps.{next_of, made_on}
 use Rattle.pearl_silent.proofs.Tops.{next_at, next_pushed, next_without, without_some}
 use Rattle.pearl_silent.proofs.Made.{silent_does, made_room, made_silent}
 use Rattle.pearl_silent.proofs.outcomes.leave_copy.Goals as goal

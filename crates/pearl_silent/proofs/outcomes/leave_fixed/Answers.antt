@@ -2,7 +2,7 @@ use Rattle.std.proofs.Common.{◌≡◌, Ok, ap, ◌∙◌, arith}
 use Rattle.std.proofs.lemmas.Int.{ints}
 use Rattle.pearl_value.specs.declared.cell.Cell.TheVariants.{Fixed}
 use Rattle.pearl_stack.specs.Frames.{Stack, pushed, without}
-use Rattle.pearl_silent.specs.Steps.{HasNext, next_of, made_on}
+use Rattle.pearl_silent.specs.Steps.{next_of, made_on}
 use Rattle.pearl_silent.proofs.Tops.{next_at, next_pushed, next_without, without_some}
 use Rattle.pearl_silent.proofs.Made.{silent_does, made_room, made_silent}
 use Rattle.pearl_silent.proofs.outcomes.leave_fixed.Goals as goal

@@ -1,6 +1,6 @@
-use Rattle.std.proofs.Common.{◌≡◌, ◌-◌, suc, length, ap, ◌∙◌, arith, sym, subst}
+use Rattle.std.proofs.Common.{◌≡◌, ◌-◌, suc, length, ap, arith, sym, subst}
 use Rattle.std.specs.Prelude.{IsSome}
-use Rattle.pearl_stack.specs.Frames.{Stack, popped, top_operands}
+use Rattle.pearl_stack.specs.Frames.{Stack, top_operands}
 use Rattle.pearl_silent.specs.Steps.{with_top_cell}
 use Rattle.pearl_silent.proofs.Tops.{own_small, own_cell_at, cells_more, left_under, next_at, next_with_cell, next_without}
 use Rattle.pearl_silent.proofs.Copies.{stored, stored_does}

@@ -1,4 +1,4 @@
-use Rattle.std.proofs.Common.{◌≡◌, ◌-◌, suc, length, ap, ◌∙◌, arith, sym, subst}
+use Rattle.std.proofs.Common.{◌≡◌, ◌-◌, suc, length, ◌∙◌, arith, sym, subst}
 use Rattle.std.specs.Prelude.{IsSome}
 use Rattle.pearl_stack.specs.Frames.{Stack}
 use Rattle.pearl_silent.proofs.Tops.{own_small, own_cell_at, cells_more}

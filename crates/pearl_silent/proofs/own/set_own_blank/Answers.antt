@@ -1,7 +1,7 @@
 use Rattle.std.proofs.Common.{◌≡◌, ◌-◌, suc, length, ap, ◌∙◌, arith, sym, subst}
 use Rattle.std.specs.Prelude.{IsSome}
 use Rattle.pearl_value.specs.Blanks.{blank_of}
-use Rattle.pearl_stack.specs.Frames.{Stack, with_cell}
+use Rattle.pearl_stack.specs.Frames.{Stack}
 use Rattle.pearl_silent.proofs.Tops.{own_small, own_cell_at, own_cell_set, cells_more}
 use Rattle.pearl_silent.proofs.own.set_own_blank.Goals as goal
 

@@ -1,4 +1,4 @@
-use Rattle.std.proofs.Common.{◌≡◌, ◌<◌, Some, None, Option, length, drop, slice_get, sym, ap, ◌∙◌, subst, arith}
+use Rattle.std.proofs.Common.{◌≡◌, Some, None, Option, drop, slice_get, sym, ap, ◌∙◌, subst}
 use Rattle.std.proofs.lemmas.Option.{slice_get_within}
 use Rattle.pearl_value.specs.declared.cell.Cell.{Cell}
 use Rattle.pearl_value.specs.declared.kind.Kind.{Kind}
