@@ -73,7 +73,7 @@ impl Lines {
     }
 
     /// Takes bytes up to and with the first byte 10, or all, and tells how many. Whatever follows, the entries are those
-    /// that follow if the bytes come all at once.
+    /// that follow if the bytes come all at once. Behind a line that is refused nothing is taken: it goes on standing.
     pub fn feed(&mut self, piece: &[u8]) -> usize
         requires partial { self.old.is_whole ≡ false }
         requires unfinished { self.old.is_finished ≡ false }
