@@ -2,8 +2,8 @@
 use Rattle.std.proofs.Common.{◌≡◌, ◌↔◌, inl, inr, List, ℕ, eq-eqb, eqb-true, ◌^◌, ◌<◌, pos, Bool, true, false, IsTrue, if◌then◌else◌, ◌∷◌, [], Option, Some, None, refl, sym, ap, ap₂, subst, ◌∙◌, arith}
 use Rattle.std.proofs.lemmas.Bool.{true≢false}
 use Rattle.pearl_value.specs.declared.trap.Trap as traps
-use Rattle.pearl_timer.specs.Timetable.{fires_if}
-use Rattle.pearl_timer.proofs.Firings.{fires_as_said}
+use Rattle.pearl_rules.specs.Series.{fires_if}
+use Rattle.pearl_rules.proofs.Firings.{fires_as_said}
 use Rattle.pearl_rules.specs.declared.action.Action.TheVariants as action
 use Rattle.pearl_rules.specs.declared.action.Answer.TheVariants.{Nothing}
 use Rattle.pearl_rules.specs.declared.action.Start.{Start}

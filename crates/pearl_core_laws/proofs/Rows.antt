@@ -1,7 +1,7 @@
 -- What a millisecond and an occurring interrupt do to all tasks.
 use Rattle.std.proofs.Common.{◌≡◌, ℕ, zero, suc, ◌+◌, ◌-◌, ◌%◌, ◌≤◌, List, [], ◌∷◌, ◌++◌, Bool, true, false, ◌&&◌, if◌then◌else◌, Option, Some, None, map, length, slice_get, slice_set, refl, sym, ap, ap₂, ◌∙◌, append-nil, append_assoc, add-zero, zero-add, arith}
 use Rattle.std.proofs.lemmas.Option.{none-some, same_Some}
-use Rattle.pearl_timer.specs.Timetable.{fires_if}
+use Rattle.pearl_rules.specs.Series.{fires_if}
 use Rattle.pearl_rules.specs.declared.action.Start.{Start}
 use Rattle.pearl_rules.specs.declared.action.Start.TheVariants.{Free, At, After, When, WhenAfter}
 use Rattle.pearl_rules.specs.declared.action.Repeat.{Repeat}

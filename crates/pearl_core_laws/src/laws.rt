@@ -7,7 +7,7 @@ ghost use Rattle.pearl_value.specs.declared.cell.Cell.{Cell};
 ghost use Rattle.pearl_value.specs.declared.cell.Cell.TheVariants.{Clock};
 ghost use Rattle.pearl_value.specs.declared.kind.Kind.{Kind};
 ghost use Rattle.pearl_value.specs.declared.trap.Trap as traps;
-ghost use Rattle.pearl_timer.specs.Timetable.{fires_if};
+ghost use Rattle.pearl_rules.specs.Series.{fires_if};
 ghost use Rattle.pearl_rules.specs.declared.action.Action.{Action};
 ghost use Rattle.pearl_rules.specs.declared.action.Action.TheVariants as action;
 ghost use Rattle.pearl_rules.specs.declared.action.Start.{Start};

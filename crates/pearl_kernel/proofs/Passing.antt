@@ -2,7 +2,8 @@
 use Rattle.std.proofs.Common.{◌≡◌, ℕ, zero, suc, ◌+◌, ◌≤◌, List, [], ◌∷◌, Bool, true, false, Option, Some, None}
 use Rattle.std.proofs.Common.{length, map, slice_get, slice_index_or, refl, ap, sym, ◌∙◌, arith, if◌then◌else◌}
 use Rattle.pearl_timer.specs.declared.timer.Which.TheVariants as which
-use Rattle.pearl_timer.specs.Timetable.{fires_if, due, IsDue}
+use Rattle.pearl_rules.specs.Series.{fires_if}
+use Rattle.pearl_timer.specs.Timetable.{due, IsDue}
 use Rattle.pearl_rules.specs.declared.row.Plan.{Plan}
 use Rattle.pearl_rules.specs.declared.row.Activation.{Activation}
 use Rattle.pearl_rules.specs.declared.row.TaskRow.{TaskRow}

@@ -2,7 +2,7 @@
 use Rattle.std.specs.Prelude.{ℕ, zero, suc, ◌+◌, ◌^◌, ◌<◌, ◌≤◌, List, Option, Some, None, IfSome, map}
 use Rattle.std.specs.List.{AllByRecursion}
 use Rattle.pearl_value.specs.WellFormed.{FitsSpan}
-use Rattle.pearl_timer.specs.declared.series.Series.{Series}
+use Rattle.pearl_rules.specs.declared.series.Series.{Series}
 use Rattle.pearl_timer.specs.Timetable.{Timetable, IsDue}
 use Rattle.pearl_rules.specs.declared.action.Start.{Start}
 use Rattle.pearl_rules.specs.declared.action.Start.TheVariants.{Free, At, After, When, WhenAfter}

@@ -3,7 +3,7 @@
 ghost use Rattle.std.specs.Prelude.{◌≡◌, ◌≢◌, ◌<◌, ◌≤◌, ◌+◌, [], ◌∷◌, Some, None, true, false};
 ghost use Rattle.std.specs.Prelude.{IfOk, IfSome, MatchOption, length, slice_get, slice_set};
 ghost use Rattle.pearl_rules.specs.declared.setup.Setup as Tables;
-ghost use Rattle.pearl_timer.specs.Series.{IsNext, NoneIsNext};
+ghost use Rattle.pearl_timer.specs.Next.{IsNext, NoneIsNext};
 ghost use Rattle.pearl_timer.specs.Timetable.{IsDue};
 ghost use Rattle.pearl_rules.specs.declared.entry.Entry.TheVariants.{Clock, Irpt};
 ghost use Rattle.pearl_rules.specs.Core.{Happened};

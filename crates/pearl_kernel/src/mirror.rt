@@ -5,7 +5,7 @@ ghost use Rattle.pearl_timer.specs.Timetable.{changed, of_kind};
 ghost use Rattle.pearl_kernel.specs.Timing.{series_of_plan as plan_series, series_of_activation as activation_series};
 
 use pearl_rules::row::{Activation, Plan, TaskRow};
-use pearl_timer::series::Series;
+use pearl_rules::series::Series;
 use pearl_timer::timer::{Timer, Which};
 
 fn series_of_plan(plan: Option<Plan>) -> Option<Series>

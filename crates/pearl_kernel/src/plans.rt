@@ -15,7 +15,7 @@ use crate::state::State;
 use pearl_rules::action::{Repeat, Start};
 use pearl_rules::event::Event;
 use pearl_rules::row::{Activation, Mode, Plan};
-use pearl_timer::series::Series;
+use pearl_rules::series::Series;
 
 // The milliseconds of a day.
 const DAY: u64 = 86_400_000;

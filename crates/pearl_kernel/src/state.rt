@@ -4,7 +4,7 @@ ghost use Rattle.std.specs.Prelude.{◌≡◌, ◌≢◌, ◌<◌, ◌≤◌, []
 ghost use Rattle.std.specs.Prelude.{All, IsTrue, IfOk, MatchOption, length, nat_le, nat_lt, slice_get, slice_set, if◌then◌else◌};
 ghost use Rattle.std.specs.List.{AllByRecursion};
 ghost use Rattle.pearl_rules.specs.declared.action.Action as Acting;
-ghost use Rattle.pearl_timer.specs.Series.{IsNext, NoneIsNext};
+ghost use Rattle.pearl_timer.specs.Next.{IsNext, NoneIsNext};
 ghost use Rattle.pearl_timer.specs.Timetable.{IsDue};
 ghost use Rattle.pearl_rules.specs.Core.{Happened, note as noted, is_active as is_active_in, mode_of, row_of, value_at};
 ghost use Rattle.pearl_rules.specs.Core.{Switch, Bytes, with_row};

@@ -1,3 +1,4 @@
+pub mod Firings
 pub mod Places
 pub mod PickLaws
 pub mod Serving

@@ -5,7 +5,7 @@ use Rattle.pearl_value.specs.declared.kind.Kind.{Kind}
 use Rattle.pearl_value.specs.declared.trap.Trap.{Trap}
 use Rattle.pearl_value.specs.declared.trap.Trap.TheVariants.{SemaLimit, Format}
 use Rattle.pearl_value.specs.Conversions.{converted}
-use Rattle.pearl_timer.specs.declared.series.Series.{Series}
+use Rattle.pearl_rules.specs.declared.series.Series.{Series}
 use Rattle.pearl_rules.specs.declared.action.Action.{Action}
 use Rattle.pearl_rules.specs.declared.action.Action.TheVariants as action
 use Rattle.pearl_rules.specs.declared.action.Start.{Start}

@@ -2,6 +2,10 @@
 pub mod Core
 -- the counts of semaphores, and what becomes of them
 pub mod Counts
+-- when a series fires
+pub mod Series
+-- the same in other words
+pub mod SeriesLaws
 -- when plans serve, and what they do then
 pub mod Plans
 -- how devices stand, and what comes in

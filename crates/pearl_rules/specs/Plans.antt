@@ -1,7 +1,7 @@
 -- When a plan serves: the time of day, the moments that a plan as written comes to, and what a plan does that serves.
 use Rattle.std.specs.Prelude.{ℕ, zero, suc, ◌+◌, ◌-◌, ◌^◌, ◌%◌, ℤ, pos, negsuc, Bool, false, Option, Some, None, length, nat_eq, if◌then◌else◌}
-use Rattle.pearl_timer.specs.declared.series.Series.{Series}
-use Rattle.pearl_timer.specs.Timetable.{fires_if}
+use Rattle.pearl_rules.specs.declared.series.Series.{Series}
+use Rattle.pearl_rules.specs.Series.{fires_if}
 use Rattle.pearl_rules.specs.declared.action.Start.{Start}
 use Rattle.pearl_rules.specs.declared.action.Start.TheVariants.{Free, At, After, When, WhenAfter}
 use Rattle.pearl_rules.specs.declared.action.Repeat.{Repeat}

@@ -1,4 +1,4 @@
-// The rules of tasks: their actions and events, who acts, and what an action does.
+// The rules of tasks: their actions and events, when plans fire, who acts, and what an action does.
 #![tactic(auto)]
 
 pub mod action;
@@ -6,4 +6,6 @@ pub mod entry;
 pub mod event;
 pub mod laws;
 pub mod row;
+pub mod series;
+pub mod series_laws;
 pub mod setup;

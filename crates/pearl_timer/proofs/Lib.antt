@@ -1,3 +1,2 @@
-pub mod Firings
 pub mod NextMoments
 pub mod TimetableLaws

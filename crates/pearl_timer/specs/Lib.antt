@@ -1,6 +1,6 @@
--- when a series fires, and which moment comes next
-pub mod Series
+-- which moment comes next
+pub mod Next
 -- which series a timer keeps, and when one of them fires
 pub mod Timetable
--- when series fire, in other words, and that one series is changed alone
+-- that one series is changed alone
 pub mod Laws

@@ -1,6 +1,6 @@
-// Series of moments, which of them are kept of each task, and when one of those fires next.
+// Which series are kept of each task, and when one of those fires next.
 #![tactic(auto)]
 
 pub mod laws;
-pub mod series;
+mod next;
 pub mod timer;

@@ -1,10 +1,11 @@
 // The series that are kept of tasks, and when one of them fires.
 
 ghost use Rattle.std.specs.Prelude.{◌≡◌, ◌<◌, List, Option, Some, None, IfOk, MatchOption, length, replicate};
-ghost use Rattle.pearl_timer.specs.Series.{IsNext, NoneIsNext, earlier};
+ghost use Rattle.pearl_timer.specs.Next.{IsNext, NoneIsNext, earlier};
 ghost use Rattle.pearl_timer.specs.Timetable.{Timetable, FiresIn, IsDue, changed, due, of_kind};
 
-use crate::series::Series;
+use crate::next::next_after;
+use pearl_rules::series::Series;
 use std::alloc::{AllocError as NoMemory, Global};
 use std::marker::Model;
 
@@ -109,7 +110,7 @@ fn next_in(kept: &[Option<Series>], after: u64) -> Option<u64>
     let mut next = None;
     for series in kept {
         if let Some(series) = series {
-            next = earlier(next, series.next_after(after));
+            next = earlier(next, next_after(series, after));
         }
     }
     next

@@ -1,5 +1,5 @@
 use Rattle.std.proofs.Common.{MatchOption, subst}
-use Rattle.pearl_timer.specs.Series.{IsNext, NoneIsNext}
+use Rattle.pearl_timer.specs.Next.{IsNext, NoneIsNext}
 use Rattle.pearl_timer.specs.Timetable.{IsDue}
 use Rattle.pearl_kernel.specs.Kept.{Kept}
 use Rattle.pearl_kernel.specs.Timing.{timetable}
