@@ -1,7 +1,7 @@
 // How one task stands in the core, and what is planned for it.
 
 use crate::action::{Repeat, Start};
-use pearl_rules::series::Series;
+use crate::series::Series;
 
 /// Whether a task is active. A smaller number is a more urgent priority, from 1 to 255.
 #[derive(Clone, Copy, PartialEq, Eq, Debug)]
