@@ -110,7 +110,7 @@ fn next_in(kept: &[Option<Series>], after: u64) -> Option<u64>
     let mut next = None;
     for series in kept {
         if let Some(series) = series {
-            next = earlier(next, next_after(series, after));
+            next = earlier(next, next_after(*series, after));
         }
     }
     next
