@@ -1,6 +1,7 @@
 -- What becomes of a task's plans by actions, and at which moments they serve.
-use Rattle.std.proofs.Common.{◌≡◌, ◌↔◌, inl, inr, List, ℕ, eq-eqb, eqb-true, ◌^◌, ◌<◌, pos, Bool, true, false, IsTrue, if◌then◌else◌, ◌∷◌, [], Option, Some, None, refl, sym, ap, ap₂, subst, ◌∙◌, arith}
+use Rattle.std.proofs.Common.{◌≡◌, ◌↔◌, inl, inr, List, ℕ, eq-eqb, eqb-true, ◌+◌, ◌^◌, ◌<◌, pos, Bool, true, false, IsTrue, if◌then◌else◌, ◌∷◌, [], Option, Some, None, refl, sym, ap, ap₂, subst, ◌∙◌, arith}
 use Rattle.std.proofs.lemmas.Bool.{true≢false}
+use Rattle.std.proofs.lemmas.Option.{none-some, same_Some}
 use Rattle.pearl_value.specs.declared.trap.Trap as traps
 use Rattle.pearl_rules.specs.Series.{fires_if}
 use Rattle.pearl_rules.proofs.Firings.{fires_as_said}
@@ -16,7 +17,7 @@ use Rattle.pearl_rules.specs.declared.row.Mode.TheVariants.{Dormant, Active}
 use Rattle.pearl_rules.specs.declared.row.Plan.{Plan}
 use Rattle.pearl_rules.specs.declared.row.TaskRow.{TaskRow}
 use Rattle.pearl_rules.specs.Core.{Core, note, row_of, with_row, is_active_row, is_active_mode, mode_of_row}
-use Rattle.pearl_rules.specs.Plans.{time_at, begun, started, marked_mode, with_mark, begin_series, first_moment, period_of, last_moment, planned, waits_for, serves_if, plan_continuation, plan_activation, occurred}
+use Rattle.pearl_rules.specs.Plans.{time_at, begun, started, marked_mode, with_mark, series_from, begin_series, interrupt_of, first_moment, period_of, end_of, written, last_moment, planned, waits_for, serves_if, plan_continuation, plan_activation, occurred}
 use Rattle.pearl_rules.specs.Devices.{is_enabled, interrupted}
 use Rattle.pearl_rules.specs.Effect.{answering, effect, finished, stopped_by, is_at_once, priority_or_declared}
 use Rattle.pearl_core_laws.specs.Plans.{IsMoment, Waits, IsWrittenWith, ChangesRow, mode_after, start_events, starts_now, new_activation, with_new_activation, with_new_continuation}
@@ -134,10 +135,10 @@ module _ (core : Core) (own : ℕ) (row : TaskRow) (at : row_of core own ≡ Som
 -- a plan that doesn't wait for an interrupt serves at its moments
 pub plan_serves : (core : Core) (start : Start) (repeat : Repeat) (u : ℕ) → (Waits start → ⊥) →
     IsTrue (fires_if (planned core start repeat).series u)
-    ↔ IsMoment (first_moment core start) (period_of repeat) (last_moment core (first_moment core start) repeat) u
-plan_serves core Free repeat u free = fires_as_said (begin_series core Free repeat) u
-plan_serves core (At time) repeat u free = fires_as_said (begin_series core (At time) repeat) u
-plan_serves core (After time) repeat u free = fires_as_said (begin_series core (After time) repeat) u
+    ↔ IsMoment (first_moment core start) (period_of repeat) (last_moment core (first_moment core start) (end_of repeat)) u
+plan_serves core Free repeat u free = fires_as_said (series_from core (first_moment core Free) (written Free repeat)) u
+plan_serves core (At time) repeat u free = fires_as_said (series_from core (first_moment core (At time)) (written (At time) repeat)) u
+plan_serves core (After time) repeat u free = fires_as_said (series_from core (first_moment core (After time)) (written (After time) repeat)) u
 plan_serves core (When interrupt) repeat u free = absurd (free tt)
 plan_serves core (WhenAfter interrupt time) repeat u free = absurd (free tt)
 
@@ -151,8 +152,8 @@ waiting_serves core (WhenAfter interrupt time) repeat u waits = refl
 
 -- the series of a plan that begins now
 pub begun_serves : (core : Core) (plan : Plan) (u : ℕ) → IsTrue (fires_if (begun core plan).series u)
-    ↔ IsMoment (first_moment core plan.start) (period_of plan.repeat) (last_moment core (first_moment core plan.start) plan.repeat) u
-begun_serves core plan u = fires_as_said (begin_series core plan.start plan.repeat) u
+    ↔ IsMoment (core.moment + plan.after) plan.period (last_moment core (core.moment + plan.after) plan.end) u
+begun_serves core plan u = fires_as_said (begin_series core plan) u
 
 -- after no time is now
 pub after_no_time : (core : Core) → core.moment < 2 ^ 64 → IsTrue (serves_if core (Some (planned core (After (pos 0)) Once)))
@@ -167,6 +168,16 @@ at_this_time core time near small is =
     let later = next.later in
     (plan_serves core (At time) Once core.moment (λ waits. waits)).1 ((0, omega (arith, up, later)), omega (arith, near))
 
+-- a plan at the time of day that it is begins now
+pub planned_at_this_time : (core : Core) (time : ℕ) (repeat : Repeat) → time < 86400000 → time_at core core.moment ≡ time →
+    planned core (At time) repeat ≡ planned core Free repeat
+planned_at_this_time core time repeat small is =
+    let next = next_time core time core.moment small in
+    let up = next.least core.moment (omega arith) is in
+    let later = next.later in
+    let now : first_moment core (At time) ≡ first_moment core Free = omega (arith, up, later) in
+    ap (λ first. let p : Plan = record (written Free repeat) { series = Some (series_from core first (written Free repeat)) } in p) now
+
 -- INTERRUPTS
 
 pub masked_tells : (core : Core) (device : ℕ) → is_enabled core device ≡ false → interrupted core device ≡ note core (event.Masked device)
@@ -175,16 +186,24 @@ masked_tells core device off = ap (λ b. if b then occurred core device else not
 -- INTERRUPTS
 
 -- for which interrupt a plan waits
-pub plan_waits : (interrupt : ℕ) (start : Start) → IsTrue (waits_for interrupt start) ↔ IsWrittenWith interrupt start
-plan_waits interrupt start = (written start, waiting)
+pub plan_waits : (interrupt : ℕ) (when : Option ℕ) → IsTrue (waits_for interrupt when) ↔ (when ≡ Some interrupt)
+plan_waits interrupt when = (named when, λ is. ap (waits_for interrupt) is ∙ eq-eqb interrupt interrupt refl)
   where
-    written : (s : Start) → IsTrue (waits_for interrupt s) → IsWrittenWith interrupt s
-    written Free is = absurd (true≢false (sym is))
-    written (At time) is = absurd (true≢false (sym is))
-    written (After time) is = absurd (true≢false (sym is))
-    written (When other) is = inl (ap When (sym (eqb-true interrupt other is)))
-    written (WhenAfter other time) is = inr (time, ap (λ i. WhenAfter i time) (sym (eqb-true interrupt other is)))
+    named : (when : Option ℕ) → IsTrue (waits_for interrupt when) → when ≡ Some interrupt
+    named None is = absurd (true≢false (sym is))
+    named (Some other) is = ap Some (sym (eqb-true interrupt other is))
 
-    waiting : IsWrittenWith interrupt start → IsTrue (waits_for interrupt start)
-    waiting (inl is) = ap (waits_for interrupt) is ∙ eq-eqb interrupt interrupt refl
-    waiting (inr (time, is)) = ap (waits_for interrupt) is ∙ eq-eqb interrupt interrupt refl
+-- and for which one as it is written
+pub written_waits : (interrupt : ℕ) (start : Start) → (interrupt_of start ≡ Some interrupt) ↔ IsWrittenWith interrupt start
+written_waits interrupt start = (from start, back)
+  where
+    from : (s : Start) → interrupt_of s ≡ Some interrupt → IsWrittenWith interrupt s
+    from Free is = absurd (none-some interrupt is)
+    from (At time) is = absurd (none-some interrupt is)
+    from (After time) is = absurd (none-some interrupt is)
+    from (When other) is = inl (ap When (same_Some other interrupt is))
+    from (WhenAfter other time) is = inr (time, ap (λ i. WhenAfter i time) (same_Some other interrupt is))
+
+    back : IsWrittenWith interrupt start → interrupt_of start ≡ Some interrupt
+    back (inl is) = ap interrupt_of is
+    back (inr (time, is)) = ap interrupt_of is

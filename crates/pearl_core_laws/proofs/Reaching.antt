@@ -1,10 +1,9 @@
 -- Which tasks an interrupt that is let through reaches, and how they stand then.
-use Rattle.std.proofs.Common.{◌≡◌, ℕ, zero, suc, ◌+◌, ◌^◌, ◌<◌, ◌≤◌, pos, inl, inr, List, [], ◌∷◌, ◌++◌, Bool, true, false, ◌&&◌, if◌then◌else◌, Option, Some, None, option_map, slice_get, refl, sym, ap, ap₂, subst, ◌∙◌, append_assoc, add-zero, zero-add, arith}
+use Rattle.std.proofs.Common.{◌≡◌, ℕ, zero, suc, ◌+◌, ◌^◌, ◌<◌, ◌≤◌, ◌≢◌, List, [], ◌∷◌, ◌++◌, Bool, true, false, ◌&&◌, if◌then◌else◌, Option, Some, None, option_map, slice_get, refl, sym, ap, ap₂, subst, ◌∙◌, append_assoc, add-zero, zero-add, arith}
 use Rattle.std.proofs.lemmas.Bool.{true≢false}
 use Rattle.std.proofs.lemmas.Option.{none-some, same_Some, slice_get-map}
-use Rattle.pearl_rules.specs.declared.action.Start.TheVariants.{WhenAfter}
-use Rattle.pearl_rules.specs.declared.action.Repeat.{Repeat}
-use Rattle.pearl_rules.specs.declared.action.Repeat.TheVariants.{Once, All, Until, During}
+use Rattle.pearl_rules.specs.declared.row.End.{End}
+use Rattle.pearl_rules.specs.declared.row.End.TheVariants as end
 use Rattle.pearl_rules.specs.declared.entry.Entry.TheVariants.{Irpt}
 use Rattle.pearl_rules.specs.declared.event.Event.{Event}
 use Rattle.pearl_rules.specs.declared.event.Event.TheVariants as event
@@ -14,80 +13,59 @@ use Rattle.pearl_rules.specs.declared.row.Activation.{Activation}
 use Rattle.pearl_rules.specs.declared.row.Plan.{Plan}
 use Rattle.pearl_rules.specs.declared.row.TaskRow.{TaskRow}
 use Rattle.pearl_rules.specs.Core.{Core, row_of, mode_of_row, mode_of}
-use Rattle.pearl_rules.specs.Plans.{milliseconds, first_moment, last_moment, begun, waits_for, serves_if, continuation_in, continuation_of, activation_in, activation_of}
+use Rattle.pearl_rules.specs.Plans.{last_moment, begun, waits_for, serves_if, continuation_in, continuation_of, activation_in, activation_of}
 use Rattle.pearl_rules.specs.Devices.{is_enabled, arrived}
 use Rattle.pearl_rules.specs.Laws.{happened_at}
-use Rattle.pearl_core_laws.specs.Plans.{IsWrittenWith, ServesAtOnce, IsUntouchedBy, IsTold, mode_after, start_events, plan_after, serves_after, goes_after, starts_after, continuation_after, activation_after, reached_row, reached_events}
+use Rattle.pearl_core_laws.specs.Plans.{ServesAtOnce, IsUntouchedBy, IsTold, mode_after, start_events, plan_after, serves_after, goes_after, starts_after, continuation_after, activation_after, reached_row, reached_events}
 use Rattle.pearl_core_laws.proofs.Steps.{mode_stays}
 use Rattle.pearl_core_laws.proofs.Planning.{plan_waits, begun_serves}
 use Rattle.pearl_core_laws.proofs.Rows.{happened_join, occurred_is}
 
 -- a plan ends no earlier than it begins
-ends_later : (core : Core) (first : ℕ) (repeat : Repeat) → first < 2 ^ 64 → first ≤ last_moment core first repeat
-ends_later core first Once near = omega (arith, near)
-ends_later core first (All period) near = omega (arith, near)
-ends_later core first (Until period time) near = omega arith
-ends_later core first (During period time) near = omega arith
+ends_later : (core : Core) (first : ℕ) (e : End) → first < 2 ^ 64 → first ≤ last_moment core first e
+ends_later core first end.Never near = omega (arith, near)
+ends_later core first (end.Until time) near = omega arith
+ends_later core first (end.During time) near = omega arith
 
 -- one that begins at its interrupt serves then
-serves_now : (core : Core) (device : ℕ) (plan : Plan) → core.moment < 2 ^ 64 → ServesAtOnce device plan.start →
-    serves_if core (Some (begun core plan)) ≡ true
-serves_now core device plan near at_once =
-    let first = first_now at_once in
-    let last = ends_later core core.moment plan.repeat near in
+serves_now : (core : Core) (plan : Plan) → core.moment < 2 ^ 64 → plan.after ≡ 0 → serves_if core (Some (begun core plan)) ≡ true
+serves_now core plan near none =
+    let first : core.moment + plan.after ≡ core.moment = omega (arith, none) in
+    let last = ends_later core core.moment plan.end near in
     (begun_serves core plan core.moment).1
-    ((0, omega (arith, first)), subst (λ m. core.moment ≤ last_moment core m plan.repeat) (sym first) last)
-  where
-    first_now : ServesAtOnce device plan.start → first_moment core plan.start ≡ core.moment
-    first_now (inl start) = ap (first_moment core) start
-    first_now (inr (time, start, none)) =
-        let first : first_moment core plan.start ≡ core.moment + milliseconds time = ap (first_moment core) start in
-        omega (arith, first, none)
+    ((0, omega (arith, none)), subst (λ m. core.moment ≤ last_moment core m plan.end) (sym first) last)
+
+-- where it serves then, it begins no time after it
+serves_soon : (core : Core) (plan : Plan) → serves_if core (Some (begun core plan)) ≡ true → plan.after ≡ 0
+serves_soon core plan is = let count = ((begun_serves core plan core.moment).0 is).0.1 in omega (arith, count)
 
 -- one that begins some time after it doesn't
-serves_not : (core : Core) (device n : ℕ) (plan : Plan) → plan.start ≡ WhenAfter device (pos n) → 0 < n →
-    serves_if core (Some (begun core plan)) ≡ false
-serves_not core device n plan start some = by_test (serves_if core (Some (begun core plan))) refl
+serves_not : (core : Core) (plan : Plan) → 0 < plan.after → serves_if core (Some (begun core plan)) ≡ false
+serves_not core plan some = by_test (serves_if core (Some (begun core plan))) refl
   where
-    first : first_moment core plan.start ≡ core.moment + n
-    first = ap (first_moment core) start
-
     by_test : (b : Bool) → serves_if core (Some (begun core plan)) ≡ b → b ≡ false
     by_test false is = refl
-    by_test true is =
-        let when = (begun_serves core plan core.moment).0 is in
-        let count = when.0.1 in
-        let no : ⊥ = omega (arith, first, some, count) in absurd no
+    by_test true is = let none = serves_soon core plan is in absurd (omega (arith, some, none))
 
--- a plan that isn't written with the interrupt doesn't wait for it
-waits_not : (device : ℕ) (plan : Plan) → (IsWrittenWith device plan.start → ⊥) → waits_for device plan.start ≡ false
-waits_not device plan other = by_test (waits_for device plan.start) refl
+-- a plan with another interrupt or none doesn't wait for this one
+waits_not : (device : ℕ) (plan : Plan) → plan.when ≢ Some device → waits_for device plan.when ≡ false
+waits_not device plan other = by_test (waits_for device plan.when) refl
   where
-    by_test : (b : Bool) → waits_for device plan.start ≡ b → b ≡ false
+    by_test : (b : Bool) → waits_for device plan.when ≡ b → b ≡ false
     by_test false is = refl
-    by_test true is = absurd (other ((plan_waits device plan.start).0 is))
+    by_test true is = absurd (other ((plan_waits device plan.when).0 is))
 
--- what waits for it and serves at once is written so
+-- what waits for it and serves at once begins no time after it
 both : (a b : Bool) → (a && b) ≡ true → (a ≡ true) × (b ≡ true)
 both true b is = (refl, is)
 both false b is = absurd (true≢false (sym is))
 
-at_once : (core : Core) (device : ℕ) (plan : Plan) → serves_after core device plan ≡ true →
-    ServesAtOnce device plan.start
+at_once : (core : Core) (device : ℕ) (plan : Plan) → serves_after core device plan ≡ true → ServesAtOnce device plan
 at_once core device plan is =
-    let tests = both (waits_for device plan.start) (serves_if core (Some (begun core plan))) is in
-    by_writing ((plan_waits device plan.start).0 tests.0) tests.1
-  where
-    by_writing : IsWrittenWith device plan.start → serves_if core (Some (begun core plan)) ≡ true →
-        ServesAtOnce device plan.start
-    by_writing (inl start) serves = inl start
-    by_writing (inr (time, start)) serves =
-        let first : first_moment core plan.start ≡ core.moment + milliseconds time = ap (first_moment core) start in
-        let when = (begun_serves core plan core.moment).0 serves in
-        let count = when.0.1 in
-        inr (time, start, omega (arith, first, count))
+    let tests = both (waits_for device plan.when) (serves_if core (Some (begun core plan))) is in
+    ((plan_waits device plan.when).0 tests.0, serves_soon core plan tests.1)
 
-serves_not_after : (core : Core) (device : ℕ) (plan : Plan) → (ServesAtOnce device plan.start → ⊥) →
+serves_not_after : (core : Core) (device : ℕ) (plan : Plan) → (ServesAtOnce device plan → ⊥) →
     serves_after core device plan ≡ false
 serves_not_after core device plan other = by_test (serves_after core device plan) refl
   where
@@ -140,18 +118,12 @@ module _ (core : Core) (device t : ℕ) (row : TaskRow) (enabled : is_enabled co
   mode_then = ap mode_of_row reached_at
 
   -- whether a plan that waits for it serves at once
-  serves_as : (plan : Plan) → IsWrittenWith device plan.start → (b : Bool) →
-      serves_if core (Some (begun core plan)) ≡ b →
+  serves_as : (plan : Plan) → plan.when ≡ Some device → (b : Bool) → serves_if core (Some (begun core plan)) ≡ b →
       serves_after core device plan ≡ b
-  serves_as plan written b serves = ap₂ (λ x y. x && y) ((plan_waits device plan.start).1 written) serves
+  serves_as plan waits b serves = ap₂ (λ x y. x && y) ((plan_waits device plan.when).1 waits) serves
 
-  serves_at_once : core.moment < 2 ^ 64 → (plan : Plan) → ServesAtOnce device plan.start →
-      serves_after core device plan ≡ true
-  serves_at_once near plan soon = serves_as plan (written soon) true (serves_now core device plan near soon)
-    where
-      written : ServesAtOnce device plan.start → IsWrittenWith device plan.start
-      written (inl start) = inl start
-      written (inr (time, start, none)) = inr (time, start)
+  serves_at_once : core.moment < 2 ^ 64 → (plan : Plan) → ServesAtOnce device plan → serves_after core device plan ≡ true
+  serves_at_once near plan soon = serves_as plan soon.0 true (serves_now core plan near soon.1)
 
   -- an active task that goes on or doesn't, whether or not it is to be started
   active_then : (goes : Bool) (starts : Option ℕ) (priority : ℕ) (suspended : Bool) →
@@ -172,7 +144,7 @@ module _ (core : Core) (device t : ℕ) (row : TaskRow) (enabled : is_enabled co
 
   pub goes_on_at : core.moment < 2 ^ 64 → (plan : Plan) (priority : ℕ) (suspended : Bool) →
       row.mode ≡ Active priority suspended →
-      row.continuation ≡ Some plan → ServesAtOnce device plan.start →
+      row.continuation ≡ Some plan → ServesAtOnce device plan →
       (mode_of (arrived core (Irpt device)) t ≡ Active priority false)
       × (continuation_of (arrived core (Irpt device)) t ≡ None)
   goes_on_at near plan priority suspended active planned soon =
@@ -184,7 +156,7 @@ module _ (core : Core) (device t : ℕ) (row : TaskRow) (enabled : is_enabled co
       )
 
   pub keeps_at : (priority : ℕ) (suspended : Bool) → row.mode ≡ Active priority suspended →
-      ((plan : Plan) → row.continuation ≡ Some plan → ServesAtOnce device plan.start → ⊥) →
+      ((plan : Plan) → row.continuation ≡ Some plan → ServesAtOnce device plan → ⊥) →
       mode_of (arrived core (Irpt device)) t ≡ Active priority suspended
   keeps_at priority suspended active other =
       active_at false priority suspended active (by_plan row.continuation refl)
@@ -193,19 +165,18 @@ module _ (core : Core) (device t : ℕ) (row : TaskRow) (enabled : is_enabled co
       by_plan None is = refl
       by_plan (Some plan) is = serves_not_after core device plan (other plan is)
 
-  pub begins_at : (plan : Plan) (n : ℕ) → row.continuation ≡ Some plan → plan.start ≡ WhenAfter device (pos n) → 0 < n →
+  pub begins_at : (plan : Plan) → row.continuation ≡ Some plan → plan.when ≡ Some device → 0 < plan.after →
       continuation_of (arrived core (Irpt device)) t ≡ Some (begun core plan)
-  begins_at plan n planned start some =
-      let written : IsWrittenWith device plan.start = inr (pos n, start) in
+  begins_at plan planned waits some =
       ap continuation_in reached_at
       ∙ ap (continuation_after core device) planned
       ∙ ap₂ (λ b waits. if b then None else Some (if waits then begun core plan else plan))
-      (serves_as plan written false (serves_not core device n plan start some))
-      ((plan_waits device plan.start).1 written)
+      (serves_as plan waits false (serves_not core plan some))
+      ((plan_waits device plan.when).1 waits)
 
   -- a plan of starts that serves at once
   starts_soon : core.moment < 2 ^ 64 → (activation : Activation) → row.activation ≡ Some activation →
-      ServesAtOnce device activation.plan.start →
+      ServesAtOnce device activation.plan →
       starts_after core device row.activation ≡ Some activation.priority
   starts_soon near activation planned soon =
       ap (starts_after core device) planned
@@ -225,7 +196,7 @@ module _ (core : Core) (device t : ℕ) (row : TaskRow) (enabled : is_enabled co
       }
 
   pub starts_at : core.moment < 2 ^ 64 → (activation : Activation) → row.mode ≡ Dormant →
-      row.activation ≡ Some activation → ServesAtOnce device activation.plan.start →
+      row.activation ≡ Some activation → ServesAtOnce device activation.plan →
       (mode_of (arrived core (Irpt device)) t ≡ Active activation.priority false)
       × IsTold core (arrived core (Irpt device)) (event.Start t activation.priority)
   starts_at near activation dormant planned soon =
@@ -236,32 +207,31 @@ module _ (core : Core) (device t : ℕ) (row : TaskRow) (enabled : is_enabled co
 
   pub overrun_at : core.moment < 2 ^ 64 → (activation : Activation) (priority : ℕ) (suspended : Bool) →
       row.mode ≡ Active priority suspended → row.activation ≡ Some activation →
-      ServesAtOnce device activation.plan.start → IsTold core (arrived core (Irpt device)) (event.Overrun t)
+      ServesAtOnce device activation.plan → IsTold core (arrived core (Irpt device)) (event.Overrun t)
   overrun_at near activation priority suspended active planned soon =
       told_at (event.Overrun t)
       (ap₂ (λ o mode. start_events t o mode) (starts_soon near activation planned soon) active)
 
-  pub later_at : (activation : Activation) (n : ℕ) → row.mode ≡ Dormant → row.activation ≡ Some activation →
-      activation.plan.start ≡ WhenAfter device (pos n) → 0 < n → mode_of (arrived core (Irpt device)) t ≡ Dormant
-  later_at activation n dormant planned start some =
+  pub later_at : (activation : Activation) → row.mode ≡ Dormant → row.activation ≡ Some activation →
+      activation.plan.when ≡ Some device → 0 < activation.plan.after → mode_of (arrived core (Irpt device)) t ≡ Dormant
+  later_at activation dormant planned waits some =
       mode_then
       ∙ ap₂ (λ starts mode. mode_after (goes_after core device row.continuation) starts mode)
       (ap (starts_after core device) planned
       ∙ ap (λ b. if b then Some activation.priority else None)
-      (serves_as activation.plan (inr (pos n, start)) false
-      (serves_not core device n activation.plan start some))) dormant
+      (serves_as activation.plan waits false (serves_not core activation.plan some))) dormant
 
   pub anew_at : (activation : Activation) → row.activation ≡ Some activation →
-      IsWrittenWith device activation.plan.start →
+      activation.plan.when ≡ Some device →
       activation_of (arrived core (Irpt device)) t ≡ Some (record activation { plan = begun core activation.plan })
-  anew_at activation planned written =
+  anew_at activation planned waits =
       ap activation_in reached_at
       ∙ ap (activation_after core device) planned
       ∙ ap (λ b. Some (record activation { plan = if b then begun core activation.plan else activation.plan }))
-      ((plan_waits device activation.plan.start).1 written)
+      ((plan_waits device activation.plan.when).1 waits)
 
   -- plans that don't wait for it
-  quiet_continuation : (o : Option Plan) → ((plan : Plan) → o ≡ Some plan → IsWrittenWith device plan.start → ⊥) →
+  quiet_continuation : (o : Option Plan) → ((plan : Plan) → o ≡ Some plan → plan.when ≢ Some device) →
       (goes_after core device o ≡ false) × (continuation_after core device o ≡ o)
   quiet_continuation None other = (refl, refl)
   quiet_continuation (Some plan) other =
@@ -272,7 +242,7 @@ module _ (core : Core) (device t : ℕ) (row : TaskRow) (enabled : is_enabled co
             (if b then begun core plan else plan)) quiet,
       )
 
-  quiet_activation : (o : Option Activation) → ((a : Activation) → o ≡ Some a → IsWrittenWith device a.plan.start → ⊥) →
+  quiet_activation : (o : Option Activation) → ((a : Activation) → o ≡ Some a → a.plan.when ≢ Some device) →
       (starts_after core device o ≡ None) × (activation_after core device o ≡ o)
   quiet_activation None other = (refl, refl)
   quiet_activation (Some a) other =

@@ -2,10 +2,8 @@
 use Rattle.std.proofs.Common.{◌≡◌, ℕ, zero, suc, ◌+◌, ◌-◌, ◌%◌, ◌≤◌, List, [], ◌∷◌, ◌++◌, Bool, true, false, ◌&&◌, if◌then◌else◌, Option, Some, None, map, length, slice_get, slice_set, refl, sym, ap, ap₂, ◌∙◌, append-nil, append_assoc, add-zero, zero-add, arith}
 use Rattle.std.proofs.lemmas.Option.{none-some, same_Some}
 use Rattle.pearl_rules.specs.Series.{fires_if}
-use Rattle.pearl_rules.specs.declared.action.Start.{Start}
-use Rattle.pearl_rules.specs.declared.action.Start.TheVariants.{Free, At, After, When, WhenAfter}
-use Rattle.pearl_rules.specs.declared.action.Repeat.{Repeat}
-use Rattle.pearl_rules.specs.declared.action.Repeat.TheVariants.{Once, All, Until, During}
+use Rattle.pearl_rules.specs.declared.row.End.{End}
+use Rattle.pearl_rules.specs.declared.row.End.TheVariants as end
 use Rattle.pearl_rules.specs.declared.event.Event.{Event}
 use Rattle.pearl_rules.specs.declared.row.Mode.{Mode}
 use Rattle.pearl_rules.specs.declared.row.Mode.TheVariants.{Dormant, Active}
@@ -13,7 +11,7 @@ use Rattle.pearl_rules.specs.declared.row.Plan.{Plan}
 use Rattle.pearl_rules.specs.declared.row.Activation.{Activation}
 use Rattle.pearl_rules.specs.declared.row.TaskRow.{TaskRow}
 use Rattle.pearl_rules.specs.Core.{Core, Happened, note, row_of, with_row}
-use Rattle.pearl_rules.specs.Plans.{day, next_at, milliseconds, first_moment, period_of, last_moment, continuation_in, activation_in, activation_of, begun, waits_for, serves_if, serve_activation, plan_continuation, plan_activation, each_task, served, millisecond, begin_continuation, begin_activation, continuation_began, reached, occurred}
+use Rattle.pearl_rules.specs.Plans.{day, next_at, last_moment, series_from, continuation_in, activation_in, activation_of, begun, waits_for, serves_if, serve_activation, plan_continuation, plan_activation, each_task, served, millisecond, begin_continuation, begin_activation, continuation_began, reached, occurred}
 use Rattle.pearl_rules.specs.Devices.{is_enabled, interrupted}
 use Rattle.pearl_rules.specs.declared.event.Event.TheVariants as event
 use Rattle.pearl_rules.specs.Laws.{happened_at}
@@ -86,7 +84,7 @@ module _ (core : Core) (t : ℕ) (row : TaskRow) (at : row_of core t ≡ Some ro
 
         by_plan : (plan : Option Plan) → row.continuation ≡ plan → begin_continuation interrupt plan core t ≡ with_row core t (gone_row plan)
         by_plan None is = same None is
-        by_plan (Some plan) is = by_test (waits_for interrupt plan.start) plan is
+        by_plan (Some plan) is = by_test (waits_for interrupt plan.when) plan is
 
     activation_began_is : begin_activation interrupt (activation_of core t) core t
         ≡ tells (with_row core t (record row {
@@ -117,7 +115,7 @@ module _ (core : Core) (t : ℕ) (row : TaskRow) (at : row_of core t ≡ Some ro
               activation = activation_after core interrupt plan;
             })) (start_events t (starts_after core interrupt plan) row.mode)
         by_plan None is = same None is
-        by_plan (Some plan) is = by_test (waits_for interrupt plan.plan.start) plan is
+        by_plan (Some plan) is = by_test (waits_for interrupt plan.plan.when) plan is
 
 -- an interrupt reaches a task
 reached_is : (core : Core) (t : ℕ) (row : TaskRow) → row_of core t ≡ Some row → (interrupt : ℕ) → reached interrupt core t
@@ -266,29 +264,20 @@ module _ (now core : Core) (moment : now.moment ≡ core.moment) (clock : now.cl
   same_next : (time from : ℕ) → next_at now time from ≡ next_at core time from
   same_next time from = ap (λ start. from + (time + (day - (start + from) % day)) % day) clock
 
-  same_first : (start : Start) → first_moment now start ≡ first_moment core start
-  same_first Free = moment
-  same_first (At time) = same_next time now.moment ∙ ap (next_at core time) moment
-  same_first (After time) = ap (λ m. m + milliseconds time) moment
-  same_first (When interrupt) = moment
-  same_first (WhenAfter interrupt time) = ap (λ m. m + milliseconds time) moment
-
-  same_last : (first : ℕ) (repeat : Repeat) → last_moment now first repeat ≡ last_moment core first repeat
-  same_last first Once = refl
-  same_last first (All period) = refl
-  same_last first (Until period time) = same_next time first
-  same_last first (During period time) = refl
+  same_last : (first : ℕ) (e : End) → last_moment now first e ≡ last_moment core first e
+  same_last first end.Never = refl
+  same_last first (end.Until time) = same_next time first
+  same_last first (end.During time) = refl
 
   same_begun : (plan : Plan) → begun now plan ≡ begun core plan
   same_begun plan =
-      ap (λ first. record plan { series = Some (record { first = first; period = period_of plan.repeat; last = last_moment now first plan.repeat }) })
-      (same_first plan.start)
-      ∙ ap (λ last. record plan { series = Some (record { first = first_moment core plan.start; period = period_of plan.repeat; last = last }) })
-      (same_last (first_moment core plan.start) plan.repeat)
+      ap (λ m. record plan { series = Some (series_from now (m + plan.after) plan) }) moment
+      ∙ ap (λ last. record plan { series = Some (record { first = core.moment + plan.after; period = plan.period; last = last }) })
+      (same_last (core.moment + plan.after) plan.end)
 
   -- and the same serve
   same_after : (interrupt : ℕ) (plan : Plan) → serves_after now interrupt plan ≡ serves_after core interrupt plan
-  same_after interrupt plan = ap₂ (λ begins m. waits_for interrupt plan.start && fires_if begins.series m) (same_begun plan) moment
+  same_after interrupt plan = ap₂ (λ begins m. waits_for interrupt plan.when && fires_if begins.series m) (same_begun plan) moment
 
   same_row_after : (interrupt : ℕ) (row : TaskRow) → reached_row now interrupt row ≡ reached_row core interrupt row
   same_row_after interrupt row = cc (goes row.continuation, starts row.activation, continues row.continuation, activates row.activation)
@@ -300,12 +289,12 @@ module _ (now core : Core) (moment : now.moment ≡ core.moment) (clock : now.cl
       continues : (plan : Option Plan) → continuation_after now interrupt plan ≡ continuation_after core interrupt plan
       continues None = refl
       continues (Some plan) =
-          ap₂ (λ b begins. if b then None else Some (if waits_for interrupt plan.start then begins else plan)) (same_after interrupt plan) (same_begun plan)
+          ap₂ (λ b begins. if b then None else Some (if waits_for interrupt plan.when then begins else plan)) (same_after interrupt plan) (same_begun plan)
 
       activates : (plan : Option Activation) → activation_after now interrupt plan ≡ activation_after core interrupt plan
       activates None = refl
       activates (Some activation) =
-          ap (λ begins. Some (record activation { plan = if waits_for interrupt activation.plan.start then begins else activation.plan }))
+          ap (λ begins. Some (record activation { plan = if waits_for interrupt activation.plan.when then begins else activation.plan }))
           (same_begun activation.plan)
 
       starts : (plan : Option Activation) → starts_after now interrupt plan ≡ starts_after core interrupt plan

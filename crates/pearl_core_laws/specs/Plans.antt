@@ -16,7 +16,7 @@ use Rattle.pearl_rules.specs.declared.row.Plan.{Plan}
 use Rattle.pearl_rules.specs.declared.row.Activation.{Activation}
 use Rattle.pearl_rules.specs.declared.row.TaskRow.{TaskRow}
 use Rattle.pearl_rules.specs.Core.{Core, Report, Happened, Channel, Values, row_of}
-use Rattle.pearl_rules.specs.Plans.{milliseconds, time_at, planned, begun, waits_for, serves_if}
+use Rattle.pearl_rules.specs.Plans.{time_at, planned, begun, waits_for, serves_if}
 use Rattle.pearl_rules.specs.Devices.{channel_of}
 use Rattle.pearl_rules.specs.Effect.{Effect, Ends, priority_or_declared}
 use Rattle.pearl_rules.specs.Laws.{happened_at}
@@ -43,15 +43,14 @@ Waits other = ⊥
 abbrev pub IsWrittenWith : (interrupt : ℕ) → Start → Type 0
 IsWrittenWith interrupt start = (start ≡ When interrupt) ⊎ ((time : ℤ) × (start ≡ WhenAfter interrupt time))
 
--- it is written with this interrupt, without a time after it or with one of no length
-abbrev pub ServesAtOnce : (interrupt : ℕ) → Start → Type 0
-ServesAtOnce interrupt start =
-    (start ≡ When interrupt) ⊎ ((time : ℤ) × (start ≡ WhenAfter interrupt time) × (milliseconds time ≡ 0))
+-- the plan waits for this interrupt, and its first moment comes no time after it
+abbrev pub ServesAtOnce : (interrupt : ℕ) → Plan → Type 0
+ServesAtOnce interrupt plan = (plan.when ≡ Some interrupt) × (plan.after ≡ 0)
 
--- neither of the task's plans is written with this interrupt
+-- neither of the task's plans waits for this interrupt
 pub record IsUntouchedBy (interrupt : ℕ) (row : TaskRow) : Type 0 where
-  pub goes_on : (plan : Plan) → row.continuation ≡ Some plan → IsWrittenWith interrupt plan.start → ⊥
-  pub starts : (activation : Activation) → row.activation ≡ Some activation → IsWrittenWith interrupt activation.plan.start → ⊥
+  pub goes_on : (plan : Plan) → row.continuation ≡ Some plan → plan.when ≢ Some interrupt
+  pub starts : (activation : Activation) → row.activation ≡ Some activation → activation.plan.when ≢ Some interrupt
 
 -- WHAT IS TOLD
 
@@ -128,11 +127,11 @@ served_events core t (row ∷ rows) =
 
 -- the plan after an interrupt occurred: one that waits for it begins a new series
 abbrev pub plan_after : Core → (interrupt : ℕ) → Plan → Plan
-plan_after core interrupt plan = if waits_for interrupt plan.start then begun core plan else plan
+plan_after core interrupt plan = if waits_for interrupt plan.when then begun core plan else plan
 
 -- whether it serves at once
 abbrev pub serves_after : Core → (interrupt : ℕ) → Plan → Bool
-serves_after core interrupt plan = waits_for interrupt plan.start && serves_if core (Some (begun core plan))
+serves_after core interrupt plan = waits_for interrupt plan.when && serves_if core (Some (begun core plan))
 
 abbrev pub goes_after : Core → (interrupt : ℕ) → Option Plan → Bool
 goes_after core interrupt None = false

@@ -1,7 +1,6 @@
 // Laws of what comes in: what `clock` and `irpt` do by themselves, whoever could act.
 
-ghost use Rattle.std.specs.Prelude.{◌≡◌, ℕ, ◌^◌, ◌<◌, pos, Bool, true, false, Some, None};
-ghost use Rattle.pearl_rules.specs.declared.action.Start.TheVariants.{WhenAfter};
+ghost use Rattle.std.specs.Prelude.{◌≡◌, ℕ, ◌^◌, ◌<◌, Bool, true, false, Some, None};
 ghost use Rattle.pearl_rules.specs.declared.entry.Entry.TheVariants.{Clock, Irpt};
 ghost use Rattle.pearl_rules.specs.declared.event.Event.TheVariants as event;
 ghost use Rattle.pearl_rules.specs.declared.row.Mode.TheVariants.{Dormant, Active};
@@ -11,7 +10,7 @@ ghost use Rattle.pearl_rules.specs.declared.row.TaskRow.{TaskRow};
 ghost use Rattle.pearl_rules.specs.Core.{Core, row_of, mode_of};
 ghost use Rattle.pearl_rules.specs.Devices.{is_enabled, arrived};
 ghost use Rattle.pearl_rules.specs.Plans.{time_at, begun, continuation_of, activation_of};
-ghost use Rattle.pearl_core_laws.specs.Plans.{IsWrittenWith, ServesAtOnce, IsUntouchedBy, IsTold};
+ghost use Rattle.pearl_core_laws.specs.Plans.{ServesAtOnce, IsUntouchedBy, IsTold};
 
 /// `clock` says the time of day at moment 0, and changes nothing else.
 pub fn clocks_say_the_time_of_day()
@@ -28,33 +27,33 @@ pub fn clocks_say_the_time_of_day()
 pub fn interrupts_serve_those_that_wait()
     ensures goes_on { (core : Core) (device t : ℕ) (row : TaskRow) → is_enabled core device ≡ true → row_of core t ≡ Some row →
         core.moment < 2 ^ 64 → (plan : Plan) (priority : ℕ) (suspended : Bool) → row.mode ≡ Active priority suspended →
-        row.continuation ≡ Some plan → ServesAtOnce device plan.start →
+        row.continuation ≡ Some plan → ServesAtOnce device plan →
         (mode_of (arrived core (Irpt device)) t ≡ Active priority false) × (continuation_of (arrived core (Irpt device)) t ≡ None) }
     ensures starts { (core : Core) (device t : ℕ) (row : TaskRow) → is_enabled core device ≡ true → row_of core t ≡ Some row →
         core.moment < 2 ^ 64 → (activation : Activation) → row.mode ≡ Dormant → row.activation ≡ Some activation →
-        ServesAtOnce device activation.plan.start →
+        ServesAtOnce device activation.plan →
         (mode_of (arrived core (Irpt device)) t ≡ Active activation.priority false)
         × IsTold core (arrived core (Irpt device)) (event.Start t activation.priority) }
     ensures overruns { (core : Core) (device t : ℕ) (row : TaskRow) → is_enabled core device ≡ true →
         row_of core t ≡ Some row →
         core.moment < 2 ^ 64 → (activation : Activation) (priority : ℕ) (suspended : Bool) →
         row.mode ≡ Active priority suspended → row.activation ≡ Some activation →
-        ServesAtOnce device activation.plan.start → IsTold core (arrived core (Irpt device)) (event.Overrun t) }
+        ServesAtOnce device activation.plan → IsTold core (arrived core (Irpt device)) (event.Overrun t) }
     ensures keeps { (core : Core) (device t : ℕ) (row : TaskRow) → is_enabled core device ≡ true →
         row_of core t ≡ Some row →
         (priority : ℕ) (suspended : Bool) → row.mode ≡ Active priority suspended →
-        ((plan : Plan) → row.continuation ≡ Some plan → ServesAtOnce device plan.start → ⊥) →
+        ((plan : Plan) → row.continuation ≡ Some plan → ServesAtOnce device plan → ⊥) →
         mode_of (arrived core (Irpt device)) t ≡ Active priority suspended }
     ensures begins { (core : Core) (device t : ℕ) (row : TaskRow) → is_enabled core device ≡ true →
         row_of core t ≡ Some row →
-        (plan : Plan) (n : ℕ) → row.continuation ≡ Some plan → plan.start ≡ WhenAfter device (pos n) → 0 < n →
+        (plan : Plan) → row.continuation ≡ Some plan → plan.when ≡ Some device → 0 < plan.after →
         continuation_of (arrived core (Irpt device)) t ≡ Some (begun core plan) }
     ensures later { (core : Core) (device t : ℕ) (row : TaskRow) → is_enabled core device ≡ true → row_of core t ≡ Some row →
-        (activation : Activation) (n : ℕ) → row.mode ≡ Dormant → row.activation ≡ Some activation →
-        activation.plan.start ≡ WhenAfter device (pos n) → 0 < n →
+        (activation : Activation) → row.mode ≡ Dormant → row.activation ≡ Some activation →
+        activation.plan.when ≡ Some device → 0 < activation.plan.after →
         mode_of (arrived core (Irpt device)) t ≡ Dormant }
     ensures anew { (core : Core) (device t : ℕ) (row : TaskRow) → is_enabled core device ≡ true → row_of core t ≡ Some row →
-        (activation : Activation) → row.activation ≡ Some activation → IsWrittenWith device activation.plan.start →
+        (activation : Activation) → row.activation ≡ Some activation → activation.plan.when ≡ Some device →
         activation_of (arrived core (Irpt device)) t ≡ Some (record activation { plan = begun core activation.plan }) }
     ensures others { (core : Core) (device t : ℕ) (row : TaskRow) → is_enabled core device ≡ true → row_of core t ≡ Some row →
         IsUntouchedBy device row → row_of (arrived core (Irpt device)) t ≡ Some row }

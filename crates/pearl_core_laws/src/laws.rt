@@ -29,7 +29,7 @@ ghost use Rattle.pearl_rules.specs.Devices.{channel_of, is_enabled, interrupted,
 ghost use Rattle.pearl_rules.specs.Effect.{Hears, answering, is_at_once, effect};
 ghost use Rattle.pearl_rules.specs.Laws.{ChangesTask, happened_at};
 ghost use Rattle.pearl_rules.specs.Pick.{Offered, guard, is_eligible, pick, shown_of, states};
-ghost use Rattle.pearl_rules.specs.Plans.{time_at, first_moment, period_of, last_moment, planned, begun, serves_if, millisecond};
+ghost use Rattle.pearl_rules.specs.Plans.{time_at, first_moment, period_of, end_of, last_moment, begin_series, planned, begun, serves_if, millisecond};
 ghost use Rattle.pearl_rules.specs.Runs.{Acts, Turns, Tells, Supplier, Source, source_offers, source_next};
 ghost use Rattle.pearl_core_laws.specs.Plans.{IsNextTime, IsMoment, Waits, ChangesRow, ChangesChannel, start_events, starts_now, new_activation, with_new_activation, with_new_continuation, served_row, served_events, reached_row, reached_events};
 ghost use Rattle.pearl_core_laws.specs.Laws.{CanAct, ChangesSlot, MayWait, StandsAsDeclared};
@@ -202,12 +202,12 @@ pub fn resumed_tasks_go_on()
 pub fn plans_serve_at_their_moments()
     ensures serves { (core : Core) (start : Start) (repeat : Repeat) (u : ℕ) → (Waits start → ⊥) →
         IsTrue (fires_if (planned core start repeat).series u)
-        ↔ IsMoment (first_moment core start) (period_of repeat) (last_moment core (first_moment core start) repeat) u }
+        ↔ IsMoment (first_moment core start) (period_of repeat)
+        (last_moment core (first_moment core start) (end_of repeat)) u }
     ensures waits { (core : Core) (start : Start) (repeat : Repeat) (u : ℕ) → Waits start →
         fires_if (planned core start repeat).series u ≡ false }
     ensures begins { (core : Core) (plan : Plan) (u : ℕ) → IsTrue (fires_if (begun core plan).series u)
-        ↔ IsMoment (first_moment core plan.start) (period_of plan.repeat)
-        (last_moment core (first_moment core plan.start) plan.repeat) u }
+        ↔ IsMoment (core.moment + plan.after) plan.period (last_moment core (core.moment + plan.after) plan.end) u }
 {}
 
 /// A plan begins now, after its time, or at its time of day, and ends at a time of day from its first moment on or after a
@@ -216,15 +216,17 @@ pub fn plans_begin_and_end_as_written()
     ensures now { (core : Core) → first_moment core Free ≡ core.moment }
     ensures at { (core : Core) (time : ℕ) → time < 86400000 → IsNextTime core time core.moment (first_moment core (At time)) }
     ensures after { (core : Core) (n : ℕ) → first_moment core (After (pos n)) ≡ core.moment + n }
-    ensures occurs { (core : Core) (interrupt : ℕ) → first_moment core (When interrupt) ≡ core.moment }
-    ensures after_it { (core : Core) (interrupt n : ℕ) → first_moment core (WhenAfter interrupt (pos n)) ≡ core.moment + n }
+    ensures occurs { (made core : Core) (interrupt : ℕ) (repeat : Repeat) →
+        (begin_series core (planned made (When interrupt) repeat)).first ≡ core.moment }
+    ensures after_it { (made core : Core) (interrupt n : ℕ) (repeat : Repeat) →
+        (begin_series core (planned made (WhenAfter interrupt (pos n)) repeat)).first ≡ core.moment + n }
     ensures periods { (n m time : ℕ) → (period_of Once ≡ 0) × (period_of (All (pos n)) ≡ n) × (period_of (Until (pos n) time) ≡ n)
         × (period_of (During (pos n) (pos m)) ≡ n) }
-    ensures never_ends { (core : Core) (first n : ℕ) → (last_moment core first Once ≡ 2 ^ 64 - 1)
-        × (last_moment core first (All (pos n)) ≡ 2 ^ 64 - 1) }
+    ensures never_ends { (core : Core) (first n : ℕ) → (last_moment core first (end_of Once) ≡ 2 ^ 64 - 1)
+        × (last_moment core first (end_of (All (pos n))) ≡ 2 ^ 64 - 1) }
     ensures until { (core : Core) (first n time : ℕ) → time < 86400000 →
-        IsNextTime core time first (last_moment core first (Until (pos n) time)) }
-    ensures during { (core : Core) (first n m : ℕ) → last_moment core first (During (pos n) (pos m)) ≡ first + m }
+        IsNextTime core time first (last_moment core first (end_of (Until (pos n) time))) }
+    ensures during { (core : Core) (first n m : ℕ) → last_moment core first (end_of (During (pos n) (pos m))) ≡ first + m }
 {}
 
 /// In a millisecond the plans of all tasks serve that fire then, in order of declaration, and nothing else happens: a task

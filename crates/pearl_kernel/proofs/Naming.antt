@@ -15,6 +15,8 @@ use Rattle.pearl_rules.specs.declared.action.Repeat.{Repeat}
 use Rattle.pearl_rules.specs.declared.action.Repeat.TheVariants as repeat
 use Rattle.pearl_rules.specs.declared.entry.Entry.{Entry}
 use Rattle.pearl_rules.specs.declared.entry.Entry.TheVariants as come
+use Rattle.pearl_rules.specs.declared.row.End.{End}
+use Rattle.pearl_rules.specs.declared.row.End.TheVariants as end
 use Rattle.pearl_rules.specs.declared.row.TaskRow.{TaskRow}
 use Rattle.pearl_rules.specs.declared.setup.Device.{Device}
 use Rattle.pearl_rules.specs.declared.setup.Device.TheVariants as device
@@ -22,14 +24,14 @@ use Rattle.pearl_rules.specs.declared.setup.Setup.{Setup}
 use Rattle.pearl_rules.specs.Core.{Channel, Switch, Bytes, Values, Outward}
 use Rattle.pearl_rules.specs.Devices.{channel_of}
 use Rattle.pearl_rules.specs.Entries.{EntryFits, IsPrinted, ComesInAt}
-use Rattle.pearl_rules.specs.Slots.{Fits, IsLike, IsChannelOf, IsStart, IsOnce, IsLater, IsRepeat, IsPlan, IsPlannedRow}
+use Rattle.pearl_rules.specs.Slots.{Fits, IsLike, IsChannelOf, IsStart, IsOnce, IsLater, IsRepeat, IsEnd, IsPlan, IsPlannedRow}
 use Rattle.pearl_rules.specs.Tables.{IsInterrupt, IsReadable, input_kind}
 use Rattle.pearl_port.specs.Pending.{IsTyped}
 use Rattle.pearl_sema.specs.Waiting.{AreThere}
 use Rattle.pearl_kernel.specs.Channels.{HasSwitch, HasBytes, IsFor, HasValuesFor, ComesIn}
 use Rattle.pearl_kernel.specs.Kept.{Kept, IsLawful}
 use Rattle.pearl_kernel.specs.Names.{Names, NamesAll}
-use Rattle.pearl_kernel.specs.Timing.{IsTimelyStart, IsTimelyRepeat, IsTimelyPlan, IsTimelyRow, IsTimely}
+use Rattle.pearl_kernel.specs.Timing.{IsTimelyStart, IsTimelyRepeat, IsTimelyEnd, IsTimelyPlan, IsTimelyRow, IsTimely}
 
 -- WHAT IS NAMED IS THERE
 
@@ -162,16 +164,20 @@ repeat_timely (repeat.All period) is = is.1
 repeat_timely (repeat.Until period time) is = is.0.1
 repeat_timely (repeat.During period time) is = (is.0.1, is.1.1)
 
+end_timely : (e : End) → IsEnd e → IsTimelyEnd e
+end_timely end.Never is = tt
+end_timely (end.Until time) is = tt
+end_timely (end.During time) is = is
+
 if_some : {X : Type 0} (P Q : X → Type 0) → ((x : X) → P x → Q x) → (o : Option X) → IfSome o P → IfSome o Q
 if_some P Q then None p = tt
 if_some P Q then (Some x) p = then x p
 
 row_timely : (setup : Setup) (row : TaskRow) → IsPlannedRow setup row → IsTimelyRow row
 row_timely setup row is = (
-  if_some (IsPlan setup) IsTimelyPlan
-      (λ plan p. (start_timely setup plan.start p.0, repeat_timely plan.repeat p.1)) row.continuation is.0,
+  if_some (IsPlan setup) IsTimelyPlan (λ plan p. (p.after, end_timely plan.end p.end)) row.continuation is.0,
   if_some (λ a. IsPlan setup a.plan) (λ a. IsTimelyPlan a.plan)
-      (λ a p. (start_timely setup a.plan.start p.0, repeat_timely a.plan.repeat p.1)) row.activation is.1,
+      (λ a p. (p.after, end_timely a.plan.end p.end)) row.activation is.1,
 )
 
 rows_timely : (setup : Setup) (rows : List TaskRow) → AllByRecursion (IsPlannedRow setup) rows →

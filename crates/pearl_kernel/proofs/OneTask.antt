@@ -82,7 +82,7 @@ module _ (P : Core → Type 0) (u : ℕ) (closed : Closed P u) where
     where
       by_plan : (plan : Option Plan) → P (begin_continuation interrupt plan core u)
       by_plan None = p
-      by_plan (Some plan) = either P (waits_for interrupt plan.start) (plan_continuation core u (begun core plan)) core
+      by_plan (Some plan) = either P (waits_for interrupt plan.when) (plan_continuation core u (begun core plan)) core
           (plan_continuation-kept core (begun core plan) p) p
 
   activation_began-kept : (interrupt : ℕ) (core : Core) → P core →
@@ -93,7 +93,7 @@ module _ (P : Core → Type 0) (u : ℕ) (closed : Closed P u) where
       by_plan None = p
       by_plan (Some plan) =
           let new : Activation = record plan { plan = begun core plan.plan } in
-          either P (waits_for interrupt plan.plan.start) (plan_activation core u new) core
+          either P (waits_for interrupt plan.plan.when) (plan_activation core u new) core
           (plan_activation-kept core new p) p
 
   pub reached-kept : (interrupt : ℕ) (core : Core) → P core → P (reached interrupt core u)

@@ -191,7 +191,7 @@ module _ (interrupt : ℕ) (core : Core) (t : ℕ) (all : AllByRecursion IsTimel
 
       by_plan : (plan : Option Plan) → continuation_of core t ≡ plan → Keeps 0 core (begin_continuation interrupt plan core t)
       by_plan None e = keeps-same core
-      by_plan (Some plan) e = by_test plan (waits_for interrupt plan.start) e
+      by_plan (Some plan) e = by_test plan (waits_for interrupt plan.when) e
 
   pub keeps-begin_activation : Keeps 1 core (begin_activation interrupt (activation_of core t) core t)
   keeps-begin_activation = by_plan (activation_of core t) refl
@@ -205,7 +205,7 @@ module _ (interrupt : ℕ) (core : Core) (t : ℕ) (all : AllByRecursion IsTimel
       by_plan : (activation : Option Activation) → activation_of core t ≡ activation →
           Keeps 1 core (begin_activation interrupt activation core t)
       by_plan None e = keeps-more 0 1 core core (omega arith) (keeps-same core)
-      by_plan (Some activation) e = by_test activation (waits_for interrupt activation.plan.start) e
+      by_plan (Some activation) e = by_test activation (waits_for interrupt activation.plan.when) e
 
 pub keeps-reached : (interrupt : ℕ) (core : Core) (t : ℕ) → AllByRecursion IsTimelyRow core.tasks →
     Keeps 1 core (reached interrupt core t)

@@ -8,6 +8,8 @@ use Rattle.pearl_rules.specs.declared.action.Start.{Start}
 use Rattle.pearl_rules.specs.declared.action.Start.TheVariants.{Free, At, After, When, WhenAfter}
 use Rattle.pearl_rules.specs.declared.action.Repeat.{Repeat}
 use Rattle.pearl_rules.specs.declared.action.Repeat.TheVariants.{Once, All, Until, During}
+use Rattle.pearl_rules.specs.declared.row.End.{End}
+use Rattle.pearl_rules.specs.declared.row.End.TheVariants as end
 use Rattle.pearl_rules.specs.declared.row.Plan.{Plan}
 use Rattle.pearl_rules.specs.declared.row.Activation.{Activation}
 use Rattle.pearl_rules.specs.declared.row.TaskRow.{TaskRow}
@@ -55,9 +57,14 @@ IsTimelyRepeat (All period) = FitsSpan period
 IsTimelyRepeat (Until period time) = FitsSpan period
 IsTimelyRepeat (During period time) = FitsSpan period × FitsSpan time
 
+abbrev pub IsTimelyEnd : End → Type 0
+IsTimelyEnd end.Never = Unit {0}
+IsTimelyEnd (end.Until time) = Unit {0}
+IsTimelyEnd (end.During time) = time ≤ 2 ^ 40
+
 -- its lengths of time are at most 2^40 milliseconds
 abbrev pub IsTimelyPlan : Plan → Type 0
-IsTimelyPlan plan = IsTimelyStart plan.start × IsTimelyRepeat plan.repeat
+IsTimelyPlan plan = (plan.after ≤ 2 ^ 40) × IsTimelyEnd plan.end
 
 abbrev pub IsTimelyRow : TaskRow → Type 0
 IsTimelyRow row = IfSome row.continuation IsTimelyPlan × IfSome row.activation (λ activation. IsTimelyPlan activation.plan)

@@ -1,20 +1,20 @@
 // When the tasks' plans serve, and what comes of it.
 
 ghost use Rattle.std.specs.Prelude.{◌≡◌, ◌+◌, ◌^◌, ◌<◌, ◌≤◌, [], Some, length};
-ghost use Rattle.pearl_rules.specs.Plans.{time_at, next_at, milliseconds, first_moment, period_of, last_moment};
-ghost use Rattle.pearl_rules.specs.Plans.{begin_series, planned, first_series, begun, started, with_mark};
+ghost use Rattle.pearl_rules.specs.Plans.{time_at, next_at, milliseconds, interrupt_of, after_of, period_of, end_of};
+ghost use Rattle.pearl_rules.specs.Plans.{written, last_moment, series_from, begun, first_moment, planned, started, with_mark};
 ghost use Rattle.pearl_rules.specs.Plans.{with_continuation, with_activation, continued, serves_if, serve_continuation};
 ghost use Rattle.pearl_rules.specs.Plans.{serve_activation, plan_continuation, plan_activation, served, millisecond};
 ghost use Rattle.pearl_rules.specs.Plans.{waits_for, continuation_began, begin_activation, activation_of, reached, occurred};
 ghost use Rattle.pearl_rules.specs.Devices.{interrupted};
 ghost use Rattle.pearl_kernel.specs.Changes.{Stirs};
-ghost use Rattle.pearl_kernel.specs.Timing.{IsTimely, IsTimelyStart, IsTimelyRepeat, IsTimelyPlan};
+ghost use Rattle.pearl_kernel.specs.Timing.{IsTimely, IsTimelyStart, IsTimelyRepeat, IsTimelyEnd, IsTimelyPlan};
 
 use crate::changes::Changed;
 use crate::state::State;
 use pearl_rules::action::{Repeat, Start};
 use pearl_rules::event::Event;
-use pearl_rules::row::{Activation, Mode, Plan};
+use pearl_rules::row::{Activation, End, Mode, Plan};
 use pearl_rules::series::Series;
 
 // The milliseconds of a day.
@@ -83,73 +83,30 @@ impl State {
         moment + wait % DAY
     }
 
-    fn first_moment(&self, start: Start) -> u64
-        requires clock { self.now.core.clock < 86400000 }
-        requires near { self.now.core.moment ≤ 2 ^ 40 }
-        requires start { IsTimelyStart start }
-        ensures first { result ≡ first_moment self.now.core start }
-        ensures near { result ≤ 2 ^ 42 }
-    {
-        match start {
-            Start::Free | Start::When(_) => self.now(),
-            Start::At(time) => self.next_at(time, self.now()),
-            Start::After(time) => self.now() + milliseconds(time),
-            Start::WhenAfter(_, time) => self.now() + milliseconds(time),
-        }
-    }
-
-    fn last_moment(&self, first: u64, repeat: Repeat) -> u64
+    fn last_moment(&self, first: u64, end: End) -> u64
         requires clock { self.now.core.clock < 86400000 }
         requires near { first ≤ 2 ^ 42 }
-        requires repeat { IsTimelyRepeat repeat }
-        ensures { result ≡ last_moment self.now.core first repeat }
+        requires end { IsTimelyEnd end }
+        ensures { result ≡ last_moment self.now.core first end }
     {
-        match repeat {
-            Repeat::Once | Repeat::All(_) => u64::MAX,
-            Repeat::Until(_, time) => self.next_at(time, first),
-            Repeat::During(_, time) => first + milliseconds(time),
+        match end {
+            End::Never => u64::MAX,
+            End::Until(time) => self.next_at(time, first),
+            End::During(time) => first + time,
         }
     }
 
-    // The series that begins now.
-    fn begin_series(&self, start: Start, repeat: Repeat) -> Series
-        requires timely { IsTimely self.now.core }
-        requires plan { IsTimelyStart start × IsTimelyRepeat repeat }
-        ensures { result ≡ begin_series self.now.core start repeat }
+    // The series of a plan that has this first moment.
+    fn series_from(&self, first: u64, plan: Plan) -> Series
+        requires clock { self.now.core.clock < 86400000 }
+        requires near { first ≤ 2 ^ 42 }
+        requires plan { IsTimelyPlan plan }
+        ensures { result ≡ series_from self.now.core first plan }
     {
-        let first = self.first_moment(start);
         Series {
             first,
-            period: period_of(repeat),
-            last: self.last_moment(first, repeat),
-        }
-    }
-
-    // The series that a plan has at its making: none where it waits for an interrupt.
-    fn first_series(&self, start: Start, repeat: Repeat) -> Option<Series>
-        requires timely { IsTimely self.now.core }
-        requires plan { IsTimelyStart start × IsTimelyRepeat repeat }
-        ensures { result ≡ first_series self.now.core start repeat }
-    {
-        match start {
-            Start::When(_) | Start::WhenAfter(..) => None,
-            Start::Free | Start::At(_) | Start::After(_) => {
-                Some(self.begin_series(start, repeat))
-            }
-        }
-    }
-
-    /// A plan that is made now.
-    pub fn planned(&self, start: Start, repeat: Repeat) -> Plan
-        requires timely { IsTimely self.now.core }
-        requires plan { IsTimelyStart start × IsTimelyRepeat repeat }
-        ensures { result ≡ planned self.now.core start repeat }
-    {
-        let series = self.first_series(start, repeat);
-        Plan {
-            start,
-            repeat,
-            series,
+            period: plan.period,
+            last: self.last_moment(first, plan.end),
         }
     }
 
@@ -159,8 +116,51 @@ impl State {
         requires plan { IsTimelyPlan plan }
         ensures { result ≡ begun self.now.core plan }
     {
-        let series = Some(self.begin_series(plan.start, plan.repeat));
+        let series = Some(self.series_from(self.now() + plan.after, plan));
         Plan { series, ..plan }
+    }
+
+    fn first_moment(&self, start: Start) -> u64
+        requires clock { self.now.core.clock < 86400000 }
+        requires near { self.now.core.moment ≤ 2 ^ 40 }
+        requires start { IsTimelyStart start }
+        ensures first { result ≡ first_moment self.now.core start }
+        ensures near { result ≤ 2 ^ 42 }
+    {
+        match start {
+            Start::At(time) => self.next_at(time, self.now()),
+            Start::Free | Start::When(_) => self.now(),
+            Start::After(time) | Start::WhenAfter(_, time) => self.now() + milliseconds(time),
+        }
+    }
+
+    /// A plan that is made now; its series begins at once, but where it waits for an interrupt.
+    pub fn planned(&self, start: Start, repeat: Repeat) -> Plan
+        requires timely { IsTimely self.now.core }
+        requires plan { IsTimelyStart start × IsTimelyRepeat repeat }
+        ensures { result ≡ planned self.now.core start repeat }
+    {
+        let plan = written(start, repeat);
+        let series = match plan.when {
+            None => Some(self.series_from(self.first_moment(start), plan)),
+            Some(_) => None,
+        };
+        Plan { series, ..plan }
+    }
+}
+
+// A plan as it is written.
+fn written(start: Start, repeat: Repeat) -> Plan
+    requires plan { IsTimelyStart start × IsTimelyRepeat repeat }
+    ensures written { result ≡ written start repeat }
+    ensures timely { IsTimelyPlan result }
+{
+    Plan {
+        when: interrupt_of(start),
+        after: after_of(start),
+        period: period_of(repeat),
+        end: end_of(repeat),
+        series: None,
     }
 }
 
@@ -171,23 +171,55 @@ fn milliseconds(time: i64) -> u64
     if time < 0 { 0 } else { time as u64 }
 }
 
+fn interrupt_of(start: Start) -> Option<u32>
+    ensures { result ≡ interrupt_of start }
+{
+    match start {
+        Start::When(interrupt) | Start::WhenAfter(interrupt, _) => Some(interrupt),
+        Start::Free | Start::At(_) | Start::After(_) => None,
+    }
+}
+
+fn after_of(start: Start) -> u64
+    requires start { IsTimelyStart start }
+    ensures value { result ≡ after_of start }
+    ensures near { result ≤ 2 ^ 40 }
+{
+    match start {
+        Start::After(time) | Start::WhenAfter(_, time) => milliseconds(time),
+        Start::Free | Start::At(_) | Start::When(_) => 0,
+    }
+}
+
 fn period_of(repeat: Repeat) -> u64
     ensures { result ≡ period_of repeat }
 {
     match repeat {
         Repeat::Once => 0,
-        Repeat::All(period) => milliseconds(period),
-        Repeat::Until(period, _) => milliseconds(period),
-        Repeat::During(period, _) => milliseconds(period),
+        Repeat::All(period) | Repeat::Until(period, _) | Repeat::During(period, _) => {
+            milliseconds(period)
+        }
     }
 }
 
-fn waits_for(interrupt: u32, start: Start) -> bool
-    ensures { result ≡ waits_for interrupt start }
+fn end_of(repeat: Repeat) -> End
+    requires repeat { IsTimelyRepeat repeat }
+    ensures value { result ≡ end_of repeat }
+    ensures timely { IsTimelyEnd result }
 {
-    match start {
-        Start::When(other) | Start::WhenAfter(other, _) => interrupt == other,
-        Start::Free | Start::At(_) | Start::After(_) => false,
+    match repeat {
+        Repeat::Once | Repeat::All(_) => End::Never,
+        Repeat::Until(_, time) => End::Until(time),
+        Repeat::During(_, time) => End::During(milliseconds(time)),
+    }
+}
+
+fn waits_for(interrupt: u32, when: Option<u32>) -> bool
+    ensures { result ≡ waits_for interrupt when }
+{
+    match when {
+        None => false,
+        Some(other) => interrupt == other,
     }
 }
 
@@ -353,7 +385,7 @@ impl State {
         let Some(plan) = self.row(task).continuation else {
             return;
         };
-        if waits_for(interrupt, plan.start) {
+        if waits_for(interrupt, plan.when) {
             self.plan_continuation(task, self.begun(plan));
         }
     }
@@ -369,7 +401,7 @@ impl State {
         let Some(activation) = self.row(task).activation else {
             return;
         };
-        if waits_for(interrupt, activation.plan.start) {
+        if waits_for(interrupt, activation.plan.when) {
             let plan = self.begun(activation.plan);
             self.plan_activation(task, Activation { plan, ..activation });
         }

@@ -250,7 +250,7 @@ module _ (Urgent : ℕ → Type 0) (Lawful : Plan → Type 0) (P : Core → Type
       by_plan : (plan : Option Plan) → IfSome plan Lawful → P (begin_continuation interrupt plan core t)
       by_plan None lawful = p
       by_plan (Some plan) lawful =
-          either P (waits_for interrupt plan.start) (plan_continuation core t (begun core plan)) core
+          either P (waits_for interrupt plan.when) (plan_continuation core t (begun core plan)) core
           (plan_continuation-kept core t (begun core plan) (closed.begins core plan lawful) p) p
 
   activation_began-kept : (interrupt : ℕ) (core : Core) (t : ℕ) → P core → P (begin_activation interrupt (activation_of core t) core t)
@@ -259,7 +259,7 @@ module _ (Urgent : ℕ → Type 0) (Lawful : Plan → Type 0) (P : Core → Type
       by_plan : (plan : Option Activation) → IfSome plan (Starts Urgent Lawful) → P (begin_activation interrupt plan core t)
       by_plan None lawful = p
       by_plan (Some plan) lawful =
-          either P (waits_for interrupt plan.plan.start) (plan_activation core t (record plan { plan = begun core plan.plan })) core
+          either P (waits_for interrupt plan.plan.when) (plan_activation core t (record plan { plan = begun core plan.plan })) core
           (plan_activation-kept core t (record plan { plan = begun core plan.plan })
           (λ row at. (lawful.0, closed.begins core plan.plan lawful.1)) p) p
 

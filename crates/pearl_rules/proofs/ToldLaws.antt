@@ -11,7 +11,7 @@ use Rattle.pearl_rules.specs.declared.action.Action.TheVariants as action
 use Rattle.pearl_rules.specs.declared.action.Start.{Start}
 use Rattle.pearl_rules.specs.declared.action.Start.TheVariants.{Free, At, After, When, WhenAfter}
 use Rattle.pearl_rules.specs.declared.action.Repeat.{Repeat}
-use Rattle.pearl_rules.specs.declared.action.Repeat.TheVariants.{Once, All, Until, During}
+use Rattle.pearl_rules.specs.declared.action.Repeat.TheVariants.{Once}
 use Rattle.pearl_rules.specs.declared.action.Answer.{Answer}
 use Rattle.pearl_rules.specs.declared.action.Answer.TheVariants.{Nothing, One}
 use Rattle.pearl_rules.specs.declared.entry.Entry.{Entry}
@@ -20,12 +20,14 @@ use Rattle.pearl_rules.specs.declared.event.Event.{Event}
 use Rattle.pearl_rules.specs.declared.event.Event.TheVariants as event
 use Rattle.pearl_rules.specs.declared.row.Mode.{Mode}
 use Rattle.pearl_rules.specs.declared.row.Mode.TheVariants.{Dormant, Active}
+use Rattle.pearl_rules.specs.declared.row.End.{End}
+use Rattle.pearl_rules.specs.declared.row.End.TheVariants as end
 use Rattle.pearl_rules.specs.declared.row.Plan.{Plan}
 use Rattle.pearl_rules.specs.declared.row.Activation.{Activation}
 use Rattle.pearl_rules.specs.declared.row.TaskRow.{TaskRow}
 use Rattle.pearl_rules.specs.Core.{Core, Channel, Switch, Bytes, Values, Outward, Report, Happened, note, row_of, with_row, mode_of, is_active, told_before}
 use Rattle.pearl_rules.specs.Counts.{count_at, all_below_most}
-use Rattle.pearl_rules.specs.Plans.{on_row, changed_row, with_mode, with_continuation, with_activation, continuation_of, activation_of, started_by, started, marked_mode, with_mark, period_of, first_moment, last_moment, begin_series, waits_for, first_series, planned, begun, serves_if, continued, serve_continuation, serve_activation_by, serve_activation, plan_continuation, plan_activation, each_task, served, millisecond, begin_continuation, begin_activation, continuation_began, reached, occurred}
+use Rattle.pearl_rules.specs.Plans.{on_row, changed_row, with_mode, with_continuation, with_activation, continuation_of, activation_of, started_by, started, marked_mode, with_mark, written, first_moment, last_moment, series_from, waits_for, first_series, planned, begun, serves_if, continued, serve_continuation, serve_activation_by, serve_activation, plan_continuation, plan_activation, each_task, served, millisecond, begin_continuation, begin_activation, continuation_began, reached, occurred}
 use Rattle.pearl_rules.specs.Devices.{channel_of, with_channel, is_enabled, interrupted, items_of, bytes_at, terminal_room, with_bytes, without_bytes, values_at, input_room, joined, with_value_by, with_value, without_value_by, without_value, arrived}
 use Rattle.pearl_rules.specs.Scan.{Scanned, Short, Bad, Got, scan}
 use Rattle.pearl_rules.specs.Effect.{Reply, Ends, Effect, effect, finished, answering, ending, priority_or_declared, is_at_once, activated, continues, resuming, prevented, stopped_by, stopped_tasks, reply_if_other, stopping, releasing, trying, getting, taking}
@@ -78,37 +80,29 @@ module _ (before : List (ℕ × Report)) where
 
   -- PLANS
 
-  first_moment-told : (core : Core) (start : Start) → first_moment (later core) start ≡ first_moment core start
-  first_moment-told core Free = refl
-  first_moment-told core (At time) = refl
-  first_moment-told core (After time) = refl
-  first_moment-told core (When interrupt) = refl
-  first_moment-told core (WhenAfter interrupt time) = refl
+  last_moment-told : (core : Core) (first : ℕ) (e : End) → last_moment (later core) first e ≡ last_moment core first e
+  last_moment-told core first end.Never = refl
+  last_moment-told core first (end.Until time) = refl
+  last_moment-told core first (end.During time) = refl
 
-  last_moment-told : (core : Core) (first : ℕ) (repeat : Repeat) → last_moment (later core) first repeat ≡ last_moment core first repeat
-  last_moment-told core first Once = refl
-  last_moment-told core first (All period) = refl
-  last_moment-told core first (Until period time) = refl
-  last_moment-told core first (During period time) = refl
-
-  series-told : (core : Core) (start : Start) (repeat : Repeat) → begin_series (later core) start repeat ≡ begin_series core start repeat
-  series-told core start repeat =
-      ap₂ (λ first last. let s : Series = record { first = first; period = period_of repeat; last = last } in s) (first_moment-told core start)
-      (ap (λ first. last_moment (later core) first repeat) (first_moment-told core start) ∙ last_moment-told core (first_moment core start) repeat)
+  series-told : (core : Core) (first : ℕ) (plan : Plan) → series_from (later core) first plan ≡ series_from core first plan
+  series-told core first plan =
+      ap (λ last. let s : Series = record { first = first; period = plan.period; last = last } in s) (last_moment-told core first plan.end)
 
   first_series-told : (core : Core) (start : Start) (repeat : Repeat) → first_series (later core) start repeat ≡ first_series core start repeat
-  first_series-told core Free repeat = ap Some (series-told core Free repeat)
-  first_series-told core (At time) repeat = ap Some (series-told core (At time) repeat)
-  first_series-told core (After time) repeat = ap Some (series-told core (After time) repeat)
+  first_series-told core Free repeat = ap Some (series-told core (first_moment core Free) (written Free repeat))
+  first_series-told core (At time) repeat = ap Some (series-told core (first_moment core (At time)) (written (At time) repeat))
+  first_series-told core (After time) repeat = ap Some (series-told core (first_moment core (After time)) (written (After time) repeat))
   first_series-told core (When interrupt) repeat = refl
   first_series-told core (WhenAfter interrupt time) repeat = refl
 
   planned-told : (core : Core) (start : Start) (repeat : Repeat) → planned (later core) start repeat ≡ planned core start repeat
   planned-told core start repeat =
-      ap (λ series. let p : Plan = record { start = start; repeat = repeat; series = series } in p) (first_series-told core start repeat)
+      ap (λ series. let p : Plan = record (written start repeat) { series = series } in p) (first_series-told core start repeat)
 
   begun-told : (core : Core) (plan : Plan) → begun (later core) plan ≡ begun core plan
-  begun-told core plan = ap (λ series. let p : Plan = record plan { series = Some series } in p) (series-told core plan.start plan.repeat)
+  begun-told core plan =
+      ap (λ series. let p : Plan = record plan { series = Some series } in p) (series-told core (core.moment + plan.after) plan)
 
   serves-told : (core : Core) (plan : Option Plan) → serves_if (later core) plan ≡ serves_if core plan
   serves-told core None = refl
@@ -162,7 +156,7 @@ module _ (before : List (ℕ × Report)) where
       by_plan : (plan : Option Plan) → begin_continuation interrupt plan (later core) t ≡ later (begin_continuation interrupt plan core t)
       by_plan None = refl
       by_plan (Some plan) =
-          either-told (waits_for interrupt plan.start) (plan_continuation core t (begun core plan)) core
+          either-told (waits_for interrupt plan.when) (plan_continuation core t (begun core plan)) core
           (plan_continuation (later core) t (begun (later core) plan)) (later core)
           (ap (λ p. plan_continuation (later core) t p) (begun-told core plan) ∙ plan_continuation-told core t (begun core plan)) refl
 
@@ -173,7 +167,7 @@ module _ (before : List (ℕ × Report)) where
       by_plan : (plan : Option Activation) → begin_activation interrupt plan (later core) t ≡ later (begin_activation interrupt plan core t)
       by_plan None = refl
       by_plan (Some plan) =
-          either-told (waits_for interrupt plan.plan.start) (plan_activation core t (record plan { plan = begun core plan.plan })) core
+          either-told (waits_for interrupt plan.plan.when) (plan_activation core t (record plan { plan = begun core plan.plan })) core
           (plan_activation (later core) t (record plan { plan = begun (later core) plan.plan })) (later core)
           (ap (λ p. plan_activation (later core) t (record plan { plan = p })) (begun-told core plan.plan)
           ∙ plan_activation-told core t (record plan { plan = begun core plan.plan })) refl

@@ -1,25 +1,32 @@
 -- The priorities of tasks: the declared ones stay, and all are from 1 to 255; and each plan is a lawful one.
-use Rattle.std.proofs.Common.{◌≡◌, ℕ, ◌<◌, List, [], ◌∷◌, Bool, true, false, Option, Some, None, IfSome, map, refl, sym, ap, subst, ◌∙◌, arith}
+use Rattle.std.proofs.Common.{◌≡◌, ℕ, ◌^◌, ◌<◌, ◌≤◌, ℤ, pos, negsuc, slice_get, List, [], ◌∷◌, Bool, true, false, Option, Some, None, IfSome, map, refl, sym, ap, subst, ◌∙◌, arith}
+use Rattle.std.proofs.lemmas.Int.{ints}
 use Rattle.std.specs.List.{AllByRecursion}
 use Rattle.pearl_rules.specs.declared.action.Action.{Action}
 use Rattle.pearl_rules.specs.declared.action.Action.TheVariants as action
 use Rattle.pearl_rules.specs.declared.action.Start.{Start}
 use Rattle.pearl_rules.specs.declared.action.Start.TheVariants as start
+use Rattle.pearl_rules.specs.declared.action.Repeat.{Repeat}
+use Rattle.pearl_rules.specs.declared.action.Repeat.TheVariants as repeat
+use Rattle.pearl_rules.specs.declared.action.Repeat.TheVariants.{Once}
 use Rattle.pearl_rules.specs.declared.entry.Entry.{Entry}
 use Rattle.pearl_rules.specs.declared.entry.Entry.TheVariants as entry
 use Rattle.pearl_rules.specs.declared.row.Mode.{Mode}
 use Rattle.pearl_rules.specs.declared.row.Mode.TheVariants.{Dormant, Active}
+use Rattle.pearl_rules.specs.declared.series.Series.{Series}
+use Rattle.pearl_rules.specs.declared.row.End.TheVariants as end
+use Rattle.pearl_rules.specs.declared.row.Plan.{Plan}
 use Rattle.pearl_rules.specs.declared.row.Activation.{Activation}
 use Rattle.pearl_rules.specs.declared.row.TaskRow.{TaskRow}
 use Rattle.pearl_rules.specs.declared.setup.Setup.{Setup}
 use Rattle.pearl_rules.specs.declared.setup.TaskEntry.{TaskEntry}
-use Rattle.pearl_rules.specs.Tables.{IsTaskEntry}
+use Rattle.pearl_rules.specs.Tables.{IsTaskEntry, IsInterrupt}
 use Rattle.pearl_rules.specs.Core.{Core, row_of, with_row, first_mode, first_row, declared_of, opening}
-use Rattle.pearl_rules.specs.Plans.{millisecond}
+use Rattle.pearl_rules.specs.Plans.{milliseconds, interrupt_of, after_of, period_of, end_of, written, first_series, begun, planned, millisecond}
 use Rattle.pearl_rules.specs.Devices.{arrived}
 use Rattle.pearl_rules.specs.Effect.{declared_or_zero, priority_or_declared, effect}
 use Rattle.pearl_rules.specs.Pick.{Offered, turned}
-use Rattle.pearl_rules.specs.Slots.{IsUrgency, Fits, IsStart, IsOnce, IsLater, IsUrgentMode, IsUrgentRow, HasUrgencies, IsPlan, IsPlannedRow, HasPlans}
+use Rattle.pearl_rules.specs.Slots.{IsUrgency, Fits, Lasts, IsStart, IsOnce, IsLater, IsRepeat, IsEnd, IsUrgentMode, IsUrgentRow, HasUrgencies, IsPlan, IsPlannedRow, HasPlans}
 use Rattle.pearl_rules.specs.Entries.{IsFitting}
 use Rattle.pearl_rules.proofs.Places.{each_at, all_set}
 use Rattle.pearl_rules.proofs.Serving.{Stays, Starts, Closed, ClosedAtEnds, OnlyValues, Brings, millisecond-kept, arrived-kept, effect-free}
@@ -164,6 +171,59 @@ later_once setup (start.After time) is = is
 later_once setup (start.When interrupt) is = is
 later_once setup (start.WhenAfter interrupt time) is = is
 
+-- a length of time that is lawful is at most 2^40 milliseconds
+length_within : (least : ℕ) (time : ℤ) → Lasts (pos least) time → milliseconds time ≤ 2 ^ 40
+length_within least (pos n) is = let high = is.1.high in omega (arith, ints, high)
+length_within least (negsuc n) is = omega arith
+
+-- a period is at least one
+period_some : (time : ℤ) → Lasts (pos 1) time → 0 < milliseconds time
+period_some (pos n) is = let low = is.0 in omega (arith, ints, low)
+period_some (negsuc n) is = let low = is.0 in absurd (omega (arith, ints, low))
+
+-- a plan as it is written is lawful
+lawful_written : (setup : Setup) (when : Start) (how : Repeat) → IsStart setup when → IsRepeat how → IsPlan setup (written when how)
+lawful_written setup when how is repeats = record {
+  when = interrupt when is;
+  after = after when is;
+  period = period how repeats;
+  end = ends how repeats;
+  once = once how repeats;
+}
+  where
+    interrupt : (when : Start) → IsStart setup when →
+        IfSome (interrupt_of when) (λ device. IsInterrupt (slice_get setup.devices device))
+    interrupt (start.When device) is = is
+    interrupt (start.WhenAfter device time) is = is.0
+    interrupt start.Free is = tt
+    interrupt (start.At time) is = tt
+    interrupt (start.After time) is = tt
+
+    after : (when : Start) → IsStart setup when → after_of when ≤ 2 ^ 40
+    after (start.After time) is = length_within 0 time is
+    after (start.WhenAfter device time) is = length_within 0 time is.1
+    after start.Free is = omega arith
+    after (start.At time) is = omega arith
+    after (start.When device) is = omega arith
+
+    period : (how : Repeat) → IsRepeat how → period_of how ≤ 2 ^ 40
+    period repeat.Once is = omega arith
+    period (repeat.All time) is = length_within 1 time is
+    period (repeat.Until time until) is = length_within 1 time is.0
+    period (repeat.During time during) is = length_within 1 time is.0
+
+    ends : (how : Repeat) → IsRepeat how → IsEnd (end_of how)
+    ends repeat.Once is = tt
+    ends (repeat.All time) is = tt
+    ends (repeat.Until time until) is = is.1
+    ends (repeat.During time during) is = length_within 0 during is.1
+
+    once : (how : Repeat) → IsRepeat how → period_of how ≡ 0 → end_of how ≡ end.Never
+    once repeat.Once is none = refl
+    once (repeat.All time) is none = refl
+    once (repeat.Until time until) is none = let some = period_some time is.0 in absurd (omega (arith, some, none))
+    once (repeat.During time during) is none = let some = period_some time is.0 in absurd (omega (arith, some, none))
+
 module _ (setup : Setup) where
   plans_at : (core : Core) (t : ℕ) (row : TaskRow) → row_of core t ≡ Some row → HasPlans setup core → IsPlannedRow setup row
   plans_at core t row at has = each_at (IsPlannedRow setup) core.tasks has.plans t row at
@@ -179,6 +239,16 @@ module _ (setup : Setup) where
     clock = subst (λ time. time < 86400000) (sym clock) has.clock;
   }
 
+  -- a series is no part of that
+  with_series : (plan : Plan) (series : Option Series) → IsPlan setup plan → IsPlan setup (record plan { series = series })
+  with_series plan series is =
+      record { when = is.when; after = is.after; period = is.period; end = is.end; once = is.once }
+
+  -- a plan that is made now
+  lawful_planned : (core : Core) (when : Start) (how : Repeat) → IsStart setup when → IsRepeat how → IsPlan setup (planned core when how)
+  lawful_planned core when how is repeats =
+      with_series (written when how) (first_series core when how) (lawful_written setup when how is repeats)
+
   plans_closed : Closed AnyPriority (IsPlan setup) (HasPlans setup)
   plans_closed = record {
     told = λ core e has. plans_moved core _ refl refl has;
@@ -188,7 +258,7 @@ module _ (setup : Setup) where
         plans_set core t (record row { activation = Some plan }) ((plans_at core t row at has).0, lawful.1) has;
     going = λ core t row at has. (plans_at core t row at has).0;
     starting = λ core t row at has. lawful_starts setup row.activation (plans_at core t row at has).1;
-    begins = λ core plan lawful. lawful;
+    begins = λ core plan lawful. with_series plan (begun core plan).series lawful;
   }
 
   plans_at_ends : ClosedAtEnds (HasPlans setup)
@@ -201,9 +271,9 @@ module _ (setup : Setup) where
   plans_free core other only has = plans_moved core other only.tasks only.clock has
 
   plans_brings : (core : Core) (asked : Action) → Fits setup asked → Brings AnyPriority (IsPlan setup) core asked
-  plans_brings core (action.Activate t start repeat priority) fits = (λ row at. tt, λ now. (fits.1, fits.2))
-  plans_brings core (action.Continue t start) fits = λ now. (once_starts setup start fits.1, tt)
-  plans_brings core (action.Resume start) fits = λ now. (once_starts setup start (later_once setup start fits), tt)
+  plans_brings core (action.Activate t start repeat priority) fits = (λ row at. tt, λ now. lawful_planned now start repeat fits.1 fits.2)
+  plans_brings core (action.Continue t start) fits = λ now. lawful_planned now start Once (once_starts setup start fits.1) tt
+  plans_brings core (action.Resume start) fits = λ now. lawful_planned now start Once (once_starts setup start (later_once setup start fits)) tt
   plans_brings core (action.Read slot) fits = tt
   plans_brings core (action.Write slot value) fits = tt
   plans_brings core action.Turn fits = tt

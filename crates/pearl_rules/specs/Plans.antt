@@ -9,6 +9,8 @@ use Rattle.pearl_rules.specs.declared.action.Repeat.TheVariants.{Once, All, Unti
 use Rattle.pearl_rules.specs.declared.event.Event.TheVariants as event
 use Rattle.pearl_rules.specs.declared.row.Mode.{Mode}
 use Rattle.pearl_rules.specs.declared.row.Mode.TheVariants.{Dormant, Active}
+use Rattle.pearl_rules.specs.declared.row.End.{End}
+use Rattle.pearl_rules.specs.declared.row.End.TheVariants as end
 use Rattle.pearl_rules.specs.declared.row.Plan.{Plan}
 use Rattle.pearl_rules.specs.declared.row.Activation.{Activation}
 use Rattle.pearl_rules.specs.declared.row.TaskRow.{TaskRow}
@@ -89,13 +91,17 @@ abbrev pub milliseconds : ℤ → ℕ
 milliseconds (pos n) = n
 milliseconds (negsuc n) = 0
 
--- the first moment of a plan that begins now
-abbrev pub first_moment : Core → Start → ℕ
-first_moment core Free = core.moment
-first_moment core (At time) = next_at core time core.moment
-first_moment core (After time) = core.moment + milliseconds time
-first_moment core (When interrupt) = core.moment
-first_moment core (WhenAfter interrupt time) = core.moment + milliseconds time
+-- the interrupt at whose occurrences the series of a plan begin, or none
+abbrev pub interrupt_of : Start → Option ℕ
+interrupt_of (When interrupt) = Some interrupt
+interrupt_of (WhenAfter interrupt time) = Some interrupt
+interrupt_of start = None
+
+-- how long after that their first moment comes, 0 where nothing is written
+abbrev pub after_of : Start → ℕ
+after_of (After time) = milliseconds time
+after_of (WhenAfter interrupt time) = milliseconds time
+after_of start = 0
 
 -- the period, 0 where there is none
 abbrev pub period_of : Repeat → ℕ
@@ -104,42 +110,62 @@ period_of (All period) = milliseconds period
 period_of (Until period time) = milliseconds period
 period_of (During period time) = milliseconds period
 
+abbrev pub end_of : Repeat → End
+end_of (Until period time) = end.Until time
+end_of (During period time) = end.During (milliseconds time)
+end_of repeat = end.Never
+
+-- a plan as it is written
+abbrev pub written : Start → Repeat → Plan
+written start repeat = record {
+  when = interrupt_of start;
+  after = after_of start;
+  period = period_of repeat;
+  end = end_of repeat;
+  series = None;
+}
+
 -- a last moment behind all that there are
 abbrev pub no_end : ℕ
 no_end = 2 ^ 64 - 1
 
--- the last moment of a plan with this first one
-abbrev pub last_moment : Core → (first : ℕ) → Repeat → ℕ
-last_moment core first Once = no_end
-last_moment core first (All period) = no_end
-last_moment core first (Until period time) = next_at core time first
-last_moment core first (During period time) = first + milliseconds time
+-- the last moment of a series with this first one
+abbrev pub last_moment : Core → (first : ℕ) → End → ℕ
+last_moment core first end.Never = no_end
+last_moment core first (end.Until time) = next_at core time first
+last_moment core first (end.During time) = first + time
+
+-- the series of a plan that has this first moment
+abbrev pub series_from : Core → (first : ℕ) → Plan → Series
+series_from core first plan = record { first = first; period = plan.period; last = last_moment core first plan.end }
 
 -- the series that begins now
-abbrev pub begin_series : Core → Start → Repeat → Series
-begin_series core start repeat =
-    let first = first_moment core start in
-    record { first = first; period = period_of repeat; last = last_moment core first repeat }
-
--- whether a plan waits for this interrupt
-abbrev pub waits_for : ℕ → Start → Bool
-waits_for interrupt (When other) = nat_eq interrupt other
-waits_for interrupt (WhenAfter other time) = nat_eq interrupt other
-waits_for interrupt start = false
-
--- the series that a plan has at its making: it begins at once, but where it waits for an interrupt
-abbrev pub first_series : Core → Start → Repeat → Option Series
-first_series core (When interrupt) repeat = None
-first_series core (WhenAfter interrupt time) repeat = None
-first_series core start repeat = Some (begin_series core start repeat)
-
--- a plan that is made now
-abbrev pub planned : Core → Start → Repeat → Plan
-planned core start repeat = record { start = start; repeat = repeat; series = first_series core start repeat }
+abbrev pub begin_series : Core → Plan → Series
+begin_series core plan = series_from core (core.moment + plan.after) plan
 
 -- the same plan with a series that begins now
 abbrev pub begun : Core → Plan → Plan
-begun core plan = record plan { series = Some (begin_series core plan.start plan.repeat) }
+begun core plan = record plan { series = Some (begin_series core plan) }
+
+-- whether a plan waits for this interrupt
+abbrev pub waits_for : ℕ → Option ℕ → Bool
+waits_for interrupt None = false
+waits_for interrupt (Some other) = nat_eq interrupt other
+
+-- the first moment of the series that a plan has at its making: a time of day that is written, or else after its time
+abbrev pub first_moment : Core → Start → ℕ
+first_moment core (At time) = next_at core time core.moment
+first_moment core start = core.moment + after_of start
+
+-- that series begins at once, but where the plan waits for an interrupt
+abbrev pub first_series : Core → Start → Repeat → Option Series
+first_series core (When interrupt) repeat = None
+first_series core (WhenAfter interrupt time) repeat = None
+first_series core start repeat = Some (series_from core (first_moment core start) (written start repeat))
+
+-- a plan that is made now
+abbrev pub planned : Core → Start → Repeat → Plan
+planned core start repeat = record (written start repeat) { series = first_series core start repeat }
 
 -- PLANS THAT SERVE
 
@@ -191,12 +217,12 @@ millisecond core = each_task served (length core.tasks) (record core { moment = 
 abbrev pub begin_continuation : ℕ → Option Plan → Core → ℕ → Core
 begin_continuation interrupt None core t = core
 begin_continuation interrupt (Some plan) core t =
-    if waits_for interrupt plan.start then plan_continuation core t (begun core plan) else core
+    if waits_for interrupt plan.when then plan_continuation core t (begun core plan) else core
 
 abbrev pub begin_activation : ℕ → Option Activation → Core → ℕ → Core
 begin_activation interrupt None core t = core
 begin_activation interrupt (Some activation) core t =
-    if waits_for interrupt activation.plan.start
+    if waits_for interrupt activation.plan.when
     then plan_activation core t (record activation { plan = begun core activation.plan }) else core
 
 -- the continuation of a task that waits for this interrupt begins

@@ -1,6 +1,6 @@
 -- Which actions fit the tables, which answers suit an action, and what holds of each core: every slot and every input has values of its
 -- kind; and which counts, priorities and plans there are.
-use Rattle.std.specs.Prelude.{◌≡◌, ◌≢◌, ℕ, ◌<◌, ◌≤◌, ◌⊎◌, ℤ, pos, ◌≤ℤ◌, List, Option, Some, None, IsSome, IfSome, All, nat_eq, length, slice_get}
+use Rattle.std.specs.Prelude.{◌≡◌, ◌≢◌, ℕ, ◌^◌, ◌<◌, ◌≤◌, ◌⊎◌, ℤ, pos, ◌≤ℤ◌, List, Option, Some, None, IsSome, IfSome, All, nat_eq, length, slice_get}
 use Rattle.std.specs.List.{AllByRecursion, AllZip, IsDistinct}
 use Rattle.arrayvec.specs.ArrayVec.{ArrayVec}
 use Rattle.pearl_value.specs.declared.kind.Kind.{Kind}
@@ -21,6 +21,8 @@ use Rattle.pearl_rules.specs.declared.action.Answer.{Answer}
 use Rattle.pearl_rules.specs.declared.action.Answer.TheVariants.{Nothing, One, Many}
 use Rattle.pearl_rules.specs.declared.row.Mode.{Mode}
 use Rattle.pearl_rules.specs.declared.row.Mode.TheVariants.{Dormant, Active}
+use Rattle.pearl_rules.specs.declared.row.End.{End}
+use Rattle.pearl_rules.specs.declared.row.End.TheVariants as end
 use Rattle.pearl_rules.specs.declared.row.Plan.{Plan}
 use Rattle.pearl_rules.specs.declared.row.TaskRow.{TaskRow}
 use Rattle.pearl_rules.specs.declared.setup.Device.{Device}
@@ -179,9 +181,19 @@ IsUrgentRow row = IsUrgency row.declared × IsUrgentMode row.mode × IfSome row.
 abbrev pub HasUrgencies : Core → Type 0
 HasUrgencies core = AllByRecursion IsUrgentRow core.tasks
 
--- The start and the repetition of a plan are lawful.
-abbrev pub IsPlan : Setup → Plan → Type 0
-IsPlan setup plan = IsStart setup plan.start × IsRepeat plan.repeat
+-- where a plan's series end: at a time of day, or after a length of time of at most 2^40 milliseconds
+abbrev pub IsEnd : End → Type 0
+IsEnd end.Never = Unit {0}
+IsEnd (end.Until time) = time < 86400000
+IsEnd (end.During time) = time ≤ 2 ^ 40
+
+-- The interrupt of a plan is there, its lengths of time are at most 2^40 milliseconds, and its end is one; without a period it has none.
+pub record IsPlan (setup : Setup) (plan : Plan) : Type 0 where
+  pub when : IfSome plan.when (λ interrupt. IsInterrupt (slice_get setup.devices interrupt))
+  pub after : plan.after ≤ 2 ^ 40
+  pub period : plan.period ≤ 2 ^ 40
+  pub once : plan.period ≡ 0 → plan.end ≡ end.Never
+  pub end : IsEnd plan.end
 
 abbrev pub IsPlannedRow : Setup → TaskRow → Type 0
 IsPlannedRow setup row = IfSome row.continuation (IsPlan setup) × IfSome row.activation (λ activation. IsPlan setup activation.plan)

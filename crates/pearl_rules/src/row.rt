@@ -1,6 +1,5 @@
 // How one task stands in the core, and what is planned for it.
 
-use crate::action::{Repeat, Start};
 use crate::series::Series;
 
 /// Whether a task is active. A smaller number is a more urgent priority, from 1 to 255.
@@ -10,12 +9,30 @@ pub enum Mode {
     Active { priority: u8, suspended: bool },
 }
 
-/// A plan as it was written, and the moments at which it serves. A plan that waits for an interrupt has none until the
-/// interrupt occurs.
+/// Where the series of a plan end.
+#[derive(Clone, Copy, PartialEq, Eq, Debug)]
+pub enum End {
+    /// Nowhere.
+    Never,
+    /// At the next moment of this time of day, in milliseconds since midnight, below 86,400,000.
+    Until(u32),
+    /// This length of time after their first moment, in milliseconds, from 0 to 2^40.
+    During(u64),
+}
+
+/// A plan, and the moments at which it serves. Lengths of time are in milliseconds, from 0 to 2^40.
 #[derive(Clone, Copy, PartialEq, Eq, Debug)]
 pub struct Plan {
-    pub start: Start,
-    pub repeat: Repeat,
+    /// The interrupt at each of whose occurrences a series begins, by its device's number; none where a series begins
+    /// when the plan is made.
+    pub when: Option<u32>,
+    /// How long after that the first moment comes, 0 where nothing is written. A time of day is the first moment of the
+    /// first series alone, and isn't kept.
+    pub after: u64,
+    /// The period, 0 where there is none.
+    pub period: u64,
+    pub end: End,
+    /// The series that began last. A plan that waits for an interrupt has none until that occurs.
     pub series: Option<Series>,
 }
 

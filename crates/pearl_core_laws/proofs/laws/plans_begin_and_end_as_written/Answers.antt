@@ -1,9 +1,9 @@
-use Rattle.std.proofs.Common.{refl}
+use Rattle.std.proofs.Common.{refl, add-zero}
 use Rattle.pearl_core_laws.proofs.Times.{next_time}
 use Rattle.pearl_core_laws.proofs.laws.plans_begin_and_end_as_written.Goals as goal
 
 pub returns-clause-now : goal.returns-clause-now
-returns-clause-now c = λ core. refl
+returns-clause-now c = λ core. add-zero core.moment
 
 pub returns-clause-at : goal.returns-clause-at
 returns-clause-at c = λ core time small. next_time core time core.moment small
@@ -12,10 +12,10 @@ pub returns-clause-after : goal.returns-clause-after
 returns-clause-after c = λ core n. refl
 
 pub returns-clause-occurs : goal.returns-clause-occurs
-returns-clause-occurs c = λ core interrupt. refl
+returns-clause-occurs c = λ made core interrupt repeat. add-zero core.moment
 
 pub returns-clause-after_it : goal.returns-clause-after_it
-returns-clause-after_it c = λ core interrupt n. refl
+returns-clause-after_it c = λ made core interrupt n repeat. refl
 
 pub returns-clause-periods : goal.returns-clause-periods
 returns-clause-periods c = λ n m time. (refl, refl, refl, refl)
