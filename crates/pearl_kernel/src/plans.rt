@@ -141,9 +141,11 @@ impl State {
         ensures { result ≡ planned self.now.core start repeat }
     {
         let plan = written(start, repeat);
-        let series = match plan.when {
-            None => Some(self.series_from(self.first_moment(start), plan)),
-            Some(_) => None,
+        let series = match start {
+            Start::When(_) | Start::WhenAfter(..) => None,
+            Start::Free | Start::At(_) | Start::After(_) => {
+                Some(self.series_from(self.first_moment(start), plan))
+            }
         };
         Plan { series, ..plan }
     }
