@@ -10,8 +10,8 @@ use Rattle.pearl_rules.specs.declared.action.Action.{Action}
 use Rattle.pearl_rules.specs.declared.action.Action.TheVariants as action
 use Rattle.pearl_rules.specs.declared.action.Start.{Start}
 use Rattle.pearl_rules.specs.declared.action.Start.TheVariants as start
-use Rattle.pearl_rules.specs.declared.setup.Device.{Device}
-use Rattle.pearl_rules.specs.declared.setup.Device.TheVariants as device
+use Rattle.pearl_value.specs.declared.device.Device.{Device}
+use Rattle.pearl_value.specs.declared.device.Device.TheVariants as device
 use Rattle.pearl_rules.specs.Tables.{input_kind, output_kind, items_or_none}
 use Rattle.pearl_format.specs.declared.item.Item.{Item}
 use Rattle.pearl_format.specs.Items.{Suits}

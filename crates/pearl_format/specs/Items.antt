@@ -1,5 +1,6 @@
 -- Which format items suit which kinds, and how much they count.
 use Rattle.std.specs.Prelude.{ℕ, ◌+◌, ◌<◌, ◌≤◌, List, [], ◌∷◌, drop}
+use Rattle.std.specs.List.{AllByRecursion}
 use Rattle.pearl_value.specs.declared.kind.Kind.{Kind}
 use Rattle.pearl_value.specs.declared.kind.Kind.TheVariants.{Fixed, Bits, Chars, Clock, Span}
 use Rattle.pearl_format.specs.declared.item.ItemCode.{ItemCode}
@@ -57,6 +58,14 @@ HasWidth F width = 0 < width
 HasWidth T width = 8 ≤ width
 HasWidth D width = 0 < width
 HasWidth code width = Unit {0}
+
+-- the width suits the code, and is at most 255
+abbrev pub IsItem : Item → Type 0
+IsItem item = HasWidth item.code item.width × (item.width ≤ 255)
+
+-- how many values the items take and how long their text gets is asked only of the PUT or GET that names the format
+abbrev pub IsFormat : List Item → Type 0
+IsFormat items = AllByRecursion IsItem items
 
 -- an item takes a value of its kind
 abbrev pub TakesKind : ItemCode → ℕ → Kind → Type 0

@@ -13,13 +13,12 @@ use Rattle.pearl_value.specs.declared.operator.Monad.{Monad}
 use Rattle.pearl_value.specs.declared.operator.Dyad.{Dyad}
 use Rattle.pearl_value.specs.Cells.{cell_kind_of}
 use Rattle.pearl_value.specs.Rows.{row1, row2}
-use Rattle.pearl_value.specs.Conversions.{SuitsKind}
+use Rattle.pearl_value.specs.Conversions.{SuitsKind, suits_kind}
 use Rattle.pearl_instructions.specs.declared.instr.Instr.{Instr}
 use Rattle.pearl_instructions.specs.declared.instr.Instr.TheVariants as instr
 use Rattle.pearl_instructions.specs.declared.object.Leaf.{Leaf}
 use Rattle.pearl_instructions.specs.declared.object.Code.{Code}
 use Rattle.pearl_instructions.specs.declared.object.Object.{Object}
-use Rattle.pearl_instructions.specs.Operators.{suits_kind}
 use Rattle.pearl_instructions.specs.Operands.{Shape, same_cell, is_reference}
 use Rattle.pearl_instructions.specs.Named.{has_cells, cells_at}
 use Rattle.pearl_instructions.specs.Kinds.{is_uniform, shape_after, leaf_kind, reference_to}

@@ -8,8 +8,7 @@ use Rattle.pearl_value.specs.declared.kind.Kind.{Kind}
 use Rattle.pearl_value.specs.declared.cell.Cell.{Cell}
 use Rattle.pearl_value.specs.WellFormed.{IsValueOf}
 use Rattle.pearl_format.specs.declared.item.Item.{Item}
-use Rattle.pearl_format.specs.Items.{data_count}
-use Rattle.pearl_rules.specs.Tables.{IsFormat}
+use Rattle.pearl_format.specs.Items.{data_count, IsFormat}
 use Rattle.pearl_rules.specs.declared.action.Action.TheVariants as action
 use Rattle.pearl_rules.specs.declared.action.Answer.{Answer}
 use Rattle.pearl_rules.specs.declared.action.Answer.TheVariants.{Nothing, One, Many}

@@ -9,10 +9,10 @@ use Rattle.pearl_value.specs.WellFormed.{FitsSpan, IsValue, IsValueOf}
 use Rattle.pearl_format.specs.declared.item.Item.{Item}
 use Rattle.pearl_format.specs.Bytes.{IsTextByte}
 use Rattle.pearl_format.specs.Items.{Suits, text_width}
-use Rattle.pearl_rules.specs.declared.setup.Device.{Device}
-use Rattle.pearl_rules.specs.declared.setup.Device.TheVariants as device
-use Rattle.pearl_rules.specs.declared.setup.Direction.{Direction}
-use Rattle.pearl_rules.specs.declared.setup.Direction.TheVariants as direction
+use Rattle.pearl_value.specs.declared.device.Device.{Device}
+use Rattle.pearl_value.specs.declared.device.Device.TheVariants as device
+use Rattle.pearl_value.specs.declared.device.Direction.{Direction}
+use Rattle.pearl_value.specs.declared.device.Direction.TheVariants as direction
 use Rattle.pearl_rules.specs.declared.action.Action.{Action}
 use Rattle.pearl_rules.specs.declared.action.Action.TheVariants as action
 use Rattle.pearl_rules.specs.declared.action.Start.{Start}

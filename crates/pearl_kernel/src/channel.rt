@@ -10,9 +10,9 @@ ghost use Rattle.pearl_value.specs.Conversions.{converted};
 
 use pearl_port::input::Input;
 use pearl_port::terminal::Terminal;
-use pearl_rules::setup::Device;
 use pearl_value::cell::Cell;
 use pearl_value::conversion::convert;
+use pearl_value::device::Device;
 use std::alloc::{AllocError, Global};
 use std::marker::Model;
 

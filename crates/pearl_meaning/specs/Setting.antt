@@ -6,8 +6,8 @@ use Rattle.pearl_value.specs.declared.kind.CellKind.TheVariants.{Plain, RefTo}
 use Rattle.pearl_value.specs.declared.cell.Cell.{Cell}
 use Rattle.pearl_format.specs.declared.item.Item.{Item}
 use Rattle.pearl_rules.specs.Tables.{items_or_none}
-use Rattle.pearl_program.specs.declared.table.Device.{Device}
-use Rattle.pearl_program.specs.declared.table.Device.TheVariants.{Output}
+use Rattle.pearl_value.specs.declared.device.Device.{Device}
+use Rattle.pearl_value.specs.declared.device.Device.TheVariants.{Output}
 use Rattle.pearl_program.specs.declared.expression.Target.TheVariants.{Leaf, Own, Param}
 use Rattle.pearl_program.specs.PlainExpressions.{PlainVariable, OfVariable}
 use Rattle.pearl_program.specs.PlainPrograms.{PlainProcedure, PlainProg}

@@ -10,10 +10,10 @@ use Rattle.pearl_value.specs.WellFormed.{IsValueOf}
 use Rattle.pearl_value.specs.Conversions.{SuitsKind}
 use Rattle.pearl_format.specs.declared.item.Item.{Item}
 use Rattle.pearl_format.specs.Items.{Suits, text_width}
-use Rattle.pearl_program.specs.declared.table.Direction.{Direction}
-use Rattle.pearl_program.specs.declared.table.Direction.TheVariants.{In, Out}
-use Rattle.pearl_program.specs.declared.table.Device.{Device}
-use Rattle.pearl_program.specs.declared.table.Device.TheVariants.{Interrupt, Terminal, Input, Output}
+use Rattle.pearl_value.specs.declared.device.Direction.{Direction}
+use Rattle.pearl_value.specs.declared.device.Direction.TheVariants.{In, Out}
+use Rattle.pearl_value.specs.declared.device.Device.{Device}
+use Rattle.pearl_value.specs.declared.device.Device.TheVariants.{Interrupt, Terminal, Input, Output}
 use Rattle.pearl_program.specs.PlainExpressions.{PlainExpr, PlainVariable, PlainExprs, PlainArguments}
 use Rattle.pearl_program.specs.PlainStatements.{PlainValues, PlainPeriodEnd, OfUntil, OfDuring, PlainPeriod, PlainStart, OfAt, OfAfter, OfWhen, OfWhenAfter, PlainOnce, OnceAt, OnceAfter, OnceWhen, PlainCounter, PlainStmt, OfRenew, OfAssign, OfCallOf, OfIf, OfCase, OfRepeat, OfExit, OfReturn, OfActivate, OfContinue, OfResume, OfSuspend, OfTerminate, OfPrevent, OfRequest, OfRelease, OfEnable, OfDisable, OfTrigger, OfPut, OfGet, OfSend, OfTake, PlainStmts, NoStmts, MoreStmts, PlainBranches, NoBranches, MoreBranches}
 use Rattle.pearl_program.specs.Typing.{Signature, Around, AreCells, AreOwn, HasKind, IsVariable, Suit, HasValueFor, IsFixed, HaveKinds}

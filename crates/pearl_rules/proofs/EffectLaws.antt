@@ -27,11 +27,12 @@ use Rattle.pearl_rules.specs.declared.event.Event.{Event}
 use Rattle.pearl_rules.specs.declared.event.Event.TheVariants as event
 use Rattle.pearl_rules.specs.declared.action.Answer.{Answer}
 use Rattle.pearl_rules.specs.declared.action.Answer.TheVariants.{Nothing, One, Many}
-use Rattle.pearl_rules.specs.declared.setup.Device.{Device}
-use Rattle.pearl_rules.specs.declared.setup.Device.TheVariants as device
+use Rattle.pearl_value.specs.declared.device.Device.{Device}
+use Rattle.pearl_value.specs.declared.device.Device.TheVariants as device
 use Rattle.pearl_rules.specs.declared.setup.Setup.{Setup}
 use Rattle.pearl_format.specs.Items.{Suits as SuitsKinds}
-use Rattle.pearl_rules.specs.Tables.{items_or_none, IsDevice, IsInterrupt, IsReadable, input_kind}
+use Rattle.pearl_value.specs.Devices.{IsDevice}
+use Rattle.pearl_rules.specs.Tables.{items_or_none, IsInterrupt, IsReadable, input_kind}
 use Rattle.pearl_rules.specs.Core.{Core, Channel, Switch, Bytes, Values, Outward, Report, Happened, value_at, note, row_of, with_row, declared_of, first_channel, opening}
 use Rattle.pearl_rules.specs.Counts.{count_at, all_below_most}
 use Rattle.pearl_rules.specs.Plans.{time_at, day, millisecond}

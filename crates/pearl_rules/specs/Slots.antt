@@ -23,12 +23,13 @@ use Rattle.pearl_rules.specs.declared.row.Mode.{Mode}
 use Rattle.pearl_rules.specs.declared.row.Mode.TheVariants.{Dormant, Active}
 use Rattle.pearl_rules.specs.declared.row.Plan.{Plan}
 use Rattle.pearl_rules.specs.declared.row.TaskRow.{TaskRow}
-use Rattle.pearl_rules.specs.declared.setup.Device.{Device}
-use Rattle.pearl_rules.specs.declared.setup.Device.TheVariants as device
+use Rattle.pearl_value.specs.declared.device.Device.{Device}
+use Rattle.pearl_value.specs.declared.device.Device.TheVariants as device
 use Rattle.pearl_rules.specs.declared.setup.Setup.{Setup}
 use Rattle.pearl_rules.specs.Core.{Core, Channel, Switch, Bytes, Values, Outward, cell_or_zero, value_at}
 use Rattle.pearl_rules.specs.Devices.{terminal_room, input_room}
-use Rattle.pearl_rules.specs.Tables.{IsPreset, TakesTexts, IsInterrupt, IsReadable, input_kind, output_kind, format_of}
+use Rattle.pearl_value.specs.Counts.{IsPreset}
+use Rattle.pearl_rules.specs.Tables.{TakesTexts, IsInterrupt, IsReadable, input_kind, output_kind, format_of}
 
 -- the kind of a slot's values: that of its first value
 abbrev pub slot_kind : Setup → ℕ → Kind

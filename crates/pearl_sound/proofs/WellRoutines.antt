@@ -30,7 +30,7 @@ use Rattle.pearl_system.specs.Rules as devices
 use Rattle.pearl_check.specs.Asked.{asked_at}
 use Rattle.pearl_check.specs.Routines.{RoutineSort, Task, Procedure, Routine, decl_routines, decls_routines, routines_of, statements_of}
 use Rattle.pearl_check.specs.Rules.{is_priority, unfit_priority, head_faults, s30, statement_faults, routine_faults, statements_broken, whole_broken, all_broken}
-use Rattle.pearl_program.specs.Sound.{is_name_byte, is_id}
+use Rattle.pearl_value.specs.Names.{is_name_byte, is_id}
 use Rattle.pearl_resolve.specs.Expressions.{Numbered}
 use Rattle.pearl_resolve.specs.Statements.{declared_renewals}
 use Rattle.pearl_resolve.specs.Resolve.{priority_of}

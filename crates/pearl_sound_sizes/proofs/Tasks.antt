@@ -20,7 +20,7 @@ use Rattle.pearl_system.specs.declared.device.SpecifiedDevice.{SpecifiedDevice}
 use Rattle.pearl_check.specs.Routines.{Routine, is_task, routines_of}
 use Rattle.pearl_check.specs.Rules.{is_priority, unfit_priority, head_faults, s30}
 use Rattle.pearl_program.specs.PlainPrograms.{PlainTask}
-use Rattle.pearl_program.specs.Sound.{is_name_byte, is_id}
+use Rattle.pearl_value.specs.Names.{is_name_byte, is_id}
 use Rattle.pearl_resolve.specs.Numbers.{At, after_decl, first}
 use Rattle.pearl_resolve.specs.Expressions.{Numbered}
 use Rattle.pearl_resolve.specs.Resolve.{priority_of, decl_tasks, tasks_in, numbered_of, resolve}
