@@ -17,7 +17,8 @@ use Rattle.pearl_instructions.specs.Kinds.{plain_kind, kind_taken}
 use Rattle.pearl_instructions.specs.Stacks as stacks
 use Rattle.pearl_instructions.specs.Stacks.{Answers}
 use Rattle.pearl_meaning.specs.Programs.{offer}
-use Rattle.pearl_meaning.specs.Hearing.{slot_kind, input_kind, IsOneOf, AreOf, Suits, HeardAfter}
+use Rattle.pearl_rules.specs.Tables.{input_kind}
+use Rattle.pearl_meaning.specs.Hearing.{slot_kind, IsOneOf, AreOf, Suits, HeardAfter}
 use Rattle.pearl_gen_expr.specs.Tables.{HasTables, plain_leaf}
 
 same_slots : (leaves : List Leaf) (slot : ℕ) → objects.slot_kind leaves slot ≡ slot_kind (map plain_leaf leaves) slot

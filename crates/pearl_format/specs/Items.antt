@@ -1,5 +1,5 @@
 -- Which format items suit which kinds, and how much they count.
-use Rattle.std.specs.Prelude.{ℕ, ◌+◌, ◌<◌, ◌≤◌, List, [], ◌∷◌, drop}
+use Rattle.std.specs.Prelude.{ℕ, ◌+◌, ◌<◌, ◌≤◌, List, [], ◌∷◌, drop, length, Option, Some, None}
 use Rattle.std.specs.List.{AllByRecursion}
 use Rattle.pearl_value.specs.declared.kind.Kind.{Kind}
 use Rattle.pearl_value.specs.declared.kind.Kind.TheVariants.{Fixed, Bits, Chars, Clock, Span}
@@ -94,3 +94,13 @@ IsNoKind (kind ∷ kinds) = ⊥
 abbrev pub Suits : List Item → List Kind → Type 0
 Suits [] kinds = IsNoKind kinds
 Suits (item ∷ items) kinds = SuitsItem item.code item.width kinds (λ rest. Suits items rest)
+
+-- the items suit the values' kinds, at most 64, and their widths are at most 1,024 together
+pub record FitsFormat (items : List Item) (kinds : List Kind) : Type 0 where
+  pub suits : Suits items kinds
+  pub few : length kinds ≤ 64
+  pub short : text_width items kinds ≤ 1024
+
+abbrev pub FitsSome : Option (List Item) → List Kind → Type 0
+FitsSome None kinds = ⊥
+FitsSome (Some items) kinds = FitsFormat items kinds

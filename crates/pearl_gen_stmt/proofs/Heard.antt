@@ -16,7 +16,8 @@ use Rattle.pearl_instructions.specs.Objects as objects
 use Rattle.pearl_instructions.specs.Kinds.{plain_kind, kind_taken}
 use Rattle.pearl_instructions.specs.Stacks as stacks
 use Rattle.pearl_instructions.specs.Stacks.{Answers}
-use Rattle.pearl_meaning.specs.Hearing.{slot_kind, input_kind, IsOneOf, AreOf, Suits}
+use Rattle.pearl_rules.specs.Tables.{input_kind}
+use Rattle.pearl_meaning.specs.Hearing.{slot_kind, IsOneOf, AreOf, Suits}
 use Rattle.pearl_gen_expr.specs.Tables.{HasTables, plain_leaf}
 
 slots_same : (leaves : List Leaf) (slot : ℕ) → slot_kind (map plain_leaf leaves) slot ≡ objects.slot_kind leaves slot

@@ -18,7 +18,8 @@ use Rattle.pearl_program.specs.Typing.{Around, elements, IsVariable, IsLeafOf, I
 use Rattle.pearl_program.specs.SoundStatements.{within, IsReturn, IsOutput}
 use Rattle.pearl_value.specs.Devices.{IsDevice}
 use Rattle.pearl_program.specs.Sound.{IsLeaf, IsCellKind}
-use Rattle.pearl_meaning.specs.Setting.{Setting, plain_kind, referred_kind, cell_kind, variable_kind, output_kind, sent_kind}
+use Rattle.pearl_rules.specs.Tables.{output_kind}
+use Rattle.pearl_meaning.specs.Setting.{Setting, plain_kind, referred_kind, cell_kind, variable_kind, sent_kind}
 use Rattle.pearl_instructions.specs.declared.object.Code.{Code}
 use Rattle.pearl_instructions.specs.declared.object.Object.{Object}
 use Rattle.pearl_instructions.specs.Objects.{is_task, result_of}

@@ -42,7 +42,8 @@ use Rattle.std.proofs.lemmas.List.{take_at}
 use Rattle.pearl_format.specs.declared.item.Item.{Item}
 use Rattle.pearl_value.specs.declared.device.Direction.TheVariants.{In, Out, InOut}
 use Rattle.pearl_program.specs.Typing.{IsLeafOf, elements}
-use Rattle.pearl_program.specs.SoundStatements.{FitsFormat, FitsSome, TakesTexts, GivesTexts, IsPut, IsGet}
+use Rattle.pearl_format.specs.Items.{FitsFormat, FitsSome}
+use Rattle.pearl_program.specs.SoundStatements.{TakesTexts, GivesTexts, IsPut, IsGet}
 use Rattle.pearl_program.specs.Weights.{of_variables}
 use Rattle.pearl_instructions.specs.declared.instr.Reading.{Reading}
 use Rattle.pearl_instructions.specs.declared.object.Leaf.{Leaf}

@@ -24,7 +24,7 @@ use Rattle.pearl_rules.specs.Devices.{channel_of}
 use Rattle.pearl_rules.specs.Entries.{EntryFits, IsPrinted, ComesInAt}
 use Rattle.pearl_rules.specs.Slots.{Fits, IsLike, IsChannelOf, IsStart, IsOnce, IsLater, IsRepeat, IsPlan, IsPlannedRow}
 use Rattle.pearl_rules.specs.Tables.{IsInterrupt, IsReadable, input_kind}
-use Rattle.pearl_port.specs.Pending.{IsTyped}
+use Rattle.pearl_value.specs.WellFormed.{IsTyped}
 use Rattle.pearl_sema.specs.Waiting.{AreThere}
 use Rattle.pearl_kernel.specs.Channels.{HasSwitch, HasBytes, IsFor, HasValuesFor, ComesIn}
 use Rattle.pearl_kernel.specs.Kept.{Kept, IsLawful}

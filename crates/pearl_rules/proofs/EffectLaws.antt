@@ -10,7 +10,7 @@ use Rattle.pearl_value.specs.declared.cell.Cell.TheVariants.{Bits, Clock}
 use Rattle.pearl_value.specs.declared.kind.Kind.{Kind}
 use Rattle.pearl_value.specs.declared.kind.Kind.TheVariants as kind
 use Rattle.pearl_value.specs.declared.trap.Trap.{Trap}
-use Rattle.pearl_value.specs.WellFormed.{IsValue, IsValueOf}
+use Rattle.pearl_value.specs.WellFormed.{IsValue, IsValueOf, IsTyped}
 use Rattle.pearl_value.specs.Laws.{Gives}
 use Rattle.pearl_value.specs.Kinds.{IsKind}
 use Rattle.pearl_value.proofs.Results.{keeps_kinds}
@@ -39,7 +39,7 @@ use Rattle.pearl_rules.specs.Plans.{time_at, day, millisecond}
 use Rattle.pearl_rules.specs.Devices.{channel_of, with_channel, items_of, bytes_at, bytes_in, terminal_room, with_bytes, without_bytes, values_at, values_in, input_room, joined, with_value_by, with_value, without_value_by, without_value, arrived}
 use Rattle.pearl_rules.specs.Scan.{Scanned, Short, Bad, Got, scan}
 use Rattle.pearl_rules.specs.Effect.{Reply, Hears, Ends, reply_if_other, releasing, trying, getting, taking, effect}
-use Rattle.pearl_rules.specs.Slots.{IsOneOf, AreOf, Suits, Fits, IsLike, IsTyped, IsChannelOf, HasKinds}
+use Rattle.pearl_rules.specs.Slots.{IsOneOf, AreOf, Suits, Fits, IsLike, IsChannelOf, HasKinds}
 use Rattle.pearl_rules.specs.Entries.{IsFitting, IsPrinted, ComesInAt}
 use Rattle.pearl_rules.proofs.ScanLaws.{reads_values}
 use Rattle.pearl_rules.proofs.Serving.{Starts, Closed, ClosedAtEnds, OnlyValues, Brings, KeepsValues, millisecond-kept, effect-kept, effect-free, interrupted-kept, bytes-kept, value-kept}

@@ -1,6 +1,6 @@
 -- Which actions fit the tables, which answers suit an action, and what holds of each core: every slot and every input has values of its
 -- kind; and which counts, priorities and plans there are.
-use Rattle.std.specs.Prelude.{◌≡◌, ◌≢◌, ℕ, ◌<◌, ◌≤◌, ◌⊎◌, ℤ, pos, ◌≤ℤ◌, List, Option, Some, None, IsSome, IfSome, All, nat_eq, length, slice_get}
+use Rattle.std.specs.Prelude.{◌≡◌, ◌≢◌, ℕ, ◌<◌, ◌≤◌, ℤ, pos, ◌≤ℤ◌, List, Option, Some, None, IsSome, IfSome, All, nat_eq, length, slice_get}
 use Rattle.std.specs.List.{AllByRecursion, AllZip, IsDistinct}
 use Rattle.arrayvec.specs.ArrayVec.{ArrayVec}
 use Rattle.pearl_value.specs.declared.kind.Kind.{Kind}
@@ -8,7 +8,7 @@ use Rattle.pearl_value.specs.declared.kind.Kind.TheVariants as kind
 use Rattle.pearl_value.specs.declared.cell.Cell.{Cell}
 use Rattle.pearl_value.specs.Cells.{kind_of}
 use Rattle.pearl_value.specs.Kinds.{IsKind}
-use Rattle.pearl_value.specs.WellFormed.{IsValueOf, FitsSpan}
+use Rattle.pearl_value.specs.WellFormed.{IsValueOf, FitsSpan, IsTyped}
 use Rattle.pearl_format.specs.Bytes.{IsTextByte}
 use Rattle.pearl_format.specs.Items.{Suits as SuitsKinds}
 use Rattle.pearl_rules.specs.declared.action.Action.{Action}
@@ -142,10 +142,6 @@ Fits setup (action.Trap trap) = Unit {0}
 -- a value where this one stood first
 abbrev pub IsLike : Cell → Cell → Type 0
 IsLike first x = IsValueOf (kind_of first) x
-
--- a byte that waits at a terminal: a line end, or one that texts are written of
-abbrev pub IsTyped : ℕ → Type 0
-IsTyped byte = (byte ≡ 10) ⊎ ((32 ≤ byte) × (byte ≤ 126))
 
 -- A device's channel is of its sort. What waits at a terminal are at most 4,096 bytes, at an input at most 256 values of its kind.
 abbrev pub IsChannelOf : Device → Channel → Type 0

@@ -31,7 +31,8 @@ use Rattle.pearl_check.specs.Views.{seen, value_kind, target_kind}
 use Rattle.pearl_value.specs.declared.device.Device.{Device}
 use Rattle.pearl_value.specs.declared.device.Device.TheVariants.{Terminal}
 use Rattle.pearl_program.specs.Typing.{Around, IsVariable, HaveKinds}
-use Rattle.pearl_program.specs.SoundStatements.{FitsSome, Writes, Reads, TakesTexts, GivesTexts, IsPut, IsGet, AreStmts}
+use Rattle.pearl_format.specs.Items.{FitsSome}
+use Rattle.pearl_program.specs.SoundStatements.{Writes, Reads, TakesTexts, GivesTexts, IsPut, IsGet, AreStmts}
 use Rattle.pearl_resolve.specs.Numbers.{At}
 use Rattle.pearl_resolve.specs.Cells.{get_cells}
 use Rattle.pearl_resolve.specs.Expressions.{Numbered, number_of, resolve_variable}

@@ -14,7 +14,7 @@ use Rattle.pearl_tree.specs.ShownModules.{ShownTree, shown_tree}
 use Rattle.pearl_names.specs.declared.scope.View.TheVariants.{Within}
 use Rattle.pearl_names.specs.Known.{Known, around}
 use Rattle.pearl_names.specs.Layout.{Leaf, slots_of}
-use Rattle.pearl_names.specs.Tables.{Form, form_of, table_of}
+use Rattle.pearl_names.specs.Tables.{Form, form_of, table_of, leaves_in}
 use Rattle.pearl_scope.specs.Parts.{Item}
 use Rattle.pearl_scope.specs.Rules.{slots_of_names, s7}
 use Rattle.pearl_scope.specs.Rules as names
@@ -30,7 +30,7 @@ use Rattle.pearl_value.specs.Devices.{AreRising}
 use Rattle.pearl_value.specs.Counts.{IsPreset}
 use Rattle.pearl_format.specs.Items.{IsFormat}
 use Rattle.pearl_program.specs.Sound.{IsLeaf}
-use Rattle.pearl_data.specs.Laying.{leaves_in, leaves_of_sense, constant_in, left_behind, filled_leaves}
+use Rattle.pearl_data.specs.Laying.{leaves_of_sense, constant_in, left_behind, filled_leaves}
 use Rattle.pearl_resolve.specs.Expressions.{Numbered, Meant, meant, number_of}
 use Rattle.pearl_resolve.specs.Statements.{names_renewals, variable_renewals}
 use Rattle.pearl_resolve.specs.Resolve.{names_leaves, resolve}
