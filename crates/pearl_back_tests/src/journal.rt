@@ -8,8 +8,9 @@ use crate::journal_inputs::{
 use arrayvec::ArrayVec;
 use pearl_journal::lines::{BadLine, Lines, Next};
 use pearl_rules::entry::Entry;
-use pearl_rules::setup::{Device, Direction, Setup, TaskEntry};
+use pearl_rules::setup::{Setup, TaskEntry};
 use pearl_value::cell::Cell;
+use pearl_value::device::{Device, Direction};
 use pearl_value::kind::Kind;
 use pearl_value::listing::Listing;
 use std::alloc::{AllocError, Global};

@@ -2,7 +2,7 @@
 use Prim.Native.String.{String}
 use Rattle.std.specs.Prelude.{ℕ, Bool, true, false, if◌then◌else◌, List, [], ◌∷◌, map, Option, Some, None, codes}
 use Rattle.pearl_tree.specs.declared.declaration.Class.TheVariants.{Alphic, Basic}
-use Rattle.pearl_tree.specs.declared.declaration.Direction.TheVariants.{InOut}
+use Rattle.pearl_value.specs.declared.device.Direction.TheVariants.{InOut}
 use Rattle.pearl_tree.specs.declared.fault.RuleFault.{RuleFault}
 use Rattle.pearl_tree.specs.declared.name.Name.{Name}
 use Rattle.pearl_tree.specs.declared.name.Number.{Number}

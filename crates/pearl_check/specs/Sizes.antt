@@ -1,5 +1,5 @@
 -- The sizes of a module, and the weights of its tasks and procedures.
-use Rattle.std.specs.Prelude.{ℕ, ◌+◌, ◌*◌, Bool, false, ◌&&◌, ◌||◌, nat_le, nat_lt, if◌then◌else◌, List, [], ◌∷◌, ◌++◌, length, map, take, drop, Option, Some, None, is_some, unwrap_or, slice_get, filter}
+use Rattle.std.specs.Prelude.{ℕ, ◌+◌, ◌*◌, Bool, false, ◌&&◌, ◌||◌, nat_le, nat_lt, if◌then◌else◌, List, [], ◌∷◌, ◌++◌, length, map, take, drop, Option, is_some, unwrap_or, slice_get, filter}
 use Rattle.std.specs.List.{list_any, flat_map, sum_by}
 use Rattle.pearl_tree.specs.declared.fault.RuleFault.{RuleFault}
 use Rattle.pearl_tree.specs.declared.name.Name.{Name}
@@ -8,11 +8,11 @@ use Rattle.pearl_tree.specs.Faults.{fault_if}
 use Rattle.pearl_tree.specs.Names.{name_text}
 use Rattle.pearl_tree.specs.ShownStatements.{ShownStmt, OfRepeat, OfGet}
 use Rattle.pearl_names.specs.Counts.{bytes_behind}
-use Rattle.pearl_names.specs.Layout.{Leaf, leaves_of, slots_of}
+use Rattle.pearl_names.specs.Layout.{Leaf, slots_of}
 use Rattle.pearl_scope.specs.Placed.{Placed}
 use Rattle.pearl_names.specs.Found.{names_in}
 use Rattle.pearl_names.specs.declared.scope.SortedName.{SortedName}
-use Rattle.pearl_names.specs.Tables.{Form, Sense, Variable, OwnParameter, Semaphore, Task, Procedure, Table}
+use Rattle.pearl_names.specs.Tables.{Form, Sense, Variable, OwnParameter, Semaphore, Task, Procedure, Table, leaves_in}
 use Rattle.pearl_check.specs.Asked.{asked_at}
 use Rattle.pearl_calls.specs.Callers.{Caller}
 use Rattle.pearl_calls.specs.Weights.{greatest, whole_weight}
@@ -31,11 +31,6 @@ with_senses entries senses = []
 -- the names of the module's own scope, in order
 abbrev pub declared_in : Table → List Declared
 declared_in table = with_senses (names_in (slice_get table.names 0)) (unwrap_or (slice_get table.senses 0) [])
-
--- where a rule is broken in a variable's declaration, it has no leaves here
-abbrev pub leaves_in : Option Form → List Leaf
-leaves_in None = []
-leaves_in (Some form) = leaves_of [] form.bounds form.shape
 
 abbrev pub slots_in : Option Form → ℕ
 slots_in form = length (slots_of (leaves_in form))

@@ -17,11 +17,11 @@ use crate::views::{misfits, target_kind, value_kind};
 use pearl_names::scope::View;
 use pearl_names::sense::Sense;
 use pearl_names::table::SenseTable;
-use pearl_tree::declaration::Direction;
 use pearl_tree::fault::RuleFault;
 use pearl_tree::name::Name;
 use pearl_tree::rule;
 use pearl_tree::statement::{Send, Take};
+use pearl_value::device::Direction;
 use pearl_value::kind::Kind;
 use std::alloc::{AllocError as NoMemory, Global};
 

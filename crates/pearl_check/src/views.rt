@@ -8,10 +8,10 @@ ghost use Rattle.pearl_check_expr.specs.Judged as judged;
 ghost use Rattle.pearl_check_expr.specs.Subjects.{shown_subject};
 ghost use Rattle.pearl_check.specs.Views as spec;
 
-use pearl_check_expr::kinds::suits_kind;
 use pearl_check_expr::subject::{Subject, kind_of};
 use pearl_names::table::SenseTable;
 use pearl_tree::expression::{Expr, Ref};
+use pearl_value::conversion::suits;
 use pearl_value::kind::Kind;
 use std::alloc::{AllocError as NoMemory, Global};
 
@@ -94,7 +94,7 @@ pub(crate) fn misfits(from: Option<Kind>, to: Option<Kind>) -> bool
     ensures { result ≡ judged.misfits from to }
 {
     match (from, to) {
-        (Some(from), Some(to)) => !suits_kind(from, to),
+        (Some(from), Some(to)) => !suits(from, to),
         _ => false,
     }
 }

@@ -3,5 +3,4 @@ pub mod Standings
 pub mod Walking
 pub mod Judging
 pub mod Faultless
-pub mod Suiting
 pub mod Undeclared

@@ -19,7 +19,8 @@ use Rattle.pearl_names.specs.declared.scope.View.{View}
 use Rattle.pearl_names.specs.Tables.{Parameter, Sense, Table, sense_from}
 use Rattle.pearl_check_expr.specs.Senses.{Callee, callee_of, is_fixed, is_semaphore}
 use Rattle.pearl_check_expr.specs.Literals.{literal_kind}
-use Rattle.pearl_check_expr.specs.Kinds.{suits_kind, is_kind}
+use Rattle.pearl_value.specs.Conversions.{suits_kind}
+use Rattle.pearl_check_expr.specs.Kinds.{is_kind}
 use Rattle.pearl_check_expr.specs.Standings.{Judged, faulty, judged_behind, Standing, Broken, Open, Walked, behind, variable_start, subscripted, selected, as_value, faults_of}
 
 -- the kind of a result. S15: an operator has no row for its operands

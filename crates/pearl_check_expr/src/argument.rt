@@ -10,7 +10,7 @@ ghost use Rattle.pearl_check_expr.specs.Judged as spec;
 ghost use Rattle.pearl_check_expr.specs.Answers.{IsArgument};
 
 use crate::callee::{callee_of, is_fixed};
-use crate::kinds::{is_kind, suits_kind};
+use crate::kinds::is_kind;
 use crate::tell::{tell, tell_if};
 use pearl_names::scope::View;
 use pearl_names::sense::{Parameter, Sense};
@@ -19,6 +19,7 @@ use pearl_tree::expression::{Expr, Operand, Primary};
 use pearl_tree::fault::RuleFault;
 use pearl_tree::name::Name;
 use pearl_tree::rule;
+use pearl_value::conversion::suits;
 use pearl_value::kind::Kind;
 use std::alloc::AllocError as NoMemory;
 
@@ -26,7 +27,7 @@ fn misfits(from: Option<Kind>, to: Option<Kind>) -> bool
     ensures { result ≡ spec.misfits from to }
 {
     match (from, to) {
-        (Some(from), Some(to)) => !suits_kind(from, to),
+        (Some(from), Some(to)) => !suits(from, to),
         _ => false,
     }
 }

@@ -1,15 +1,10 @@
 // What holds of every subject, and of the kinds and names in it.
 
-ghost use Rattle.pearl_check_expr.specs.Laws.{KindsHaveNoFault, KindsSuitAsValuesDo, NamesWithoutASenseAreUndeclared};
+ghost use Rattle.pearl_check_expr.specs.Laws.{KindsHaveNoFault, NamesWithoutASenseAreUndeclared};
 
 /// What has a kind has no fault: where a rule is broken in a subject, it has no kind.
 pub fn kinds_have_no_fault()
     ensures { KindsHaveNoFault }
-{}
-
-/// The rules and the conversions of values say the same of which kinds suit which.
-pub fn kinds_suit_as_values_do()
-    ensures { KindsSuitAsValuesDo }
 {}
 
 /// In the table of a tree a name has no sense exactly where it has no sort, so that S2 and the rules on expressions find

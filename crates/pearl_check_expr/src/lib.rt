@@ -7,7 +7,6 @@ pub mod kinds;
 pub mod laws;
 pub mod literal;
 pub mod operator;
-pub mod rows;
 pub mod standing;
 pub mod subject;
 pub mod tell;

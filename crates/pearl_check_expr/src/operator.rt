@@ -4,12 +4,12 @@ ghost use Rattle.std.specs.Prelude.{IfOk};
 ghost use Rattle.pearl_check_expr.specs.Judged as spec;
 ghost use Rattle.pearl_check_expr.specs.Answers.{IsJudged, of_kind};
 
-use crate::rows::{result_of_one, result_of_two};
 use crate::tell::tell;
 use pearl_tree::expression::{Dyadic, Monadic};
 use pearl_tree::fault::RuleFault;
 use pearl_tree::rule;
 use pearl_value::kind::Kind;
+use pearl_value::operator::{result1, result2};
 use std::alloc::AllocError as NoMemory;
 
 // The kind of a result. S15: an operator has no row for its operands.
@@ -34,7 +34,7 @@ fn with_monadic(
     ensures { IfOk result (λ answer. IsJudged answer found.old.items found.new.items (spec.monadic_result monadic kind)) }
 {
     match kind {
-        Some(kind) => result_of(found, monadic.place, result_of_one(monadic.operator, kind)),
+        Some(kind) => result_of(found, monadic.place, result1(monadic.operator, kind)),
         None => Ok(None),
     }
 }
@@ -70,7 +70,7 @@ pub(crate) fn with_dyadic(
         (Some(left), Some(right)) => result_of(
             found,
             dyadic.place,
-            result_of_two(dyadic.operator, left, right),
+            result2(dyadic.operator, left, right),
         ),
         _ => Ok(None),
     }

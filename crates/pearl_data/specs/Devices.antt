@@ -2,22 +2,13 @@
 use Rattle.std.specs.Prelude.{List, Option, unwrap_or}
 use Rattle.pearl_value.specs.declared.kind.Kind.{Kind}
 use Rattle.pearl_value.specs.declared.kind.Kind.TheVariants as kind
-use Rattle.pearl_tree.specs.declared.declaration.Direction.{Direction as Written}
-use Rattle.pearl_tree.specs.declared.declaration.Direction.TheVariants as written
+use Rattle.pearl_value.specs.declared.device.Device.{Device}
+use Rattle.pearl_value.specs.declared.device.Device.TheVariants as device
 use Rattle.pearl_names.specs.declared.length.DefaultLength.{DefaultLength}
 use Rattle.pearl_names.specs.Lengths.{kind_of_basic}
 use Rattle.pearl_system.specs.declared.device.Role.{Role}
 use Rattle.pearl_system.specs.declared.device.Role.TheVariants as role
 use Rattle.pearl_system.specs.declared.device.SpecifiedDevice.{SpecifiedDevice}
-use Rattle.pearl_program.specs.declared.table.Direction.{Direction}
-use Rattle.pearl_program.specs.declared.table.Direction.TheVariants.{In, Out, InOut}
-use Rattle.pearl_program.specs.declared.table.Device.{Device}
-use Rattle.pearl_program.specs.declared.table.Device.TheVariants as device
-
-abbrev pub direction_of : Written → Direction
-direction_of written.In = In
-direction_of written.Out = Out
-direction_of written.InOut = InOut
 
 abbrev pub kind_or_short : Option Kind → Kind
 kind_or_short known = unwrap_or known (kind.Fixed 31)
@@ -27,6 +18,6 @@ device_of lengths specified = of specified.role
   where
     of : Role → Device
     of role.Interrupt = device.Interrupt specified.number
-    of (role.Terminal direction) = device.Terminal specified.number (direction_of direction)
+    of (role.Terminal direction) = device.Terminal specified.number direction
     of (role.Input basic) = device.Input specified.number (kind_or_short (kind_of_basic lengths basic))
     of (role.Output basic) = device.Output specified.number (kind_or_short (kind_of_basic lengths basic))

@@ -11,15 +11,10 @@ use Rattle.pearl_tree.specs.declared.literal.Sign.{Sign}
 use Rattle.pearl_tree.specs.declared.literal.Sign.TheVariants.{Minus}
 use Rattle.pearl_tree.specs.Durations.{milliseconds_of}
 use Rattle.pearl_tree.specs.ShownLiterals.{ShownLiteral, OfNumber, OfBits, OfText, OfClock, OfDuration, ShownConst}
-use Rattle.pearl_names.specs.Layout.{Leaf, leaves_of, elements}
-use Rattle.pearl_names.specs.Tables.{Form, Sense, Variable, OwnParameter}
+use Rattle.pearl_names.specs.Layout.{Leaf, elements}
+use Rattle.pearl_names.specs.Tables.{Form, Sense, Variable, OwnParameter, leaves_in}
 use Rattle.pearl_program.specs.PlainStatements.{PlainValues}
 use Rattle.pearl_program.specs.PlainPrograms.{PlainLeaf}
-
--- where a rule is broken in a variable's declaration, it has no leaves
-abbrev pub leaves_in : Option Form → List Leaf
-leaves_in None = []
-leaves_in (Some form) = leaves_of [] form.bounds form.shape
 
 abbrev pub leaves_of_sense : Sense → List Leaf
 leaves_of_sense (Variable form inv) = leaves_in form

@@ -4,22 +4,11 @@ ghost use Rattle.std.specs.Prelude.{◌≡◌, map, IfOk};
 ghost use Rattle.pearl_data.specs.Devices as spec;
 
 use pearl_names::length::{Lengths, kind_of_basic};
-use pearl_program::table::{Device, Direction};
 use pearl_system::device::{Role, SpecifiedDevice};
-use pearl_tree::declaration::Direction as Written;
+use pearl_value::device::Device;
 use pearl_value::kind::Kind;
 use pearl_value::listing::Listing;
 use std::alloc::{AllocError, Global};
-
-fn direction_of(direction: Written) -> Direction
-    ensures { result ≡ spec.direction_of direction }
-{
-    match direction {
-        Written::In => Direction::In,
-        Written::Out => Direction::Out,
-        Written::InOut => Direction::InOut,
-    }
-}
 
 /// A kind that is known, or FIXED(31) where a rule is broken in it.
 pub fn kind_or_short(known: Option<Kind>) -> Kind
@@ -39,7 +28,7 @@ fn device_of(lengths: &Lengths, specified: &SpecifiedDevice) -> Device
         Role::Interrupt => Device::Interrupt { number },
         Role::Terminal { direction } => Device::Terminal {
             number,
-            direction: direction_of(*direction),
+            direction: *direction,
         },
         Role::Input { basic } => Device::Input {
             number,

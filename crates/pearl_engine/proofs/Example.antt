@@ -11,8 +11,8 @@ use Rattle.pearl_value.specs.declared.operator.Dyad.TheVariants.{Add}
 use Rattle.pearl_format.specs.declared.item.ItemCode.TheVariants.{F, Skip}
 use Rattle.pearl_rules.specs.declared.entry.Entry.TheVariants.{Run}
 use Rattle.pearl_rules.specs.declared.event.Event.TheVariants.{Start, Out, End as Ended}
-use Rattle.pearl_rules.specs.declared.setup.Device.TheVariants.{Terminal}
-use Rattle.pearl_rules.specs.declared.setup.Direction.TheVariants.{Out as Outwards}
+use Rattle.pearl_value.specs.declared.device.Device.TheVariants.{Terminal}
+use Rattle.pearl_value.specs.declared.device.Direction.TheVariants.{Out as Outwards}
 use Rattle.pearl_rules.specs.Core.{Happened}
 use Rattle.pearl_rules.specs.Effect.{effect}
 use Rattle.pearl_rules.specs.Runs.{machine_step, machine_next}

@@ -10,17 +10,17 @@ use Rattle.pearl_rules.specs.declared.action.Action.{Action}
 use Rattle.pearl_rules.specs.declared.action.Action.TheVariants as action
 use Rattle.pearl_rules.specs.declared.action.Start.{Start}
 use Rattle.pearl_rules.specs.declared.action.Start.TheVariants as start
-use Rattle.pearl_rules.specs.declared.setup.Device.{Device}
-use Rattle.pearl_rules.specs.declared.setup.Device.TheVariants as device
+use Rattle.pearl_value.specs.declared.device.Device.{Device}
+use Rattle.pearl_value.specs.declared.device.Device.TheVariants as device
 use Rattle.pearl_rules.specs.Tables.{input_kind, output_kind, items_or_none}
 use Rattle.pearl_format.specs.declared.item.Item.{Item}
-use Rattle.pearl_format.specs.Items.{Suits}
+use Rattle.pearl_format.specs.Items.{Suits, FitsSome}
 use Rattle.pearl_value.specs.declared.kind.Kind.TheVariants as kind
 use Rattle.pearl_rules.specs.declared.action.Answer.{Answer}
 use Rattle.pearl_rules.specs.declared.action.Answer.TheVariants.{One}
 use Rattle.pearl_rules.specs.Slots as rules
 use Rattle.pearl_instructions.specs.declared.object.Object.{Object}
-use Rattle.pearl_instructions.specs.Actions.{FitsSome, IsOf, IsOffered, IsStart, IsOnce, IsLater}
+use Rattle.pearl_instructions.specs.Actions.{IsOf, IsOffered, IsStart, IsOnce, IsLater}
 use Rattle.pearl_instructions.specs.Lawful.{IsObject}
 use Rattle.pearl_instructions.specs.Objects.{slot_kind}
 use Rattle.pearl_instructions.specs.Kinds.{plain_kind, kind_taken}

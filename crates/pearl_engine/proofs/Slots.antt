@@ -6,7 +6,7 @@ use Rattle.std.proofs.lemmas.List.{length-append, length-replicate}
 use Rattle.std.proofs.lemmas.List.Sums.{sum_by-cons}
 use Rattle.pearl_value.specs.declared.cell.Cell.{Cell}
 use Rattle.pearl_value.specs.declared.kind.Kind.{Kind}
-use Rattle.pearl_value.specs.Blanks.{blank_of}
+use Rattle.pearl_value.specs.Blanks.{blank_of, last_or}
 use Rattle.pearl_value.specs.Cells.{kind_of}
 use Rattle.pearl_value.specs.WellFormed.{IsValue, IsValueOf}
 use Rattle.pearl_value.proofs.Results.{blank_gives}
@@ -14,7 +14,7 @@ use Rattle.pearl_rules.specs.Core.{cell_or_zero, value_at}
 use Rattle.pearl_instructions.specs.declared.object.Leaf.{Leaf}
 use Rattle.pearl_instructions.specs.Lawful.{IsLeaf}
 use Rattle.pearl_instructions.specs.Objects.{slot_kind}
-use Rattle.pearl_engine.specs.Setups.{last_or, first_cells}
+use Rattle.pearl_engine.specs.Setups.{first_cells}
 
 pub all_joined : {A : Type 0} (P : A → Type 0) (xs ys : List A) → AllByRecursion P xs → AllByRecursion P ys → AllByRecursion P (xs ++ ys)
 all_joined P [] ys all more = more

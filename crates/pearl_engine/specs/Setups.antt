@@ -1,8 +1,8 @@
 -- The tables from which an object's run starts.
-use Rattle.std.specs.Prelude.{◌-◌, List, [], ◌∷◌, ◌++◌, length, map, replicate}
+use Rattle.std.specs.Prelude.{◌-◌, List, ◌++◌, length, map, replicate}
 use Rattle.std.specs.List.{flat_map}
 use Rattle.pearl_value.specs.declared.cell.Cell.{Cell}
-use Rattle.pearl_value.specs.Blanks.{blank_of}
+use Rattle.pearl_value.specs.Blanks.{blank_of, last_or}
 use Rattle.pearl_rules.specs.declared.setup.TaskEntry.{TaskEntry}
 use Rattle.pearl_rules.specs.declared.setup.Setup.{Setup}
 use Rattle.pearl_instructions.specs.declared.object.Leaf.{Leaf}
@@ -11,11 +11,6 @@ use Rattle.pearl_instructions.specs.declared.object.Object.{Object}
 
 abbrev pub entry_of : Task → TaskEntry
 entry_of task = record { name = task.name; priority = task.priority; main = task.main }
-
--- the last of a list, or else this one
-abbrev pub last_or : Cell → List Cell → Cell
-last_or x [] = x
-last_or x (y ∷ rest) = last_or y rest
 
 -- what the slots of a leaf hold at first: the constants in order, and the last of them in all that are left; without constants they
 -- are unset

@@ -1,15 +1,14 @@
 -- An answer that suits what is offered in an object with a program's tables suits it in the program.
 use Rattle.std.proofs.Common.{◌≡◌, ℕ, List, [], ◌∷◌, ◌++◌, map, Option, Some, None, refl, sym, subst, ap, ◌∙◌, append_assoc, append-nil}
-use Rattle.std.specs.Prelude.{◌-◌, nat_lt, if◌then◌else◌, option_map, option_and_then, slice_get}
-use Rattle.std.proofs.lemmas.Option.{slice_get-map}
+use Rattle.std.specs.Prelude.{◌-◌, nat_lt, if◌then◌else◌, option_and_then, slice_get}
 use Rattle.pearl_value.specs.declared.kind.Kind.{Kind}
 use Rattle.pearl_value.specs.declared.kind.Kind.TheVariants as kind
 use Rattle.pearl_rules.specs.declared.action.Action.{Action}
 use Rattle.pearl_rules.specs.declared.action.Action.TheVariants as action
 use Rattle.pearl_rules.specs.declared.action.Answer.{Answer}
 use Rattle.pearl_rules.specs.declared.action.Answer.TheVariants.{Nothing, One, Many}
-use Rattle.pearl_program.specs.declared.table.Device.{Device}
-use Rattle.pearl_program.specs.declared.table.Device.TheVariants.{Interrupt, Terminal, Input, Output}
+use Rattle.pearl_value.specs.declared.device.Device.{Device}
+use Rattle.pearl_value.specs.declared.device.Device.TheVariants.{Interrupt, Terminal, Input, Output}
 use Rattle.pearl_program.specs.PlainPrograms.{PlainProg}
 use Rattle.pearl_instructions.specs.declared.object.Leaf.{Leaf}
 use Rattle.pearl_instructions.specs.declared.object.Object.{Object}
@@ -18,15 +17,15 @@ use Rattle.pearl_instructions.specs.Kinds.{plain_kind, kind_taken}
 use Rattle.pearl_instructions.specs.Stacks as stacks
 use Rattle.pearl_instructions.specs.Stacks.{Answers}
 use Rattle.pearl_meaning.specs.Programs.{offer}
-use Rattle.pearl_meaning.specs.Hearing.{slot_kind, input_kind, IsOneOf, AreOf, Suits, HeardAfter}
-use Rattle.pearl_meaning.specs.ProgramRuns.{device_of}
+use Rattle.pearl_rules.specs.Tables.{input_kind}
+use Rattle.pearl_meaning.specs.Hearing.{slot_kind, IsOneOf, AreOf, Suits, HeardAfter}
 use Rattle.pearl_gen_expr.specs.Tables.{HasTables, plain_leaf}
 
 same_slots : (leaves : List Leaf) (slot : ℕ) → objects.slot_kind leaves slot ≡ slot_kind (map plain_leaf leaves) slot
 same_slots [] slot = refl
 same_slots (leaf ∷ leaves) slot = ap (λ found. if nat_lt slot leaf.slots then Some leaf.kind else found) (same_slots leaves (slot - leaf.slots))
 
-same_inputs : (device : Option Device) → option_and_then plain_kind (kind_taken (option_map device_of device)) ≡ input_kind device
+same_inputs : (device : Option Device) → option_and_then plain_kind (kind_taken device) ≡ input_kind device
 same_inputs None = refl
 same_inputs (Some (Interrupt number)) = refl
 same_inputs (Some (Terminal number way)) = refl
@@ -54,7 +53,7 @@ module _ (p : PlainProg) (o : Object) (tables : HasTables p o) (t : ℕ) where
   suits (action.Take device) answer is =
       one_of (input_kind (slice_get p.devices device)) answer
       (subst (λ found. stacks.IsOneOf found answer)
-      (ap (λ found. option_and_then plain_kind (kind_taken found)) (ap (λ devices. slice_get devices device) tables.devices ∙ slice_get-map device_of p.devices device)
+      (ap (λ found. option_and_then plain_kind (kind_taken found)) (ap (λ devices. slice_get devices device) tables.devices)
       ∙ same_inputs (slice_get p.devices device))
       is)
   suits (action.Get device format kinds) answer is = are_of kinds.items answer is

@@ -1,22 +1,14 @@
 -- The tables from which an object's run starts are those of its program.
-use Rattle.std.proofs.Common.{◌≡◌, List, [], ◌∷◌, ◌++◌, map, length, refl, ap, ◌∙◌}
-use Rattle.std.specs.Prelude.{◌-◌, replicate}
+use Rattle.std.proofs.Common.{◌≡◌, List, [], ◌∷◌, ◌++◌, map, refl, ap, ◌∙◌}
 use Rattle.std.specs.List.{flat_map}
-use Rattle.pearl_value.specs.declared.cell.Cell.{Cell}
-use Rattle.pearl_value.specs.Blanks.{blank_of}
-use Rattle.pearl_program.specs.FirstCells as program_cells
 use Rattle.pearl_instructions.specs.declared.object.Leaf.{Leaf}
 use Rattle.pearl_meaning.specs.ProgramRuns as program
-use Rattle.pearl_engine.specs.Setups.{last_or, first_cells}
+use Rattle.pearl_engine.specs.Setups.{first_cells}
 use Rattle.pearl_gen_expr.specs.Tables.{plain_leaf}
 use Rattle.pearl_faithful.specs.Laws.{SameTables}
 
-same_last : (x : Cell) (xs : List Cell) → last_or x xs ≡ program_cells.last_or x xs
-same_last x [] = refl
-same_last x (y ∷ rest) = same_last y rest
-
 same_cells : (leaf : Leaf) → first_cells leaf ≡ program.slots_of (plain_leaf leaf)
-same_cells leaf = ap (λ last. leaf.constants ++ replicate (leaf.slots - length leaf.constants) last) (same_last (blank_of leaf.kind) leaf.constants)
+same_cells leaf = refl
 
 same_slots : (leaves : List Leaf) → flat_map first_cells leaves ≡ flat_map program.slots_of (map plain_leaf leaves)
 same_slots [] = refl

@@ -1,5 +1,6 @@
 -- Which format items suit which kinds, and how much they count.
-use Rattle.std.specs.Prelude.{ℕ, ◌+◌, ◌<◌, ◌≤◌, List, [], ◌∷◌, drop}
+use Rattle.std.specs.Prelude.{ℕ, ◌+◌, ◌<◌, ◌≤◌, List, [], ◌∷◌, drop, length, Option, Some, None}
+use Rattle.std.specs.List.{AllByRecursion}
 use Rattle.pearl_value.specs.declared.kind.Kind.{Kind}
 use Rattle.pearl_value.specs.declared.kind.Kind.TheVariants.{Fixed, Bits, Chars, Clock, Span}
 use Rattle.pearl_format.specs.declared.item.ItemCode.{ItemCode}
@@ -58,6 +59,14 @@ HasWidth T width = 8 ≤ width
 HasWidth D width = 0 < width
 HasWidth code width = Unit {0}
 
+-- the width suits the code, and is at most 255
+abbrev pub IsItem : Item → Type 0
+IsItem item = HasWidth item.code item.width × (item.width ≤ 255)
+
+-- how many values the items take and how long their text gets is asked only of the PUT or GET that names the format
+abbrev pub IsFormat : List Item → Type 0
+IsFormat items = AllByRecursion IsItem items
+
 -- an item takes a value of its kind
 abbrev pub TakesKind : ItemCode → ℕ → Kind → Type 0
 TakesKind A width (Chars len) = HasWidth A width
@@ -85,3 +94,13 @@ IsNoKind (kind ∷ kinds) = ⊥
 abbrev pub Suits : List Item → List Kind → Type 0
 Suits [] kinds = IsNoKind kinds
 Suits (item ∷ items) kinds = SuitsItem item.code item.width kinds (λ rest. Suits items rest)
+
+-- the items suit the values' kinds, at most 64, and their widths are at most 1,024 together
+pub record FitsFormat (items : List Item) (kinds : List Kind) : Type 0 where
+  pub suits : Suits items kinds
+  pub few : length kinds ≤ 64
+  pub short : text_width items kinds ≤ 1024
+
+abbrev pub FitsSome : Option (List Item) → List Kind → Type 0
+FitsSome None kinds = ⊥
+FitsSome (Some items) kinds = FitsFormat items kinds

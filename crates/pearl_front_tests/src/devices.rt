@@ -3,8 +3,8 @@
 use crate::cases::{STOP, expect, places_of, show_faults, tree_of};
 use pearl_system::device::{Role, SpecifiedDevice};
 use pearl_system::system;
-use pearl_tree::declaration::Direction;
 use pearl_tree::typing::{Basic, Sort};
+use pearl_value::device::Direction;
 use std::alloc::{AllocError, Global};
 use std::test::Fail;
 

@@ -13,13 +13,13 @@ use Rattle.pearl_value.specs.declared.operator.Monad.{Monad}
 use Rattle.pearl_value.specs.declared.operator.Dyad.{Dyad}
 use Rattle.pearl_value.specs.Cells.{cell_kind_of}
 use Rattle.pearl_value.specs.Rows.{row1, row2}
-use Rattle.pearl_value.specs.Conversions.{SuitsKind}
+use Rattle.pearl_value.specs.Conversions.{SuitsKind, suits_kind}
+use Rattle.pearl_value.proofs.Suiting.{suits_both}
 use Rattle.pearl_instructions.specs.declared.instr.Instr.{Instr}
 use Rattle.pearl_instructions.specs.declared.instr.Instr.TheVariants as instr
 use Rattle.pearl_instructions.specs.declared.object.Leaf.{Leaf}
 use Rattle.pearl_instructions.specs.declared.object.Code.{Code}
 use Rattle.pearl_instructions.specs.declared.object.Object.{Object}
-use Rattle.pearl_instructions.specs.Operators.{suits_kind}
 use Rattle.pearl_instructions.specs.Operands.{Shape, same_cell, is_reference}
 use Rattle.pearl_instructions.specs.Named.{has_cells, cells_at}
 use Rattle.pearl_instructions.specs.Kinds.{is_uniform, shape_after, leaf_kind, reference_to}
@@ -27,12 +27,7 @@ use Rattle.pearl_gen_expr.specs.Shapes.{IsQuiet, Keeps}
 use Rattle.pearl_gen_expr.proofs.Shapes.{and_is, same_cell_self, one_keeps}
 
 pub suits : (from to : Kind) → SuitsKind from to → suits_kind from to ≡ true
-suits (kind_.Fixed a) (kind_.Fixed b) s = refl
-suits (kind_.Bits a) (kind_.Bits b) s = le-leb a b s
-suits (kind_.Chars a) (kind_.Chars b) s = le-leb a b s
-suits kind_.Clock kind_.Clock s = refl
-suits kind_.Span kind_.Span s = refl
-suits from to s = absurd s
+suits from to = (suits_both from to).1
 
 module _ (o : Object) (r : ℕ) (code : Code) (place : ℕ) (quiet : IsQuiet code (place + 1)) where
   -- what an instruction makes of the shape, told in another way

@@ -10,7 +10,7 @@ use Rattle.pearl_value.specs.declared.operator.Dyad.{Dyad}
 use Rattle.pearl_value.specs.declared.trap.Trap.{Trap}
 use Rattle.pearl_value.specs.Rows.{row1, row2}
 use Rattle.pearl_value.specs.Applied.{applied1, applied2}
-use Rattle.pearl_value.specs.Conversions.{converted}
+use Rattle.pearl_value.specs.Conversions.{converted, suits_kind}
 use Rattle.pearl_rules.specs.declared.action.Action.TheVariants as action
 use Rattle.pearl_rules.specs.declared.action.Answer.{Answer}
 use Rattle.pearl_program.specs.declared.expression.Bound.{Bound}
@@ -19,7 +19,7 @@ use Rattle.pearl_instructions.specs.declared.instr.Bounds.{Bounds}
 use Rattle.pearl_instructions.specs.declared.instr.Instr.TheVariants as instr
 use Rattle.pearl_instructions.specs.declared.object.Object.{Object}
 use Rattle.pearl_instructions.specs.Steps.{Step, given, needed, value_kind, makes, leaves}
-use Rattle.pearl_instructions.specs.Operators.{suits_kind, numbers_of, offset_of, index_of}
+use Rattle.pearl_instructions.specs.Operators.{numbers_of, offset_of, index_of}
 use Rattle.pearl_meaning.specs.Frames.{Store}
 use Rattle.pearl_meaning.specs.Evaluation as evaluation
 use Rattle.pearl_meaning.specs.Evaluation.{Outcome, Does, gives, value_or_trap, ask_value, own_cell}

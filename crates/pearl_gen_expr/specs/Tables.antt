@@ -4,7 +4,7 @@ use Rattle.pearl_value.specs.declared.kind.Kind.{Kind}
 use Rattle.pearl_value.specs.declared.kind.CellKind.{CellKind}
 use Rattle.pearl_rules.specs.declared.setup.TaskEntry.{TaskEntry}
 use Rattle.pearl_program.specs.PlainPrograms.{PlainLeaf, PlainProcedure, PlainTask, PlainProg}
-use Rattle.pearl_meaning.specs.ProgramRuns.{device_of, entry_of}
+use Rattle.pearl_meaning.specs.ProgramRuns.{entry_of}
 use Rattle.pearl_instructions.specs.declared.object.Leaf.{Leaf}
 use Rattle.pearl_instructions.specs.declared.object.Procedure.{Procedure}
 use Rattle.pearl_instructions.specs.declared.object.Task.{Task}
@@ -32,7 +32,7 @@ code_entry task = record { name = task.name; priority = task.priority; main = ta
 pub record HasTables (p : PlainProg) (o : Object) : Type 0 where
   pub leaves : map plain_leaf o.leaves ≡ p.leaves
   pub semaphores : o.semaphores ≡ p.semaphores
-  pub devices : o.devices ≡ map device_of p.devices
+  pub devices : o.devices ≡ p.devices
   pub formats : o.formats ≡ p.formats
   pub procedures : map code_head o.procedures ≡ map head_of p.procedures
   pub tasks : map code_entry o.tasks ≡ map entry_of p.tasks

@@ -18,7 +18,7 @@ use Rattle.pearl_value.specs.declared.trap.Trap.TheVariants.{Index, Range}
 use Rattle.pearl_value.specs.Blanks.{filled_to, blank_of}
 use Rattle.pearl_value.specs.Cells.{kind_of}
 use Rattle.pearl_format.specs.declared.item.Item.{Item}
-use Rattle.pearl_format.specs.Items.{data_count}
+use Rattle.pearl_format.specs.Items.{data_count, FitsSome}
 use Rattle.pearl_format.proofs.Counts.{suits-length}
 use Rattle.pearl_rules.specs.declared.action.Action.TheVariants as action
 use Rattle.pearl_rules.specs.declared.action.Answer.{Answer}
@@ -30,7 +30,6 @@ use Rattle.pearl_program.specs.declared.expression.Bound.{Bound}
 use Rattle.pearl_program.specs.PlainExpressions.{PlainVariable, OfVariable, PlainExprs, NoExprs, MoreExprs}
 use Rattle.pearl_program.specs.PlainPrograms.{PlainLeaf}
 use Rattle.pearl_program.specs.Typing.{Around, elements, IsParam, IsVariable}
-use Rattle.pearl_program.specs.SoundStatements.{FitsSome}
 use Rattle.pearl_program.specs.Weights.{calls, of_variable, of_variables}
 use Rattle.pearl_instructions.specs.declared.instr.Instr.TheVariants as instr
 use Rattle.pearl_instructions.specs.declared.instr.Reading.{Reading}

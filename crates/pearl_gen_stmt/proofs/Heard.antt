@@ -1,15 +1,14 @@
 -- An answer that suits what a program's task does suits it in an object with the program's tables.
-use Rattle.std.specs.Prelude.{◌≡◌, ℕ, ◌-◌, nat_lt, if◌then◌else◌, List, [], ◌∷◌, map, Option, Some, None, option_map, option_and_then, slice_get}
+use Rattle.std.specs.Prelude.{◌≡◌, ℕ, ◌-◌, nat_lt, if◌then◌else◌, List, [], ◌∷◌, map, Option, Some, None, option_and_then, slice_get}
 use Rattle.std.proofs.Common.{refl, sym, subst, ap, ◌∙◌}
-use Rattle.std.proofs.lemmas.Option.{slice_get-map}
 use Rattle.pearl_value.specs.declared.kind.Kind.{Kind}
 use Rattle.pearl_value.specs.declared.kind.Kind.TheVariants as kind
 use Rattle.pearl_rules.specs.declared.action.Action.{Action}
 use Rattle.pearl_rules.specs.declared.action.Action.TheVariants as action
 use Rattle.pearl_rules.specs.declared.action.Answer.{Answer}
 use Rattle.pearl_rules.specs.declared.action.Answer.TheVariants.{Nothing, One, Many}
-use Rattle.pearl_program.specs.declared.table.Device.{Device}
-use Rattle.pearl_program.specs.declared.table.Device.TheVariants.{Interrupt, Terminal, Input, Output}
+use Rattle.pearl_value.specs.declared.device.Device.{Device}
+use Rattle.pearl_value.specs.declared.device.Device.TheVariants.{Interrupt, Terminal, Input, Output}
 use Rattle.pearl_program.specs.PlainPrograms.{PlainProg}
 use Rattle.pearl_instructions.specs.declared.object.Leaf.{Leaf}
 use Rattle.pearl_instructions.specs.declared.object.Object.{Object}
@@ -17,8 +16,8 @@ use Rattle.pearl_instructions.specs.Objects as objects
 use Rattle.pearl_instructions.specs.Kinds.{plain_kind, kind_taken}
 use Rattle.pearl_instructions.specs.Stacks as stacks
 use Rattle.pearl_instructions.specs.Stacks.{Answers}
-use Rattle.pearl_meaning.specs.Hearing.{slot_kind, input_kind, IsOneOf, AreOf, Suits}
-use Rattle.pearl_meaning.specs.ProgramRuns.{device_of}
+use Rattle.pearl_rules.specs.Tables.{input_kind}
+use Rattle.pearl_meaning.specs.Hearing.{slot_kind, IsOneOf, AreOf, Suits}
 use Rattle.pearl_gen_expr.specs.Tables.{HasTables, plain_leaf}
 
 slots_same : (leaves : List Leaf) (slot : ℕ) → slot_kind (map plain_leaf leaves) slot ≡ objects.slot_kind leaves slot
@@ -41,7 +40,7 @@ many_same kinds Nothing are = are
 many_same kinds (One x) are = are
 many_same kinds (Many xs) are = are
 
-taken_same : (device : Option Device) → input_kind device ≡ option_and_then plain_kind (kind_taken (option_map device_of device))
+taken_same : (device : Option Device) → input_kind device ≡ option_and_then plain_kind (kind_taken device)
 taken_same None = refl
 taken_same (Some (Interrupt number)) = refl
 taken_same (Some (Terminal number way)) = refl
@@ -58,7 +57,7 @@ module _ (p : PlainProg) (o : Object) (tables : HasTables p o) (t : ℕ) where
   suits_same (action.Take device) answer suits =
       one_same (option_and_then plain_kind (kind_taken (slice_get o.devices device))) answer
       (subst (λ found. IsOneOf found answer)
-      (taken_same (slice_get p.devices device) ∙ ap (λ found. option_and_then plain_kind (kind_taken found)) (sym (ap (λ devices. slice_get devices device) tables.devices ∙ slice_get-map device_of p.devices device)))
+      (taken_same (slice_get p.devices device) ∙ ap (λ found. option_and_then plain_kind (kind_taken found)) (ap (λ devices. slice_get devices device) (sym tables.devices)))
       suits)
   suits_same (action.Get device format kinds) answer suits = many_same kinds.items answer suits
   suits_same action.End answer suits = suits

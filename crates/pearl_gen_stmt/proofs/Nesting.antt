@@ -7,7 +7,7 @@ use Rattle.pearl_value.specs.declared.listing.Listing.{Listing}
 use Rattle.pearl_program.specs.declared.statement.Stmt.{Stmt}
 use Rattle.pearl_program.specs.declared.statement.Branch.{Branch}
 use Rattle.pearl_program.specs.PlainExpressions.{PlainExpr}
-use Rattle.pearl_program.specs.PlainStatements.{PlainCounter, OfIf, OfCase, OfRepeat, OfExit, PlainStmts, NoStmts, PlainBranches, plain_stmt, plain_stmts}
+use Rattle.pearl_program.specs.PlainStatements.{PlainCounter, OfIf, OfCase, OfRepeat, OfExit, PlainStmts, NoStmts, PlainBranches, plain_stmt, plain_stmts, plain_branches}
 use Rattle.pearl_meaning.specs.Setting.{Setting}
 use Rattle.pearl_instructions.specs.declared.instr.Instr.{Instr}
 use Rattle.pearl_instructions.specs.declared.instr.Instr.TheVariants as instr
@@ -15,7 +15,7 @@ use Rattle.pearl_gen_expr.specs.ExprCode.{Is}
 use Rattle.pearl_gen_expr.specs.Emitting.{Extends, EmitsExpr}
 use Rattle.pearl_gen_expr.proofs.Emitted.{still_is, last_is, one_longer, extends_one, extends_more}
 use Rattle.pearl_gen_stmt.specs.StmtCode.{on_task, ListAt, BeginsAt, CountsAt, WhileAt, AdvanceAt, StmtAt, StmtsAt, ElseAt, BranchesAt}
-use Rattle.pearl_gen_stmt.specs.Emission.{pending, Stays, Exits, GoBehind, Adds, AddsTest, AddsStmt, AddsStmts, AddsElse, AddsBranches, plain_branches}
+use Rattle.pearl_gen_stmt.specs.Emission.{pending, Stays, Exits, GoBehind, Adds, AddsTest, AddsStmt, AddsStmts, AddsElse, AddsBranches}
 use Rattle.pearl_gen_stmt.specs.declared.pending.Pending.TheVariants.{Exit, Test, Branch as Behind}
 use Rattle.pearl_gen_stmt.proofs.Adding.{stays_on, stays_one, last_stays, alone_adds}
 use Rattle.pearl_gen_stmt.proofs.Settling.{one_left, extends_longer, stays_then}

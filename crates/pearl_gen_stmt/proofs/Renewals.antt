@@ -4,9 +4,9 @@ use Rattle.std.proofs.Common.{refl, sym, subst, ap, ◌∙◌, arith, append-nil
 use Rattle.std.proofs.lemmas.List.{length-set, length-replicate, length-append, length-drop, take-append-drop}
 use Rattle.pearl_value.specs.declared.kind.Kind.{Kind}
 use Rattle.pearl_value.specs.declared.cell.Cell.{Cell}
-use Rattle.pearl_value.specs.Blanks.{blank_of}
+use Rattle.pearl_value.specs.Blanks.{blank_of, last_or}
 use Rattle.pearl_rules.specs.declared.action.Answer.{Answer}
-use Rattle.pearl_program.specs.FirstCells.{first_cells, last_or}
+use Rattle.pearl_program.specs.FirstCells.{first_cells}
 use Rattle.pearl_program.specs.PlainStatements.{PlainValues}
 use Rattle.pearl_instructions.specs.declared.instr.Instr.TheVariants as instr
 use Rattle.pearl_instructions.specs.declared.object.Object.{Object}

@@ -16,7 +16,8 @@ use Rattle.pearl_program.specs.PlainStatements.{PlainPeriodEnd, OfUntil, OfDurin
 use Rattle.pearl_program.specs.PlainPrograms.{PlainProcedure}
 use Rattle.pearl_program.specs.Sound.{signature_of}
 use Rattle.pearl_program.specs.Typing.{Around, Signature, HasKind, Suit, IsFixed}
-use Rattle.pearl_program.specs.SoundStatements.{IsStmt, AreStmts, AreBranches, IsIf, IsCounter, IsGet, IsReturn, IsStart, IsOnce, IsPeriod, IsPeriodEnd, within, FitsSome}
+use Rattle.pearl_format.specs.Items.{FitsSome}
+use Rattle.pearl_program.specs.SoundStatements.{IsStmt, AreStmts, AreBranches, IsIf, IsCounter, IsGet, IsReturn, IsStart, IsOnce, IsPeriod, IsPeriodEnd, within}
 use Rattle.pearl_program.specs.SoundStatements as sound
 use Rattle.pearl_program.specs.Weights.{calls, of_expr, of_if, of_counter, of_start, of_once, of_period, of_period_end, of_variables, of_stmt, greatest, greatest_of_all, greatest_of_branches}
 use Rattle.pearl_instructions.specs.declared.instr.Instr.{Instr}

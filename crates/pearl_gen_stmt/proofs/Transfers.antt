@@ -7,7 +7,7 @@ use Rattle.std.proofs.Math.Seq.{take-append_seam, drop-append_seam}
 use Rattle.pearl_value.specs.declared.kind.Kind.{Kind}
 use Rattle.pearl_value.specs.declared.cell.Cell.{Cell}
 use Rattle.pearl_value.specs.declared.trap.Trap.TheVariants.{Format}
-use Rattle.pearl_format.specs.Items.{data_count}
+use Rattle.pearl_format.specs.Items.{data_count, FitsSome}
 use Rattle.pearl_format.specs.Texts.{text_of}
 use Rattle.pearl_format.proofs.Counts.{suits-length}
 use Rattle.pearl_rules.specs.declared.action.Action.TheVariants as action
@@ -17,7 +17,6 @@ use Rattle.pearl_stack.specs.Frames.{Frame}
 use Rattle.pearl_program.specs.PlainExpressions.{PlainExpr, PlainVariable, PlainExprs, PlainArguments}
 use Rattle.pearl_program.specs.PlainPrograms.{PlainProcedure}
 use Rattle.pearl_program.specs.Typing.{Around, HasKind, IsVariable, Suit, HaveKinds}
-use Rattle.pearl_program.specs.SoundStatements.{FitsSome}
 use Rattle.pearl_program.specs.Weights.{calls, of_expr, of_exprs, of_variable, of_arguments}
 use Rattle.pearl_instructions.specs.declared.instr.Instr.TheVariants as instr
 use Rattle.pearl_instructions.specs.declared.object.Object.{Object}

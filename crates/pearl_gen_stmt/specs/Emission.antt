@@ -1,16 +1,15 @@
 -- What is emitted: new instructions stand behind the old ones, and a statement's code stands there once the jumps to
 -- places that come later have got theirs.
-use Rattle.std.specs.Prelude.{◌≡◌, ℕ, ◌≤◌, Bool, true, List, [], ◌∷◌, length, Option, Some, None, option_map}
+use Rattle.std.specs.Prelude.{◌≡◌, ℕ, ◌≤◌, Bool, true, List, length, Option, Some, None, option_map}
 use Rattle.pearl_value.specs.declared.kind.Kind.{Kind}
 use Rattle.pearl_value.specs.declared.trap.Trap.TheVariants.{Index, Range}
-use Rattle.pearl_program.specs.declared.statement.Branch.{Branch}
 use Rattle.pearl_program.specs.declared.statement.Case.{Case, out-Case}
 use Rattle.pearl_program.specs.declared.statement.If.{If}
 use Rattle.pearl_program.specs.declared.statement.Repeat.{Repeat}
 use Rattle.pearl_program.specs.declared.program.Program.{Program}
 use Rattle.pearl_program.specs.declared.program.Routine.{Routine}
 use Rattle.pearl_program.specs.PlainExpressions.{plain_expr}
-use Rattle.pearl_program.specs.PlainStatements.{PlainStmt, OfIf, OfCase, OfRepeat, PlainStmts, PlainBranches, NoBranches, MoreBranches, plain_counter, plain_stmts}
+use Rattle.pearl_program.specs.PlainStatements.{PlainStmt, OfIf, OfCase, OfRepeat, PlainStmts, PlainBranches, plain_counter, plain_stmts, plain_branches}
 use Rattle.pearl_program.specs.PlainPrograms.{plain_prog, plain_routine}
 use Rattle.pearl_instructions.specs.declared.instr.Instr.{Instr}
 use Rattle.pearl_instructions.specs.declared.instr.Instr.TheVariants.{Jump, JumpZero, End, Trap}
@@ -24,10 +23,6 @@ use Rattle.pearl_gen_stmt.specs.declared.pending.Pending.TheVariants.{Exit, Test
 -- the setting of a routine's statements
 abbrev pub setting_of : Program → Option Kind → Routine → Setting
 setting_of program result routine = within_program (plain_prog program) result (plain_routine routine)
-
-abbrev pub plain_branches : List Branch → PlainBranches
-plain_branches [] = NoBranches
-plain_branches (branch ∷ rest) = MoreBranches (plain_stmts branch.statements.items) (plain_branches rest)
 
 -- statements with statements within them
 abbrev pub plain_if : If → PlainStmt

@@ -7,7 +7,7 @@ ghost use Rattle.pearl_gen_stmt.specs.Emission.{setting_of};
 
 use pearl_program::expression::{Target, Variable};
 use pearl_program::program::{Program, Routine};
-use pearl_program::table::Device;
+use pearl_value::device::Device;
 use pearl_value::kind::{CellKind, Kind};
 use std::alloc::AllocError as NoMemory;
 

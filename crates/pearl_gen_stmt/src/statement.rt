@@ -1,7 +1,7 @@
 // The code of statements.
 
 ghost use Rattle.std.specs.Prelude.{◌≡◌, List, None, length, OnOk, IfOk};
-ghost use Rattle.pearl_program.specs.PlainStatements.{plain_stmt, plain_stmts, OfExit};
+ghost use Rattle.pearl_program.specs.PlainStatements.{plain_stmt, plain_stmts, OfExit, plain_branches};
 ghost use Rattle.pearl_program.specs.PlainPrograms.{plain_prog, plain_routine};
 ghost use Rattle.pearl_meaning.specs.Setting.{Setting};
 ghost use Rattle.pearl_gen_expr.specs.Emitting.{Extends};
@@ -9,7 +9,7 @@ ghost use Rattle.pearl_gen_stmt.specs.StmtCode.{on_task, ListAt, StmtsAt};
 ghost use Rattle.pearl_instructions.specs.declared.instr.Instr as instr_type;
 ghost use Rattle.pearl_instructions.specs.declared.instr.Instr.TheVariants as instr;
 ghost use Rattle.pearl_gen_stmt.specs.Generated.{within_program};
-ghost use Rattle.pearl_gen_stmt.specs.Emission.{setting_of, plain_if, plain_case, plain_repeat, plain_branches, Adds, AddsElse, AddsStmt, AddsStmts, AddsBranches};
+ghost use Rattle.pearl_gen_stmt.specs.Emission.{setting_of, plain_if, plain_case, plain_repeat, Adds, AddsElse, AddsStmt, AddsStmts, AddsBranches};
 
 use crate::get::emit_get;
 use crate::loops::{emit_advance, emit_begins, emit_counts, emit_while};

@@ -1,6 +1,6 @@
 -- No rule of the validator fails in statements that have no statements in them.
 use Rattle.std.proofs.Common.{◌≡◌, ℕ, zero, suc, ◌+◌, ◌-◌, ◌<◌, ◌≤◌, List, [], ◌∷◌, ◌++◌, Option, Some, None, slice_get, length, replicate, refl, sym, ap, ◌∙◌, subst, arith}
-use Rattle.std.specs.Prelude.{IfSome, is_some, option_map}
+use Rattle.std.specs.Prelude.{IfSome, is_some}
 use Rattle.std.specs.List.{AllByRecursion}
 use Rattle.std.proofs.lemmas.Option.{same_Some}
 use Rattle.pearl_value.specs.declared.kind.Kind.{Kind}
@@ -9,8 +9,8 @@ use Rattle.pearl_value.specs.declared.cell.Cell.{Cell}
 use Rattle.pearl_value.specs.Cells.{cell_kind_of}
 use Rattle.pearl_value.specs.Conversions.{SuitsKind}
 use Rattle.pearl_value.specs.WellFormed.{IsValueOf}
-use Rattle.pearl_program.specs.declared.table.Device.{Device}
-use Rattle.pearl_program.specs.declared.table.Device.TheVariants.{Interrupt, Terminal, Input, Output}
+use Rattle.pearl_value.specs.declared.device.Device.{Device}
+use Rattle.pearl_value.specs.declared.device.Device.TheVariants.{Interrupt, Terminal, Input, Output}
 use Rattle.pearl_program.specs.declared.expression.Target.{Target}
 use Rattle.pearl_program.specs.declared.expression.Target.TheVariants.{Leaf as LeafOf, Own, Param}
 use Rattle.pearl_program.specs.declared.expression.Bound.{Bound}
@@ -20,7 +20,6 @@ use Rattle.pearl_program.specs.PlainPrograms.{PlainProcedure}
 use Rattle.pearl_program.specs.Typing.{Around, Signature, AreCells, HasKind, IsVariable, Suit, HasValueFor}
 use Rattle.pearl_program.specs.SoundStatements.{AreFirst, IsReturn, IsInput, IsOutput}
 use Rattle.pearl_program.specs.Weights.{Sizes, values, of_expr, of_exprs, of_variable, of_arguments, of_if}
-use Rattle.pearl_meaning.specs.ProgramRuns.{device_of}
 use Rattle.pearl_meaning.specs.Setting.{Setting, params_of, variable_kind, sent_kind}
 use Rattle.pearl_instructions.specs.declared.instr.Instr.{Instr}
 use Rattle.pearl_instructions.specs.declared.instr.Instr.TheVariants as instr
@@ -177,7 +176,7 @@ module _ (o : Object) (r : ℕ) (code : Code) (setting : Setting) (below most ne
       let long = way_long target bounds kind in
       let value = is.0 in let last = is.7 in
       let two : value + 2 ≡ value + 1 + 1 = omega arith in
-      let taken = take_keeps o r code whole value number found.0 of way is.4 (devices_there o r code setting around below stands number ∙ ap (option_map device_of) found.1) (omega (arith, long, room)) in
+      let taken = take_keeps o r code whole value number found.0 of way is.4 (devices_there o r code setting around below stands number ∙ found.1) (omega (arith, long, room)) in
       let converted = conv_keeps o r code (value + 1) (quiet_at o r code whole (value + 1) (instr.Conv is.1) is.5 refl) of kind way (subst (λ kind. Is instrs (value + 1) (instr.Conv kind)) same is.5) suits
       (omega (arith, long, room)) in
       both_keep o r code from value to [] way [] (way_keep target bounds es kind from value typed small is.3)
@@ -242,4 +241,4 @@ module _ (o : Object) (r : ℕ) (code : Code) (setting : Setting) (below most ne
       let few = small.2 in let end = is.0 in
       then_one o r code from end to [] (Plain kind ∷ []) [] is.2.1
       (converted_keep e kind (sent_kind setting number) from end [] has known.0 small (omega (arith, few)) is.1)
-      (send_keeps o r code whole end number found.0 kind is.2.0 (devices_there o r code setting around below stands number ∙ ap (option_map device_of) found.1) (omega (arith, room)))
+      (send_keeps o r code whole end number found.0 kind is.2.0 (devices_there o r code setting around below stands number ∙ found.1) (omega (arith, room)))

@@ -11,9 +11,8 @@ use Rattle.pearl_value.specs.declared.kind.CellKind.TheVariants.{Plain}
 use Rattle.pearl_format.specs.declared.item.ItemCode.{ItemCode}
 use Rattle.pearl_format.specs.declared.item.ItemCode.TheVariants.{A, B1, B2, B3, B4, F, T, D, X, Skip}
 use Rattle.pearl_format.specs.declared.item.Item.{Item}
-use Rattle.pearl_format.specs.Items.{data_here, data_count, text_width, TakesKind, SuitsItem, Suits}
+use Rattle.pearl_format.specs.Items.{data_here, data_count, text_width, TakesKind, SuitsItem, Suits, FitsFormat}
 use Rattle.pearl_format.proofs.Counts.{suits-length}
-use Rattle.pearl_program.specs.SoundStatements.{FitsFormat}
 use Rattle.pearl_instructions.specs.declared.schedule.OnceForm.{OnceForm}
 use Rattle.pearl_instructions.specs.declared.instr.Activation.{Activation}
 use Rattle.pearl_instructions.specs.declared.instr.Continuation.{Continuation}

@@ -1,17 +1,16 @@
 -- No rule of the validator fails in ACTIVATE, CONTINUE and RESUME.
 use Rattle.std.proofs.Common.{◌≡◌, ℕ, ◌+◌, ◌<◌, ◌≤◌, Bool, true, List, [], ◌∷◌, ◌++◌, Option, Some, None, slice_get, length, map, refl, sym, ap, ◌∙◌, subst, arith}
-use Rattle.std.specs.Prelude.{option_map}
 use Rattle.std.proofs.lemmas.List.{length-map}
 use Rattle.pearl_value.specs.declared.kind.Kind.{Kind}
 use Rattle.pearl_value.specs.declared.kind.Kind.TheVariants as kind_
 use Rattle.pearl_value.specs.declared.kind.CellKind.TheVariants.{Plain}
-use Rattle.pearl_program.specs.declared.table.Device.{Device}
-use Rattle.pearl_program.specs.declared.table.Device.TheVariants.{Interrupt, Terminal, Input, Output}
+use Rattle.pearl_value.specs.declared.device.Device.{Device}
+use Rattle.pearl_value.specs.declared.device.Device.TheVariants.{Interrupt, Terminal, Input, Output}
 use Rattle.pearl_program.specs.PlainExpressions.{PlainExpr}
 use Rattle.pearl_program.specs.PlainStatements.{PlainPeriodEnd, OfUntil, OfDuring, PlainPeriod, PlainStart, OfAt, OfAfter, OfWhen, OfWhenAfter, PlainOnce, OnceAt, OnceAfter, OnceWhen}
 use Rattle.pearl_program.specs.Typing.{Around, HasKind}
 use Rattle.pearl_program.specs.Weights.{Sizes, values, of_expr, of_if}
-use Rattle.pearl_meaning.specs.ProgramRuns.{device_of, entry_of}
+use Rattle.pearl_meaning.specs.ProgramRuns.{entry_of}
 use Rattle.pearl_gen_expr.specs.Tables.{code_entry}
 use Rattle.pearl_meaning.specs.Setting.{Setting}
 use Rattle.pearl_instructions.specs.declared.instr.Instr.{Instr}
@@ -39,7 +38,7 @@ use Rattle.pearl_instructions.specs.Named.{is_interrupt, names_interrupt}
 use Rattle.pearl_gen_stmt.specs.StmtCode.{WhenAt, LaterAt, MaybeLaterAt, PeriodEndAt, PeriodAt, PriorityAt, ActivateAt, ContinueAt, ResumeAt}
 use Rattle.pearl_gen_valid.proofs.Offering.{handed_both, urgent_shape, activate_keeps, continue_keeps, resume_keeps}
 
-pub interrupt_is : (found : Option Device) → IsInterruptDevice found → is_interrupt (option_map device_of found) ≡ true
+pub interrupt_is : (found : Option Device) → IsInterruptDevice found → is_interrupt found ≡ true
 interrupt_is (Some (Interrupt number)) is = refl
 interrupt_is (Some (Terminal number direction)) is = absurd is
 interrupt_is (Some (Input number of)) is = absurd is

@@ -9,16 +9,17 @@ use Rattle.pearl_value.specs.declared.kind.CellKind.TheVariants.{Plain, RefTo}
 use Rattle.pearl_value.specs.Kinds.{IsKind}
 use Rattle.pearl_program.specs.declared.expression.Target.TheVariants.{Leaf as LeafOf, Own, Param}
 use Rattle.pearl_program.specs.declared.expression.Bound.{Bound}
-use Rattle.pearl_program.specs.declared.table.Device.{Device}
-use Rattle.pearl_program.specs.declared.table.Device.TheVariants.{Interrupt, Terminal, Input, Output}
+use Rattle.pearl_value.specs.declared.device.Device.{Device}
+use Rattle.pearl_value.specs.declared.device.Device.TheVariants.{Interrupt, Terminal, Input, Output}
 use Rattle.pearl_program.specs.PlainExpressions.{PlainExpr, PlainVariable, OfVariable, PlainExprs, NoExprs}
 use Rattle.pearl_program.specs.PlainStatements.{PlainCounter}
 use Rattle.pearl_program.specs.PlainPrograms.{PlainLeaf}
 use Rattle.pearl_program.specs.Typing.{Around, elements, IsVariable, IsLeafOf, IsParam, AreCells, HasValueFor}
 use Rattle.pearl_program.specs.SoundStatements.{within, IsReturn, IsOutput}
-use Rattle.pearl_program.specs.Sound.{IsLeaf, IsDevice, IsCellKind}
-use Rattle.pearl_meaning.specs.ProgramRuns.{device_of}
-use Rattle.pearl_meaning.specs.Setting.{Setting, plain_kind, referred_kind, cell_kind, variable_kind, output_kind, sent_kind}
+use Rattle.pearl_value.specs.Devices.{IsDevice}
+use Rattle.pearl_program.specs.Sound.{IsLeaf, IsCellKind}
+use Rattle.pearl_rules.specs.Tables.{output_kind}
+use Rattle.pearl_meaning.specs.Setting.{Setting, plain_kind, referred_kind, cell_kind, variable_kind, sent_kind}
 use Rattle.pearl_instructions.specs.declared.object.Code.{Code}
 use Rattle.pearl_instructions.specs.declared.object.Object.{Object}
 use Rattle.pearl_instructions.specs.Objects.{is_task, result_of}
@@ -128,7 +129,6 @@ module _ (o : Object) (r : ℕ) (code : Code) (setting : Setting) (around : Arou
       (ap output_kind there, (each IsDevice setting.program.devices device (Output found.0 kind) stands.placed.sound.devices there).2)
 
   -- the devices of the object are those of the program
-  pub devices_there : (number : ℕ) → slice_get o.devices number ≡ option_map device_of (slice_get around.devices number)
+  pub devices_there : (number : ℕ) → slice_get o.devices number ≡ slice_get around.devices number
   devices_there number =
-      ap (λ devices. slice_get devices number) stands.placed.tables.devices
-      ∙ (slice_get-map device_of setting.program.devices number ∙ ap (λ devices. option_map device_of (slice_get devices number)) (sym stands.devices))
+      ap (λ devices. slice_get devices number) stands.placed.tables.devices ∙ ap (λ devices. slice_get devices number) (sym stands.devices)

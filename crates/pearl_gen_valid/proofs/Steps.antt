@@ -8,7 +8,7 @@ use Rattle.pearl_value.specs.declared.kind.CellKind.{CellKind}
 use Rattle.pearl_value.specs.declared.kind.CellKind.TheVariants.{Plain}
 use Rattle.pearl_value.specs.declared.listing.Listing.{Listing}
 use Rattle.pearl_value.specs.declared.trap.Trap.{Trap as TrapOf}
-use Rattle.pearl_rules.specs.declared.setup.Device.TheVariants.{Input, Output}
+use Rattle.pearl_value.specs.declared.device.Device.TheVariants.{Input, Output}
 use Rattle.pearl_instructions.specs.declared.instr.Instr.{Instr}
 use Rattle.pearl_instructions.specs.declared.instr.Instr.TheVariants as instr
 use Rattle.pearl_instructions.specs.declared.object.Code.{Code}

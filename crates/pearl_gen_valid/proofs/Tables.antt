@@ -7,15 +7,15 @@ use Rattle.std.proofs.lemmas.List.Sums.{sum_by-cons}
 use Rattle.pearl_value.specs.declared.kind.CellKind.{CellKind}
 use Rattle.pearl_value.specs.declared.kind.CellKind.TheVariants.{Plain, RefTo}
 use Rattle.pearl_value.specs.Kinds.{IsKind}
+use Rattle.pearl_value.specs.Devices as device_list
+use Rattle.pearl_value.specs.Devices.{IsDevice}
 use Rattle.pearl_rules.specs.declared.setup.TaskEntry.{TaskEntry}
-use Rattle.pearl_rules.specs.Tables as tables
-use Rattle.pearl_rules.specs.Tables.{IsFormat, is_id}
-use Rattle.pearl_program.specs.declared.table.Device.{Device}
-use Rattle.pearl_program.specs.declared.table.Device.TheVariants.{Interrupt, Terminal, Input, Output}
+use Rattle.pearl_value.specs.Names.{is_id}
+use Rattle.pearl_format.specs.Items.{IsFormat}
 use Rattle.pearl_program.specs.PlainPrograms.{PlainLeaf, PlainProg}
 use Rattle.pearl_program.specs.Sound as sound
 use Rattle.pearl_program.specs.Sound.{IsSound, IsProcedure as IsSoundProcedure, IsTask as IsSoundTask}
-use Rattle.pearl_meaning.specs.ProgramRuns.{device_of, entry_of}
+use Rattle.pearl_meaning.specs.ProgramRuns.{entry_of}
 use Rattle.pearl_instructions.specs.declared.object.Leaf.{Leaf}
 use Rattle.pearl_instructions.specs.declared.object.Shape.{Shape as Stated}
 use Rattle.pearl_instructions.specs.declared.object.Code.{Code}
@@ -28,41 +28,6 @@ use Rattle.pearl_gen_expr.proofs.Tables.{each}
 use Rattle.pearl_gen_stmt.specs.Generated.{IsGenerated}
 use Rattle.pearl_gen_valid.proofs.Lists.{all_by_number}
 use Rattle.pearl_gen_valid.proofs.Programs.{procedure_of, task_of, its_cells, if_some, all_lawful, procedure_valid, task_valid}
-
--- DEVICES
-
-rank_is : (device : Device) → tables.sort_rank (device_of device) ≡ sound.sort_rank device
-rank_is (Interrupt number) = refl
-rank_is (Terminal number direction) = refl
-rank_is (Input number kind) = refl
-rank_is (Output number kind) = refl
-
-number_is : (device : Device) → tables.own_number (device_of device) ≡ sound.own_number device
-number_is (Interrupt number) = refl
-number_is (Terminal number direction) = refl
-number_is (Input number kind) = refl
-number_is (Output number kind) = refl
-
-device_lawful : (device : Device) → sound.IsDevice device → tables.IsDevice (device_of device)
-device_lawful (Interrupt number) is = is
-device_lawful (Terminal number direction) is = is
-device_lawful (Input number kind) is = is
-device_lawful (Output number kind) is = is
-
-devices_lawful : (devices : List Device) → AllByRecursion sound.IsDevice devices → AllByRecursion tables.IsDevice (map device_of devices)
-devices_lawful [] all = tt
-devices_lawful (device ∷ devices) all = (device_lawful device all.0, devices_lawful devices all.1)
-
-before_is : (a b : Device) → sound.IsBefore a b → tables.IsBefore (device_of a) (device_of b)
-before_is a b (inl less) = let one = rank_is a in let two = rank_is b in inl (omega (arith, less, one, two))
-before_is a b (inr both) =
-    let one = number_is a in let two = number_is b in let less = both.1 in
-    inr (rank_is a ∙ (both.0 ∙ sym (rank_is b)), omega (arith, less, one, two))
-
-devices_rise : (devices : List Device) → sound.AreRising devices → tables.AreRising (map device_of devices)
-devices_rise [] rising = tt
-devices_rise (device ∷ []) rising = tt
-devices_rise (device ∷ next ∷ devices) rising = (before_is device next rising.0, devices_rise (next ∷ devices) rising.1)
 
 -- LEAVES
 
@@ -144,8 +109,8 @@ module _ (p : PlainProg) (o : Object) (is_sound : IsSound p) (generated : IsGene
 
   pub object_lawful : length o.formats < 2 ^ 32 → IsObject o
   object_lawful few_formats = record {
-    devices = subst (λ devices. AllByRecursion tables.IsDevice devices) (sym generated.tables.devices) (devices_lawful p.devices is_sound.devices);
-    rising = subst (λ devices. tables.AreRising devices) (sym generated.tables.devices) (devices_rise p.devices is_sound.rising);
+    devices = subst (λ devices. AllByRecursion IsDevice devices) (sym generated.tables.devices) is_sound.devices;
+    rising = subst (λ devices. device_list.AreRising devices) (sym generated.tables.devices) is_sound.rising;
     leaves = leaves_lawful o.leaves (subst (λ leaves. AllByRecursion sound.IsLeaf leaves) (sym generated.tables.leaves) is_sound.leaves) few_slots;
     formats = subst (λ formats. AllByRecursion IsFormat formats) (sym generated.tables.formats) is_sound.formats;
     procedures = all_by_number IsProcedure o.procedures procedure_lawful;
@@ -161,6 +126,5 @@ module _ (p : PlainProg) (o : Object) (is_sound : IsSound p) (generated : IsGene
         let few = is_sound.sizes.tasks in omega (arith, one, two, same, few);
     few_semaphores = let same = ap length generated.tables.semaphores in let few = is_sound.sizes.semaphores in omega (arith, same, few);
     few_devices =
-        let two = length-map p.devices device_of in let same = ap length generated.tables.devices in
-        let few = is_sound.sizes.devices in omega (arith, two, same, few);
+        let same = ap length generated.tables.devices in let few = is_sound.sizes.devices in omega (arith, same, few);
   }

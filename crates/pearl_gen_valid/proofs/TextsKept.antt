@@ -9,15 +9,14 @@ use Rattle.pearl_value.specs.declared.kind.Kind.TheVariants as kind_
 use Rattle.pearl_value.specs.declared.kind.CellKind.{CellKind}
 use Rattle.pearl_value.specs.declared.kind.CellKind.TheVariants.{Plain, RefTo}
 use Rattle.pearl_value.specs.Cells.{cell_kind_of}
-use Rattle.pearl_program.specs.declared.table.Device.{Device}
-use Rattle.pearl_program.specs.declared.table.Device.TheVariants.{Interrupt, Terminal, Input, Output}
+use Rattle.pearl_value.specs.declared.device.Device.{Device}
+use Rattle.pearl_value.specs.declared.device.Device.TheVariants.{Interrupt, Terminal, Input, Output}
 use Rattle.pearl_program.specs.declared.expression.Target.{Target}
 use Rattle.pearl_program.specs.declared.expression.Target.TheVariants.{Leaf as LeafOf, Own, Param}
 use Rattle.pearl_program.specs.declared.expression.Bound.{Bound}
 use Rattle.pearl_program.specs.PlainExpressions.{PlainExpr, PlainVariable, OfVariable, PlainExprs, NoExprs, MoreExprs}
 use Rattle.pearl_program.specs.Typing.{Around, AreCells, HasKind, IsVariable, HaveKinds}
 use Rattle.pearl_program.specs.Weights.{Sizes, values, of_expr, of_exprs, of_variable}
-use Rattle.pearl_meaning.specs.ProgramRuns.{device_of}
 use Rattle.pearl_meaning.specs.Setting.{Setting}
 use Rattle.pearl_instructions.specs.declared.instr.Instr.{Instr}
 use Rattle.pearl_instructions.specs.declared.instr.Instr.TheVariants as instr
@@ -41,9 +40,10 @@ use Rattle.pearl_gen_valid.proofs.Lists.{get_front, get_behind, taken_less, part
 use Rattle.pearl_gen_valid.proofs.Kept.{expr_keep, store_keep, keeps}
 use Rattle.std.proofs.lemmas.List.{take_at}
 use Rattle.pearl_format.specs.declared.item.Item.{Item}
-use Rattle.pearl_program.specs.declared.table.Direction.TheVariants.{In, Out, InOut}
+use Rattle.pearl_value.specs.declared.device.Direction.TheVariants.{In, Out, InOut}
 use Rattle.pearl_program.specs.Typing.{IsLeafOf, elements}
-use Rattle.pearl_program.specs.SoundStatements.{FitsFormat, FitsSome, TakesTexts, GivesTexts, IsPut, IsGet}
+use Rattle.pearl_format.specs.Items.{FitsFormat, FitsSome}
+use Rattle.pearl_program.specs.SoundStatements.{TakesTexts, GivesTexts, IsPut, IsGet}
 use Rattle.pearl_program.specs.Weights.{of_variables}
 use Rattle.pearl_instructions.specs.declared.instr.Reading.{Reading}
 use Rattle.pearl_instructions.specs.declared.object.Leaf.{Leaf}
@@ -56,7 +56,7 @@ use Rattle.pearl_gen_valid.proofs.Standing.{param_known}
 use Rattle.pearl_gen_valid.proofs.Gets.{kinds_are, found_piece}
 use Rattle.pearl_gen_valid.proofs.Offering.{put_keeps, get_keeps}
 
-texts_taken : (found : Option Device) → TakesTexts found → takes_texts (option_map device_of found) ≡ true
+texts_taken : (found : Option Device) → TakesTexts found → takes_texts found ≡ true
 texts_taken (Some (Terminal number In)) is = absurd is
 texts_taken (Some (Terminal number Out)) is = refl
 texts_taken (Some (Terminal number InOut)) is = refl
@@ -65,7 +65,7 @@ texts_taken (Some (Input number of)) is = absurd is
 texts_taken (Some (Output number of)) is = absurd is
 texts_taken None is = absurd is
 
-texts_given : (found : Option Device) → GivesTexts found → gives_texts (option_map device_of found) ≡ true
+texts_given : (found : Option Device) → GivesTexts found → gives_texts found ≡ true
 texts_given (Some (Terminal number In)) is = refl
 texts_given (Some (Terminal number Out)) is = absurd is
 texts_given (Some (Terminal number InOut)) is = refl

@@ -7,7 +7,7 @@ use Rattle.std.proofs.lemmas.Option.{none-some, slice_get-map}
 use Rattle.pearl_value.specs.declared.kind.Kind.{Kind}
 use Rattle.pearl_program.specs.declared.program.Program.{Program}
 use Rattle.pearl_program.specs.PlainPrograms.{PlainRoutine, PlainProcedure, PlainTask, PlainProg, plain_prog, plain_procedure, plain_task}
-use Rattle.pearl_meaning.specs.ProgramRuns.{device_of, entry_of}
+use Rattle.pearl_meaning.specs.ProgramRuns.{entry_of}
 use Rattle.pearl_instructions.specs.declared.instr.Instr.{Instr}
 use Rattle.pearl_instructions.specs.declared.instr.Instr.TheVariants.{End}
 use Rattle.pearl_instructions.specs.declared.object.Code.{Code}
@@ -91,7 +91,7 @@ cells_same program made are =
     ∙ map_twice (λ (task : PlainTask). task.routine.cells) plain_task program.tasks
 
 pub generated : (program : Program) (o : Object) →
-    map plain_leaf o.leaves ≡ (plain_prog program).leaves → o.semaphores ≡ program.semaphores → o.devices ≡ map device_of program.devices →
+    map plain_leaf o.leaves ≡ (plain_prog program).leaves → o.semaphores ≡ program.semaphores → o.devices ≡ program.devices →
     o.formats ≡ program.formats → AllZip (IsProcedure (plain_prog program)) program.procedures o.procedures →
     AllZip (IsTask (plain_prog program)) program.tasks o.tasks → IsGenerated (plain_prog program) o
 generated program o leaves semaphores devices formats procedures tasks = record {

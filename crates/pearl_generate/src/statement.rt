@@ -2,9 +2,9 @@
 
 ghost use Rattle.std.specs.Prelude.{◌≡◌, map, option_map, IfOk};
 ghost use Rattle.pearl_program.specs.PlainExpressions.{plain_expr, plain_exprs, plain_variable, plain_arguments};
-ghost use Rattle.pearl_program.specs.PlainStatements.{plain_stmt, plain_stmts, plain_counter, plain_start, plain_period, plain_once, OfAssign, OfActivate};
+ghost use Rattle.pearl_program.specs.PlainStatements.{plain_stmt, plain_stmts, plain_counter, plain_start, plain_period, plain_once, OfAssign, OfActivate, plain_branches};
 ghost use Rattle.pearl_program.specs.Weights.{of_expr, of_if, of_counter, of_variables, of_stmt, greatest, greatest_of_all, greatest_of_branches};
-ghost use Rattle.pearl_gen_stmt.specs.Emission.{plain_branches, plain_case, plain_if, plain_repeat};
+ghost use Rattle.pearl_gen_stmt.specs.Emission.{plain_case, plain_if, plain_repeat};
 ghost use Rattle.pearl_generate.specs.Needs.{need_of};
 
 use crate::expression::{call_need, expr_need, exprs_need, variable_need};

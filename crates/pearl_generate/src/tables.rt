@@ -1,7 +1,6 @@
 // The tables of an object: all that is no code.
 
 ghost use Rattle.std.specs.Prelude.{◌≡◌, map, IfOk};
-ghost use Rattle.pearl_meaning.specs.ProgramRuns.{device_of as run_device, direction_of as run_direction};
 ghost use Rattle.pearl_gen_expr.specs.Tables.{plain_leaf as leaf_said};
 ghost use Rattle.pearl_program.specs.PlainExpressions.{cell_of};
 ghost use Rattle.pearl_program.specs.PlainPrograms.{plain_leaf};
@@ -11,8 +10,8 @@ use pearl_format::item::Item;
 use pearl_instructions::object::Leaf;
 use pearl_program::literal::Literal;
 use pearl_program::table;
-use pearl_rules::setup::{Device, Direction};
 use pearl_value::cell::Cell;
+use pearl_value::device::Device;
 use pearl_value::listing::Listing;
 use std::alloc::{AllocError as NoMemory, Global};
 
@@ -50,39 +49,11 @@ pub fn leaves_of(alloc: Global, leaves: &[table::Leaf]) -> Result<Vec<Leaf>, NoM
     Ok(made)
 }
 
-fn direction_of(direction: table::Direction) -> Direction
-    ensures { result ≡ run_direction direction }
+/// The devices of the system, as they are.
+pub fn devices_of(alloc: Global, devices: &[Device]) -> Result<Vec<Device>, NoMemory>
+    ensures { IfOk result (λ made. made.items ≡ devices.now) }
 {
-    match direction {
-        table::Direction::In => Direction::In,
-        table::Direction::Out => Direction::Out,
-        table::Direction::InOut => Direction::InOut,
-    }
-}
-
-fn device_of(device: table::Device) -> Device
-    ensures { result ≡ run_device device }
-{
-    match device {
-        table::Device::Interrupt { number } => Device::Interrupt { number },
-        table::Device::Terminal { number, direction } => Device::Terminal {
-            number,
-            direction: direction_of(direction),
-        },
-        table::Device::Input { number, kind } => Device::Input { number, kind },
-        table::Device::Output { number, kind } => Device::Output { number, kind },
-    }
-}
-
-/// The devices of the system.
-pub fn devices_of(alloc: Global, devices: &[table::Device]) -> Result<Vec<Device>, NoMemory>
-    ensures { IfOk result (λ made. made.items ≡ map run_device devices.now) }
-{
-    let mut made = Vec::with_capacity(alloc, devices.len())?;
-    for device in devices {
-        made.push(device_of(*device))?;
-    }
-    Ok(made)
+    Vec::from_slice(alloc, devices)
 }
 
 /// The formats, as they are.

@@ -4,8 +4,8 @@ use Rattle.pearl_value.specs.declared.kind.Kind.TheVariants as kind
 use Rattle.pearl_value.specs.declared.cell.Cell.TheVariants as cell
 use Rattle.pearl_value.specs.Kinds.{IsKind}
 use Rattle.pearl_format.specs.declared.item.ItemCode.TheVariants.{F}
-use Rattle.pearl_rules.specs.declared.setup.Device.TheVariants.{Interrupt, Terminal, Input, Output}
-use Rattle.pearl_rules.specs.declared.setup.Direction.TheVariants.{In, Out}
+use Rattle.pearl_value.specs.declared.device.Device.TheVariants.{Interrupt, Terminal, Input, Output}
+use Rattle.pearl_value.specs.declared.device.Direction.TheVariants.{In, Out}
 use Rattle.pearl_rules.specs.declared.action.Action.TheVariants as action
 use Rattle.pearl_rules.specs.declared.action.Answer.TheVariants.{Nothing, One}
 use Rattle.pearl_rules.specs.declared.action.Start.TheVariants as start

@@ -9,8 +9,8 @@ use Rattle.pearl_value.specs.Kinds.{IsKind}
 use Rattle.pearl_value.specs.WellFormed.{IsValue}
 use Rattle.pearl_value.specs.declared.operator.Dyad.TheVariants.{Add}
 use Rattle.pearl_format.specs.declared.item.ItemCode.TheVariants.{F, Skip}
-use Rattle.pearl_rules.specs.declared.setup.Device.TheVariants.{Terminal}
-use Rattle.pearl_rules.specs.declared.setup.Direction.TheVariants.{InOut}
+use Rattle.pearl_value.specs.declared.device.Device.TheVariants.{Terminal}
+use Rattle.pearl_value.specs.declared.device.Direction.TheVariants.{InOut}
 use Rattle.pearl_instructions.specs.declared.instr.Instr.{Instr}
 use Rattle.pearl_instructions.specs.declared.instr.Instr.TheVariants.{Const, Load, Store, RefCell, ReadRef, WriteRef, Jump, JumpZero, Turn, Call, Return, End, Within, Advance, Dyadic, Put, Get}
 use Rattle.pearl_instructions.specs.declared.object.Code.{Code}

@@ -4,7 +4,7 @@ use Rattle.pearl_value.specs.declared.kind.Kind.TheVariants as kind
 use Rattle.pearl_value.specs.declared.kind.CellKind.TheVariants.{Plain}
 use Rattle.pearl_value.specs.declared.operator.Monad.TheVariants.{Not}
 use Rattle.pearl_value.specs.declared.trap.Trap.TheVariants as trap
-use Rattle.pearl_rules.specs.declared.setup.Device.TheVariants.{Interrupt}
+use Rattle.pearl_value.specs.declared.device.Device.TheVariants.{Interrupt}
 use Rattle.pearl_instructions.specs.declared.schedule.OnceForm.{OnceForm}
 use Rattle.pearl_instructions.specs.declared.schedule.OnceForm.TheVariants as once
 use Rattle.pearl_instructions.specs.declared.schedule.StartForm.{StartForm}

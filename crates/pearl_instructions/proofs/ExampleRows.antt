@@ -9,8 +9,8 @@ use Rattle.pearl_value.specs.declared.cell.Cell.{Cell}
 use Rattle.pearl_value.specs.declared.cell.Cell.TheVariants.{Fixed, Bits, Chars, Clock, Span, Ref}
 use Rattle.pearl_value.specs.declared.trap.Trap.TheVariants as trap
 use Rattle.pearl_format.specs.declared.item.ItemCode.TheVariants.{A, F}
-use Rattle.pearl_rules.specs.declared.setup.Device.TheVariants.{Terminal}
-use Rattle.pearl_rules.specs.declared.setup.Direction.TheVariants.{InOut}
+use Rattle.pearl_value.specs.declared.device.Device.TheVariants.{Terminal}
+use Rattle.pearl_value.specs.declared.device.Direction.TheVariants.{InOut}
 use Rattle.pearl_rules.specs.declared.action.Action.{Action}
 use Rattle.pearl_rules.specs.declared.action.Action.TheVariants as action
 use Rattle.pearl_rules.specs.declared.action.Start.TheVariants as start

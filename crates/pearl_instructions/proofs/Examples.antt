@@ -10,8 +10,8 @@ use Rattle.pearl_value.specs.declared.operator.Dyad.TheVariants.{Add}
 use Rattle.pearl_format.specs.declared.item.Item.{Item}
 use Rattle.pearl_format.specs.declared.item.ItemCode.{ItemCode}
 use Rattle.pearl_format.specs.declared.item.ItemCode.TheVariants.{A, F, X}
-use Rattle.pearl_rules.specs.declared.setup.Device.TheVariants.{Terminal}
-use Rattle.pearl_rules.specs.declared.setup.Direction.TheVariants.{InOut}
+use Rattle.pearl_value.specs.declared.device.Device.TheVariants.{Terminal}
+use Rattle.pearl_value.specs.declared.device.Direction.TheVariants.{InOut}
 use Rattle.pearl_instructions.specs.declared.instr.Bounds.{Bounds}
 use Rattle.pearl_instructions.specs.declared.instr.Instr.{Instr}
 use Rattle.pearl_instructions.specs.declared.instr.Instr.TheVariants.{Load, Store, Drop, Index, Jump, JumpZero, Turn, Call, Return, End, Monadic, Dyadic, Request, Put}

@@ -9,7 +9,7 @@ use Rattle.pearl_value.specs.declared.trap.Trap.{Trap}
 use Rattle.pearl_value.specs.declared.trap.Trap.TheVariants.{Range}
 use Rattle.pearl_value.specs.Rows.{row1, row2}
 use Rattle.pearl_value.specs.Applied.{applied1, applied2}
-use Rattle.pearl_value.specs.Conversions.{fits_fixed, converted}
+use Rattle.pearl_value.specs.Conversions.{fits_fixed, converted, suits_kind}
 use Rattle.std.specs.Ordering.{int_eq}
 use Rattle.pearl_format.specs.Items.{data_count}
 use Rattle.pearl_format.specs.Texts.{text_of}
@@ -28,7 +28,7 @@ use Rattle.pearl_instructions.specs.declared.object.Object.{Object}
 use Rattle.pearl_instructions.specs.Objects.{result_of, items_at}
 use Rattle.pearl_instructions.specs.Steps.{Step, Silent, Offers, given, needed, popped, taken, value_kind, next, leaves, traps, acts, all_heard, makes, within}
 use Rattle.pearl_instructions.specs.Cells.{read_reference, write_reference}
-use Rattle.pearl_instructions.specs.Operators.{suits_kind, number_of, numbers_of, offset_of, index_of}
+use Rattle.pearl_instructions.specs.Operators.{number_of, numbers_of, offset_of, index_of}
 use Rattle.pearl_instructions.specs.Flow as flow
 use Rattle.pearl_instructions.specs.Offers as offers
 use Rattle.pearl_instructions.specs.Rows.{own_task, act}

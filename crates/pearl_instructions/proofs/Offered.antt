@@ -11,11 +11,11 @@ use Rattle.pearl_value.specs.declared.kind.Kind.TheVariants as kind
 use Rattle.pearl_format.specs.declared.item.Item.{Item}
 use Rattle.pearl_format.specs.declared.item.ItemCode.{ItemCode}
 use Rattle.pearl_format.specs.declared.item.ItemCode.TheVariants.{A, B1, B2, B3, B4, F, T, D, X, Skip}
-use Rattle.pearl_format.specs.Items.{HasWidth, TakesKind, SuitsItem, Suits, data_here}
-use Rattle.pearl_rules.specs.declared.setup.Device.{Device}
-use Rattle.pearl_rules.specs.declared.setup.Device.TheVariants as device
-use Rattle.pearl_rules.specs.declared.setup.Direction.TheVariants as direction
-use Rattle.pearl_rules.specs.Tables.{IsFormat, IsWritable}
+use Rattle.pearl_format.specs.Items.{HasWidth, TakesKind, SuitsItem, Suits, data_here, IsFormat}
+use Rattle.pearl_value.specs.declared.device.Device.{Device}
+use Rattle.pearl_value.specs.declared.device.Device.TheVariants as device
+use Rattle.pearl_value.specs.declared.device.Direction.TheVariants as direction
+use Rattle.pearl_rules.specs.Tables.{IsWritable}
 use Rattle.pearl_stack.specs.Frames.{Frame}
 use Rattle.pearl_instructions.specs.declared.object.Leaf.{Leaf}
 use Rattle.pearl_instructions.specs.declared.object.Code.{Code}

@@ -15,8 +15,8 @@ use Rattle.pearl_format.specs.Items.{data_count}
 use Rattle.pearl_format.specs.Texts.{text_of}
 use Rattle.pearl_rules.specs.declared.action.Action.TheVariants as action
 use Rattle.pearl_rules.specs.declared.action.Action.TheVariants.{Enter}
-use Rattle.pearl_instructions.specs.Operators.{suits_kind, number_of, numbers_of, offset_of, index_of}
-use Rattle.pearl_value.specs.Conversions.{fits_fixed, converted}
+use Rattle.pearl_instructions.specs.Operators.{number_of, numbers_of, offset_of, index_of}
+use Rattle.pearl_value.specs.Conversions.{fits_fixed, converted, suits_kind}
 use Rattle.pearl_value.specs.declared.kind.Kind.{Kind}
 use Rattle.pearl_rules.specs.declared.action.Start.{Start}
 use Rattle.pearl_rules.specs.declared.action.Repeat.{Repeat}

@@ -16,8 +16,8 @@ use Rattle.pearl_format.specs.Items.{data_count, text_width}
 use Rattle.pearl_format.specs.Texts.{joined_text, text_of}
 use Rattle.pearl_format.proofs.Texts.{put_text-is_within}
 use Rattle.pearl_format.proofs.Printable.{put_text-printable}
-use Rattle.pearl_rules.specs.declared.setup.Device.{Device}
-use Rattle.pearl_rules.specs.declared.setup.Device.TheVariants.{Interrupt, Terminal, Input, Output}
+use Rattle.pearl_value.specs.declared.device.Device.{Device}
+use Rattle.pearl_value.specs.declared.device.Device.TheVariants.{Interrupt, Terminal, Input, Output}
 use Rattle.pearl_rules.specs.declared.action.Action.TheVariants as action
 use Rattle.pearl_rules.specs.declared.action.Start.{Start}
 use Rattle.pearl_rules.specs.declared.action.Start.TheVariants as start

@@ -8,8 +8,7 @@ use Rattle.pearl_value.specs.declared.kind.Kind.{Kind}
 use Rattle.pearl_value.specs.declared.cell.Cell.{Cell}
 use Rattle.pearl_value.specs.WellFormed.{IsValueOf}
 use Rattle.pearl_format.specs.declared.item.Item.{Item}
-use Rattle.pearl_format.specs.Items.{data_count}
-use Rattle.pearl_rules.specs.Tables.{IsFormat}
+use Rattle.pearl_format.specs.Items.{data_count, IsFormat, FitsFormat, FitsSome}
 use Rattle.pearl_rules.specs.declared.action.Action.TheVariants as action
 use Rattle.pearl_rules.specs.declared.action.Answer.{Answer}
 use Rattle.pearl_rules.specs.declared.action.Answer.TheVariants.{Nothing, One, Many}
@@ -27,7 +26,7 @@ use Rattle.pearl_instructions.specs.Operands.{Shape}
 use Rattle.pearl_instructions.specs.Named.{has_cells, has_read_cells, cells_at, read_cells, gives_texts}
 use Rattle.pearl_instructions.specs.Valid.{plain_kinds, cells_suit}
 use Rattle.pearl_instructions.specs.Stacks.{routines_of, Suits, AreOf, IsTop}
-use Rattle.pearl_instructions.specs.Actions.{FitsFormat, FitsSome, IsGet}
+use Rattle.pearl_instructions.specs.Actions.{IsGet}
 use Rattle.pearl_instructions.proofs.Tests.{and_true, or_true}
 use Rattle.pearl_instructions.proofs.Zips.{zip_length, zip_take, zip_drop}
 use Rattle.pearl_instructions.proofs.Ranges.{zip_put}

@@ -18,7 +18,7 @@ use Rattle.pearl_value.specs.Kinds.{IsKind}
 use Rattle.pearl_value.specs.WellFormed.{IsValueOf}
 use Rattle.pearl_value.specs.Rows.{row1, row2}
 use Rattle.pearl_value.specs.Applied.{applied1, applied2}
-use Rattle.pearl_value.specs.Conversions.{converted}
+use Rattle.pearl_value.specs.Conversions.{converted, suits_kind}
 use Rattle.pearl_value.specs.Laws.{Gives}
 use Rattle.pearl_value.proofs.Results.{keeps_rows1, keeps_rows2, keeps_kinds}
 use Rattle.pearl_stack.specs.Frames.{Frame}
@@ -26,7 +26,7 @@ use Rattle.pearl_instructions.specs.declared.instr.Instr.TheVariants.{Conv, NonZ
 use Rattle.pearl_instructions.specs.declared.object.Code.{Code}
 use Rattle.pearl_instructions.specs.declared.object.Object.{Object}
 use Rattle.pearl_instructions.specs.Steps.{value_kind, next, traps, leaves, makes}
-use Rattle.pearl_instructions.specs.Operators.{suits_kind, number_of}
+use Rattle.pearl_instructions.specs.Operators.{number_of}
 use Rattle.pearl_instructions.specs.Rows.{act}
 use Rattle.pearl_instructions.specs.Operands.{Shape, is_fixed, v2}
 use Rattle.pearl_instructions.specs.Kinds.{plain_kind}

@@ -1,23 +1,20 @@
 -- Which actions a task of an object may offer: all that they name is there, and their values are of the kinds that are needed there.
-use Rattle.std.specs.Prelude.{ℕ, ◌<◌, ◌≤◌, ℤ, pos, ◌≤ℤ◌, List, Option, Some, None, IsSome, IfSome, nat_eq, length, slice_get, sum_by, All}
+use Rattle.std.specs.Prelude.{ℕ, ◌<◌, ◌≤◌, pos, List, Option, Some, None, IsSome, IfSome, nat_eq, length, slice_get, sum_by, All}
 use Rattle.std.specs.List.{AllByRecursion, IsDistinct}
 use Rattle.pearl_value.specs.declared.kind.Kind.{Kind}
 use Rattle.pearl_value.specs.declared.cell.Cell.{Cell}
 use Rattle.pearl_value.specs.declared.cell.Cell.TheVariants.{Clock}
 use Rattle.pearl_value.specs.Kinds.{IsKind}
-use Rattle.pearl_value.specs.WellFormed.{FitsSpan, IsValue, IsValueOf}
-use Rattle.pearl_format.specs.declared.item.Item.{Item}
+use Rattle.pearl_value.specs.WellFormed.{IsValue, IsValueOf}
 use Rattle.pearl_format.specs.Bytes.{IsTextByte}
-use Rattle.pearl_format.specs.Items.{Suits, text_width}
-use Rattle.pearl_rules.specs.declared.setup.Device.{Device}
-use Rattle.pearl_rules.specs.declared.setup.Device.TheVariants as device
-use Rattle.pearl_rules.specs.declared.setup.Direction.{Direction}
-use Rattle.pearl_rules.specs.declared.setup.Direction.TheVariants as direction
+use Rattle.pearl_format.specs.Items.{FitsSome}
+use Rattle.pearl_value.specs.declared.device.Device.{Device}
+use Rattle.pearl_value.specs.declared.device.Device.TheVariants as device
+use Rattle.pearl_value.specs.declared.device.Direction.TheVariants as direction
 use Rattle.pearl_rules.specs.declared.action.Action.{Action}
 use Rattle.pearl_rules.specs.declared.action.Action.TheVariants as action
 use Rattle.pearl_rules.specs.declared.action.Start.{Start}
 use Rattle.pearl_rules.specs.declared.action.Start.TheVariants as start
-use Rattle.pearl_rules.specs.declared.action.Repeat.{Repeat}
 use Rattle.pearl_rules.specs.declared.action.Repeat.TheVariants as repeat
 use Rattle.pearl_rules.specs.Slots.{Lasts, IsRepeat}
 use Rattle.pearl_rules.specs.Tables.{IsWritable, IsReadable, IsInterrupt, input_kind, output_kind}
@@ -71,16 +68,6 @@ pub record IsPut (o : Object) (device : ℕ) (text : List ℕ) : Type 0 where
   pub takes : IsWritable (device_at o device)
   pub printable : All IsTextByte text
   pub short : length text ≤ 1024
-
--- the items suit the kinds, at most 64, and their widths are at most 1,024 together
-pub record FitsFormat (items : List Item) (kinds : List Kind) : Type 0 where
-  pub suits : Suits items kinds
-  pub few : length kinds ≤ 64
-  pub short : text_width items kinds ≤ 1024
-
-abbrev pub FitsSome : Option (List Item) → List Kind → Type 0
-FitsSome None kinds = ⊥
-FitsSome (Some items) kinds = FitsFormat items kinds
 
 pub record IsGet (o : Object) (device format : ℕ) (kinds : List Kind) : Type 0 where
   pub gives : IsReadable (device_at o device)

@@ -9,15 +9,15 @@ use Rattle.pearl_value.specs.declared.operator.Monad.{Monad}
 use Rattle.pearl_value.specs.declared.operator.Dyad.{Dyad}
 use Rattle.pearl_value.specs.Cells.{cell_kind_of}
 use Rattle.pearl_value.specs.Rows.{row1, row2}
-use Rattle.pearl_rules.specs.declared.setup.Device.{Device}
-use Rattle.pearl_rules.specs.declared.setup.Device.TheVariants.{Input, Output}
+use Rattle.pearl_value.specs.declared.device.Device.{Device}
+use Rattle.pearl_value.specs.declared.device.Device.TheVariants.{Input, Output}
 use Rattle.pearl_instructions.specs.declared.instr.Instr.{Instr}
 use Rattle.pearl_instructions.specs.declared.instr.Instr.TheVariants.{Const, Load, Store, Fill, Conv, Index, LoadAt, StoreAt, Read, Write, ReadAt, WriteAt, RefSlot, RefSlotAt, RefCell, RefCellAt, ReadRef, WriteRef, Call, Within, Advance, NonZero, Monadic, Dyadic, Now, Try, Take, Send}
 use Rattle.pearl_instructions.specs.declared.object.Leaf.{Leaf}
 use Rattle.pearl_instructions.specs.declared.object.Code.{Code}
 use Rattle.pearl_instructions.specs.declared.object.Procedure.{Procedure}
 use Rattle.pearl_instructions.specs.declared.object.Object.{Object}
-use Rattle.pearl_instructions.specs.Operators.{suits_kind}
+use Rattle.pearl_value.specs.Conversions.{suits_kind}
 use Rattle.pearl_instructions.specs.Operands.{Shape, same_cell, same_shape, is_fixed, is_reference, asked}
 use Rattle.pearl_instructions.specs.Named.{get_cells, range_of}
 

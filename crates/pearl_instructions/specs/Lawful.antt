@@ -5,8 +5,10 @@ use Rattle.pearl_value.specs.declared.kind.CellKind.{CellKind}
 use Rattle.pearl_value.specs.declared.kind.CellKind.TheVariants.{Plain, RefTo}
 use Rattle.pearl_value.specs.Kinds.{IsKind}
 use Rattle.pearl_value.specs.WellFormed.{IsValue, IsValueOf, IsLetter}
-use Rattle.pearl_rules.specs.Tables.{IsDevice, IsFormat, is_id}
-use Rattle.pearl_rules.specs.Tables as tables
+use Rattle.pearl_value.specs.Names.{is_id}
+use Rattle.pearl_format.specs.Items.{IsFormat}
+use Rattle.pearl_value.specs.Devices.{IsDevice}
+use Rattle.pearl_value.specs.Devices as device_list
 use Rattle.pearl_instructions.specs.declared.instr.Instr.{Instr}
 use Rattle.pearl_instructions.specs.declared.instr.Instr.TheVariants.{Const, Fill, Conv}
 use Rattle.pearl_instructions.specs.declared.object.Leaf.{Leaf}
@@ -67,7 +69,7 @@ pub record IsTask (t : Task) : Type 0 where
 -- devices rise by sort and number, so none stands twice
 pub record IsObject (o : Object) : Type 0 where
   pub devices : AllByRecursion IsDevice o.devices
-  pub rising : tables.AreRising o.devices
+  pub rising : device_list.AreRising o.devices
   pub leaves : AllByRecursion IsLeaf o.leaves
   pub formats : AllByRecursion IsFormat o.formats
   pub procedures : AllByRecursion IsProcedure o.procedures

@@ -4,9 +4,9 @@ use Rattle.std.specs.List.{list_all}
 use Rattle.pearl_value.specs.declared.kind.CellKind.{CellKind}
 use Rattle.pearl_format.specs.declared.item.Item.{Item}
 use Rattle.pearl_format.specs.Items.{data_count}
-use Rattle.pearl_rules.specs.declared.setup.Device.{Device}
-use Rattle.pearl_rules.specs.declared.setup.Device.TheVariants.{Interrupt, Terminal, Input, Output}
-use Rattle.pearl_rules.specs.declared.setup.Direction.TheVariants as direction
+use Rattle.pearl_value.specs.declared.device.Device.{Device}
+use Rattle.pearl_value.specs.declared.device.Device.TheVariants.{Interrupt, Terminal, Input, Output}
+use Rattle.pearl_value.specs.declared.device.Direction.TheVariants as direction
 use Rattle.pearl_instructions.specs.declared.schedule.StartForm.{StartForm}
 use Rattle.pearl_instructions.specs.declared.schedule.StartForm.TheVariants as form
 use Rattle.pearl_instructions.specs.declared.instr.Instr.{Instr}

@@ -1,5 +1,5 @@
 -- What the operators, conversions and subscripts do.
-use Rattle.std.specs.Prelude.{pos, ℤ, ◌+ℤ◌, ◌-ℤ◌, ◌*ℤ◌, int_le, nat_le, Bool, true, false, ◌&&◌, if◌then◌else◌, List, [], ◌∷◌, Option, Some, None, option_map, option_and_then, Result, Ok, Err, length}
+use Rattle.std.specs.Prelude.{pos, ℤ, ◌+ℤ◌, ◌-ℤ◌, ◌*ℤ◌, int_le, ◌&&◌, if◌then◌else◌, List, [], ◌∷◌, Option, Some, None, option_map, option_and_then, Result, Ok, Err, length}
 use Rattle.std.specs.Ordering.{int_eq}
 use Rattle.pearl_value.specs.declared.kind.Kind.{Kind}
 use Rattle.pearl_value.specs.declared.kind.Kind.TheVariants as kind
@@ -11,19 +11,10 @@ use Rattle.pearl_value.specs.declared.trap.Trap.{Trap}
 use Rattle.pearl_value.specs.declared.trap.Trap.TheVariants.{Index, Range}
 use Rattle.pearl_value.specs.Rows.{row1, row2}
 use Rattle.pearl_value.specs.Applied.{applied1, applied2}
-use Rattle.pearl_value.specs.Conversions.{converted}
+use Rattle.pearl_value.specs.Conversions.{converted, suits_kind}
 use Rattle.pearl_stack.specs.Frames.{Frame}
 use Rattle.pearl_instructions.specs.declared.instr.Bounds.{Bounds}
 use Rattle.pearl_instructions.specs.Steps.{Step, given, needed, popped, taken, value_kind, leaves, traps, makes}
-
--- whether a value of the first kind may be put where one of the second is wanted
-abbrev pub suits_kind : Kind → Kind → Bool
-suits_kind (kind.Fixed from) (kind.Fixed to) = true
-suits_kind (kind.Bits from) (kind.Bits to) = nat_le from to
-suits_kind (kind.Chars from) (kind.Chars to) = nat_le from to
-suits_kind kind.Clock kind.Clock = true
-suits_kind kind.Span kind.Span = true
-suits_kind from to = false
 
 -- an operator has a row for the kinds of its operands
 abbrev pub monadic : Monad → Frame → List Frame → Step

@@ -3,8 +3,8 @@
 use crate::instr::Instr;
 use arrayvec::ArrayVec;
 use pearl_format::item::Item;
-use pearl_rules::setup::Device;
 use pearl_value::cell::Cell;
+use pearl_value::device::Device;
 use pearl_value::kind::{CellKind, Kind};
 use pearl_value::listing::Listing;
 

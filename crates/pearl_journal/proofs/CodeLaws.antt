@@ -5,10 +5,11 @@ use Rattle.std.specs.List.{position, position_or_len}
 use Rattle.pearl_rules.specs.declared.entry.Entry.{Entry}
 use Rattle.pearl_rules.specs.declared.entry.Entry.TheVariants as entry
 use Rattle.pearl_rules.specs.declared.setup.Setup.{Setup}
-use Rattle.pearl_rules.specs.declared.setup.Device.{Device}
-use Rattle.pearl_rules.specs.declared.setup.Device.TheVariants as device
+use Rattle.pearl_value.specs.declared.device.Device.{Device}
+use Rattle.pearl_value.specs.declared.device.Device.TheVariants as device
 use Rattle.pearl_rules.specs.Entries.{moment_after}
-use Rattle.pearl_rules.specs.Tables.{input_kind, is_id}
+use Rattle.pearl_value.specs.Names.{is_id}
+use Rattle.pearl_rules.specs.Tables.{input_kind}
 use Rattle.pearl_rules.specs.Literals.{clock_literal}
 use Rattle.pearl_journal.specs.declared.limits.TheConstants.{LAST_MOMENT, LINE_LIMIT}
 use Rattle.pearl_journal.specs.declared.reading.Line.{Line}

@@ -10,15 +10,16 @@ use Rattle.std.specs.Str.Parse.{digits_value}
 use Rattle.pearl_value.specs.declared.cell.Cell.{Cell}
 use Rattle.pearl_rules.specs.declared.entry.Entry.{Entry}
 use Rattle.pearl_rules.specs.declared.entry.Entry.TheVariants as entry
-use Rattle.pearl_rules.specs.declared.setup.Device.{Device}
-use Rattle.pearl_rules.specs.declared.setup.Device.TheVariants as device
-use Rattle.pearl_rules.specs.declared.setup.Direction.{Direction}
-use Rattle.pearl_rules.specs.declared.setup.Direction.TheVariants as direction
+use Rattle.pearl_value.specs.declared.device.Device.{Device}
+use Rattle.pearl_value.specs.declared.device.Device.TheVariants as device
+use Rattle.pearl_value.specs.declared.device.Direction.{Direction}
+use Rattle.pearl_value.specs.declared.device.Direction.TheVariants as direction
 use Rattle.pearl_rules.specs.declared.setup.Setup.{Setup}
 use Rattle.pearl_rules.specs.declared.setup.TaskEntry.{TaskEntry}
 use Rattle.pearl_rules.specs.Entries.{AreFitting, EntryFits, moment_after}
 use Rattle.pearl_rules.specs.Literals.{clock_literal}
-use Rattle.pearl_rules.specs.Tables.{input_kind, IsInterrupt, IsReadable, Reads, is_id}
+use Rattle.pearl_value.specs.Names.{is_id}
+use Rattle.pearl_rules.specs.Tables.{input_kind, IsInterrupt, IsReadable, Reads}
 use Rattle.pearl_scan.proofs.Kept.{clock_below}
 use Rattle.pearl_journal.specs.declared.limits.TheConstants.{LAST_MOMENT, LINE_LIMIT, NO_FIT, NO_FORM, NOT_DECLARED, TOO_LATE}
 use Rattle.pearl_journal.specs.declared.reading.Line.{Line}

@@ -6,7 +6,8 @@ use Rattle.pearl_rules.specs.declared.entry.Entry.TheVariants as entry
 use Rattle.pearl_rules.specs.declared.setup.Setup.{Setup}
 use Rattle.pearl_rules.specs.Entries.{moment_after}
 use Rattle.pearl_rules.specs.Literals.{clock_literal}
-use Rattle.pearl_rules.specs.Tables.{input_kind, is_id}
+use Rattle.pearl_value.specs.Names.{is_id}
+use Rattle.pearl_rules.specs.Tables.{input_kind}
 use Rattle.pearl_journal.specs.declared.limits.TheConstants.{LAST_MOMENT, LINE_LIMIT, NO_FIT, NO_FORM, NOT_DECLARED, TOO_LATE}
 use Rattle.pearl_journal.specs.declared.reading.Line.{Line}
 use Rattle.pearl_journal.specs.declared.reading.Line.TheVariants.{Blank, Item, Wrong}

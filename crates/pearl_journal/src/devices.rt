@@ -5,7 +5,7 @@ ghost use Rattle.std.specs.List.{position};
 ghost use Rattle.pearl_rules.specs.Tables.{input_kind};
 ghost use Rattle.pearl_journal.specs.Devices as spec;
 
-use pearl_rules::setup::{Device, Direction};
+use pearl_value::device::{Device, Direction};
 use pearl_value::kind::Kind;
 
 fn is_interrupt(device: &Device, number: u64) -> bool

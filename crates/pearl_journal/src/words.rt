@@ -3,7 +3,7 @@
 ghost use Rattle.std.specs.Prelude.{◌≡◌, ◌<◌, ◌≤◌, ◌^◌, length, slice_index};
 ghost use Rattle.std.specs.Char.{is_ascii_alphabetic};
 ghost use Rattle.std.specs.List.{list_all, position_or_len};
-ghost use Rattle.pearl_rules.specs.Tables.{is_id, is_name_byte as is_id_byte};
+ghost use Rattle.pearl_value.specs.Names.{is_id, is_name_byte as is_id_byte};
 ghost use Rattle.pearl_journal.specs.Words as spec;
 
 use crate::limits::NAME_LIMIT;

@@ -7,7 +7,7 @@ use Rattle.std.specs.Char.{is_ascii_alphabetic}
 use Rattle.std.specs.List.{AllByRecursion, list_all}
 use Rattle.pearl_value.specs.declared.cell.Cell.{Cell}
 use Rattle.pearl_value.specs.declared.cell.Cell.TheVariants.{Fixed, Bits, Chars, Clock, Span, Ref}
-use Rattle.pearl_rules.specs.Tables.{is_id, is_name_byte}
+use Rattle.pearl_value.specs.Names.{is_id, is_name_byte}
 use Rattle.pearl_journal.specs.Laws.{EndsInNoReturn, doubled}
 use Rattle.pearl_journal_laws.specs.Durations.{Begins, IsAmount, IsHours, IsLengthOfTime, IsMinutes, IsSeconds}
 use Rattle.pearl_journal_laws.specs.Literals.{AreBits, IsLiteral, IsSigned, SaysGroup, Spells}

@@ -8,8 +8,8 @@ use Rattle.std.specs.List.{list_all}
 use Rattle.pearl_value.specs.declared.cell.Cell.TheVariants.{Fixed, Bits}
 use Rattle.pearl_value.specs.declared.kind.Kind.TheVariants as kind
 use Rattle.pearl_rules.specs.declared.entry.Entry.TheVariants as entry
-use Rattle.pearl_rules.specs.declared.setup.Device.TheVariants as device
-use Rattle.pearl_rules.specs.declared.setup.Direction.TheVariants as direction
+use Rattle.pearl_value.specs.declared.device.Device.TheVariants as device
+use Rattle.pearl_value.specs.declared.device.Direction.TheVariants as direction
 use Rattle.pearl_rules.specs.declared.setup.Setup.{Setup}
 use Rattle.pearl_rules.specs.declared.setup.TaskEntry.{TaskEntry}
 use Rattle.pearl_rules.specs.Literals.{clock_literal, span_literal}

@@ -5,7 +5,7 @@ use Rattle.pearl_rules.specs.declared.entry.Entry.{Entry}
 use Rattle.pearl_rules.specs.declared.entry.Entry.TheVariants as entry
 use Rattle.pearl_rules.specs.declared.setup.Setup.{Setup}
 use Rattle.pearl_rules.specs.Literals.{clock_literal}
-use Rattle.pearl_rules.specs.Tables.{is_id}
+use Rattle.pearl_value.specs.Names.{is_id}
 use Rattle.pearl_journal.specs.declared.limits.TheConstants.{LAST_MOMENT}
 use Rattle.pearl_journal.specs.declared.reading.Line.{Line}
 use Rattle.pearl_journal.specs.declared.reading.Line.TheVariants.{Blank, Item, Wrong}

@@ -1,10 +1,10 @@
 -- Which device a number names, and which task a name: the first that has it.
 use Rattle.std.specs.Prelude.{◌≡◌, ◌≢◌, ℕ, ◌<◌, List, Some, slice_get}
 use Rattle.pearl_value.specs.declared.kind.Kind.{Kind}
-use Rattle.pearl_rules.specs.declared.setup.Device.{Device}
-use Rattle.pearl_rules.specs.declared.setup.Device.TheVariants.{Interrupt, Terminal, Input}
-use Rattle.pearl_rules.specs.declared.setup.Direction.{Direction}
-use Rattle.pearl_rules.specs.declared.setup.Direction.TheVariants.{Out}
+use Rattle.pearl_value.specs.declared.device.Device.{Device}
+use Rattle.pearl_value.specs.declared.device.Device.TheVariants.{Interrupt, Terminal, Input}
+use Rattle.pearl_value.specs.declared.device.Direction.{Direction}
+use Rattle.pearl_value.specs.declared.device.Direction.TheVariants.{Out}
 use Rattle.pearl_rules.specs.declared.setup.TaskEntry.{TaskEntry}
 
 -- INTERRUPT(k)

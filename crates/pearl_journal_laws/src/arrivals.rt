@@ -4,7 +4,7 @@ ghost use Rattle.std.specs.Prelude.{◌≡◌, ◌≢◌, ◌^◌, ◌≤◌, �
 ghost use Rattle.pearl_value.specs.declared.cell.Cell.{Cell};
 ghost use Rattle.pearl_value.specs.declared.kind.Kind.{Kind};
 ghost use Rattle.pearl_rules.specs.declared.entry.Entry.TheVariants.{Irpt, Chars, Line, Value};
-ghost use Rattle.pearl_rules.specs.declared.setup.Device.TheVariants.{Input};
+ghost use Rattle.pearl_value.specs.declared.device.Device.TheVariants.{Input};
 ghost use Rattle.pearl_rules.specs.declared.setup.Setup.{Setup};
 ghost use Rattle.pearl_rules.specs.Entries.{Becomes};
 ghost use Rattle.pearl_journal.specs.declared.reading.Line.TheVariants.{Item, Wrong};

@@ -3,7 +3,7 @@
 ghost use Rattle.std.specs.Prelude.{◌≡◌, ◌≢◌, ◌+◌, ◌^◌, ◌<◌, ◌≤◌, ℕ, List, [], true, false, codes};
 ghost use Rattle.pearl_rules.specs.declared.entry.Entry.TheVariants.{Clock, Run, Tick, Pass, Turn, State};
 ghost use Rattle.pearl_rules.specs.declared.setup.Setup.{Setup};
-ghost use Rattle.pearl_rules.specs.Tables.{is_id};
+ghost use Rattle.pearl_value.specs.Names.{is_id};
 ghost use Rattle.pearl_journal.specs.declared.reading.Line.TheVariants.{Item, Wrong};
 ghost use Rattle.pearl_journal.specs.Meaning.{meaning};
 ghost use Rattle.pearl_journal.specs.Readings.{Reading};

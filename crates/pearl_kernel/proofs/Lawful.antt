@@ -8,8 +8,8 @@ use Rattle.pearl_rules.specs.declared.entry.Entry.{Entry}
 use Rattle.pearl_rules.specs.declared.entry.Entry.TheVariants as entry
 use Rattle.pearl_rules.specs.declared.event.Event.{Event}
 use Rattle.pearl_rules.specs.declared.row.Plan.{Plan}
-use Rattle.pearl_rules.specs.declared.setup.Device.{Device}
-use Rattle.pearl_rules.specs.declared.setup.Device.TheVariants as device
+use Rattle.pearl_value.specs.declared.device.Device.{Device}
+use Rattle.pearl_value.specs.declared.device.Device.TheVariants as device
 use Rattle.pearl_rules.specs.declared.setup.Setup.{Setup}
 use Rattle.pearl_rules.specs.Core.{Core, Channel, Switch, Bytes, Values, Outward, Report, Happened}
 use Rattle.pearl_rules.specs.Devices.{interrupted, arrived}
@@ -23,7 +23,8 @@ use Rattle.pearl_rules.proofs.CountLaws.{effect-counts, millisecond-counts, arri
 use Rattle.pearl_rules.proofs.EffectLaws.{effect-length, effect-kinds, millisecond-length, millisecond-kinds, arrived-length, arrived-kinds}
 use Rattle.pearl_rules.proofs.UrgencyLaws.{effect-urgencies, millisecond-urgencies, arrived-urgencies, effect-plans, millisecond-plans, arrived-plans}
 use Rattle.pearl_kernel.specs.Kept.{Kept, done, IsReportOf, IsLawful}
-use Rattle.pearl_kernel.specs.Timing.{passed, IsQuiet}
+use Rattle.pearl_rules.specs.Laws.{passed}
+use Rattle.pearl_kernel.specs.Timing.{IsQuiet}
 use Rattle.pearl_kernel.proofs.Passing.{passed-quiet}
 use Rattle.pearl_kernel.proofs.Places.{some-before, some-dropped, dropped-length}
 use Rattle.pearl_kernel.proofs.Quiet.{quiet-less, quiet-after, quiet-interrupted, quiet-millisecond, quiet-arrived}

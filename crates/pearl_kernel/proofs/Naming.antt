@@ -18,15 +18,15 @@ use Rattle.pearl_rules.specs.declared.entry.Entry.TheVariants as come
 use Rattle.pearl_rules.specs.declared.row.End.{End}
 use Rattle.pearl_rules.specs.declared.row.End.TheVariants as end
 use Rattle.pearl_rules.specs.declared.row.TaskRow.{TaskRow}
-use Rattle.pearl_rules.specs.declared.setup.Device.{Device}
-use Rattle.pearl_rules.specs.declared.setup.Device.TheVariants as device
+use Rattle.pearl_value.specs.declared.device.Device.{Device}
+use Rattle.pearl_value.specs.declared.device.Device.TheVariants as device
 use Rattle.pearl_rules.specs.declared.setup.Setup.{Setup}
 use Rattle.pearl_rules.specs.Core.{Channel, Switch, Bytes, Values, Outward}
 use Rattle.pearl_rules.specs.Devices.{channel_of}
 use Rattle.pearl_rules.specs.Entries.{EntryFits, IsPrinted, ComesInAt}
 use Rattle.pearl_rules.specs.Slots.{Fits, IsLike, IsChannelOf, IsStart, IsOnce, IsLater, IsRepeat, IsEnd, IsPlan, IsPlannedRow}
 use Rattle.pearl_rules.specs.Tables.{IsInterrupt, IsReadable, input_kind}
-use Rattle.pearl_port.specs.Pending.{IsTyped}
+use Rattle.pearl_value.specs.WellFormed.{IsTyped}
 use Rattle.pearl_sema.specs.Waiting.{AreThere}
 use Rattle.pearl_kernel.specs.Channels.{HasSwitch, HasBytes, IsFor, HasValuesFor, ComesIn}
 use Rattle.pearl_kernel.specs.Kept.{Kept, IsLawful}

@@ -10,7 +10,8 @@ use Rattle.pearl_rules.specs.declared.row.TaskRow.{TaskRow}
 use Rattle.pearl_rules.specs.Core.{Core}
 use Rattle.pearl_rules.specs.Plans.{serves_if, continued, started, continuation_in, continuation_of, activation_in, activation_of}
 use Rattle.pearl_rules.specs.Plans.{serve_activation_by, serve_activation, each_task, served, millisecond}
-use Rattle.pearl_kernel.specs.Timing.{series_of_plan, series_of_activation, timetable, IsQuiet, passed}
+use Rattle.pearl_rules.specs.Laws.{passed}
+use Rattle.pearl_kernel.specs.Timing.{series_of_plan, series_of_activation, timetable, IsQuiet}
 
 -- THE SERIES OF A TASK'S PLANS
 

@@ -6,8 +6,7 @@ use Rattle.pearl_value.specs.declared.trap.Trap.{Trap}
 use Rattle.pearl_value.specs.Cells.{kind_of}
 use Rattle.pearl_value.specs.Conversions.{SuitsKind, converted}
 use Rattle.pearl_value.specs.Kinds.{IsKind}
-use Rattle.pearl_value.specs.WellFormed.{IsValue}
-use Rattle.pearl_port.specs.Pending.{IsTyped}
+use Rattle.pearl_value.specs.WellFormed.{IsValue, IsTyped}
 use Rattle.pearl_rules.specs.declared.entry.Entry.{Entry}
 use Rattle.pearl_rules.specs.declared.entry.Entry.TheVariants as entry
 use Rattle.pearl_rules.specs.Core.{Channel}

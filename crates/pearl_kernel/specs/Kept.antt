@@ -13,7 +13,7 @@ use Rattle.pearl_rules.specs.Pick.{Offered, pick}
 use Rattle.pearl_rules.specs.Runs.{dropped, kept_at}
 use Rattle.pearl_rules.specs.Entries.{last_moment_of_all}
 use Rattle.pearl_rules.specs.Slots.{Fits, HasKinds, HasUrgencies, HasPlans}
-use Rattle.pearl_rules.specs.Tables.{IsPreset}
+use Rattle.pearl_value.specs.Counts.{IsPreset}
 use Rattle.pearl_exchange.specs.declared.heard.Beside.{Beside}
 use Rattle.pearl_exchange.specs.Heard.{answer_of}
 use Rattle.pearl_kernel.specs.declared.kernel.Acted.{Acted}

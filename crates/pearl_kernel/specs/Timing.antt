@@ -1,5 +1,5 @@
 -- When the plans of a kernel fire, and how far in time it can be.
-use Rattle.std.specs.Prelude.{ℕ, zero, suc, ◌+◌, ◌^◌, ◌<◌, ◌≤◌, List, Option, Some, None, IfSome, map}
+use Rattle.std.specs.Prelude.{ℕ, ◌+◌, ◌^◌, ◌<◌, ◌≤◌, List, Option, Some, None, IfSome, map}
 use Rattle.std.specs.List.{AllByRecursion}
 use Rattle.pearl_value.specs.WellFormed.{FitsSpan}
 use Rattle.pearl_rules.specs.declared.series.Series.{Series}
@@ -14,7 +14,6 @@ use Rattle.pearl_rules.specs.declared.row.Plan.{Plan}
 use Rattle.pearl_rules.specs.declared.row.Activation.{Activation}
 use Rattle.pearl_rules.specs.declared.row.TaskRow.{TaskRow}
 use Rattle.pearl_rules.specs.Core.{Core}
-use Rattle.pearl_rules.specs.Plans.{millisecond}
 
 -- WHEN PLANS FIRE
 
@@ -36,11 +35,6 @@ timetable rows = record {
 -- no plan fires at the next n moments
 abbrev pub IsQuiet : Core → ℕ → Type 0
 IsQuiet core n = (u : ℕ) → core.moment < u → u ≤ core.moment + n → IsDue (timetable core.tasks) u → ⊥
-
--- n milliseconds pass
-abbrev pub passed : ℕ → Core → Core
-passed zero core = core
-passed (suc n) core = millisecond (passed n core)
 
 -- HOW FAR
 

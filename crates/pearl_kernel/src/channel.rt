@@ -1,7 +1,7 @@
 // How a device stands.
 
 ghost use Rattle.std.specs.Prelude.{◌≡◌, ◌≤◌, ◌++◌, All, Some, IfOk, IsTrue, drop, length, nat_le, nat_lt, slice_get, if◌then◌else◌};
-ghost use Rattle.pearl_port.specs.Pending.{IsTyped};
+ghost use Rattle.pearl_value.specs.WellFormed.{IsTyped};
 ghost use Rattle.pearl_rules.specs.Core.{Switch, Bytes, first_channel};
 ghost use Rattle.pearl_rules.specs.Devices.{is_on, bytes_in, values_in, terminal_room, input_room};
 ghost use Rattle.pearl_rules.specs.Pick.{is_some_value};
@@ -10,9 +10,9 @@ ghost use Rattle.pearl_value.specs.Conversions.{converted};
 
 use pearl_port::input::Input;
 use pearl_port::terminal::Terminal;
-use pearl_rules::setup::Device;
 use pearl_value::cell::Cell;
 use pearl_value::conversion::convert;
+use pearl_value::device::Device;
 use std::alloc::{AllocError, Global};
 use std::marker::Model;
 

@@ -1,7 +1,7 @@
 // What comes in from outside.
 
 ghost use Rattle.std.specs.Prelude.{◌≡◌, ◌≤◌, ◌++◌, [], ◌∷◌, All, length};
-ghost use Rattle.pearl_port.specs.Pending.{IsTyped};
+ghost use Rattle.pearl_value.specs.WellFormed.{IsTyped};
 ghost use Rattle.pearl_rules.specs.Devices.{arrived, channel_of, with_bytes, with_value};
 ghost use Rattle.pearl_kernel.specs.Channels.{HasBytes, HasValuesFor, ComesIn};
 ghost use Rattle.pearl_kernel.specs.Changes.{Stirs};

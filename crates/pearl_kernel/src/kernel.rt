@@ -17,7 +17,8 @@ ghost use Rattle.pearl_exchange.specs.Offers.{action_of};
 ghost use Rattle.pearl_kernel.specs.Kept.{at_start, offered as offered_of, IsLawful, Marks, NamesWhatIsThere};
 ghost use Rattle.pearl_kernel.specs.Kept.{is_unsettled as is_unsettled_in, IsFirst, AllSettled};
 ghost use Rattle.pearl_kernel.specs.Eligible.{possible, entry};
-ghost use Rattle.pearl_kernel.specs.Timing.{timetable, passed, IsQuiet};
+ghost use Rattle.pearl_rules.specs.Laws.{passed};
+ghost use Rattle.pearl_kernel.specs.Timing.{timetable, IsQuiet};
 
 use crate::changes::Changed;
 use crate::standing::Standing;

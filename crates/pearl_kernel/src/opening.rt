@@ -10,8 +10,9 @@ use circular_buffer::HeapCircularBuffer;
 use pearl_format::item::Item;
 use pearl_rules::event::Event;
 use pearl_rules::row::{Mode, TaskRow};
-use pearl_rules::setup::{Device, TaskEntry};
+use pearl_rules::setup::TaskEntry;
 use pearl_value::cell::{Cell, copy_of};
+use pearl_value::device::Device;
 use pearl_value::listing::Listing;
 use std::alloc::{AllocError, Global};
 

@@ -14,8 +14,8 @@ ghost use Rattle.pearl_rules.specs.Devices.{without_bytes, values_at, without_va
 ghost use Rattle.pearl_rules.specs.Scan.{scan as scan_spec};
 ghost use Rattle.pearl_rules.specs.Plans.{with_mode};
 ghost use Rattle.pearl_rules.specs.Pick.{is_complete as is_complete_of, is_possible as is_possible_in, is_some_value, guard};
-ghost use Rattle.pearl_rules.specs.Tables.{IsPreset};
-ghost use Rattle.pearl_port.specs.Pending.{IsTyped};
+ghost use Rattle.pearl_value.specs.Counts.{IsPreset};
+ghost use Rattle.pearl_value.specs.WellFormed.{IsTyped};
 ghost use Rattle.pearl_sema.specs.Waiting.{AreThere};
 ghost use Rattle.pearl_value.specs.Kinds.{IsKind};
 ghost use Rattle.pearl_exchange.specs.Offers.{action_of};

@@ -1,7 +1,8 @@
 // Milliseconds in which no plan fires.
 
 ghost use Rattle.std.specs.Prelude.{◌≡◌, ◌+◌, ◌^◌, ◌≤◌, []};
-ghost use Rattle.pearl_kernel.specs.Timing.{IsQuiet, passed};
+ghost use Rattle.pearl_rules.specs.Laws.{passed};
+ghost use Rattle.pearl_kernel.specs.Timing.{IsQuiet};
 
 use crate::state::State;
 

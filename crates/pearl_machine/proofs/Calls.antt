@@ -21,7 +21,8 @@ use Rattle.pearl_engine.specs.Setups.{setup_of}
 use Rattle.pearl_script.specs.Lines.{event_line, state_line, report_line}
 use Rattle.pearl_script.specs.Words.{task_name}
 use Rattle.pearl_kernel.specs.Kept as kernel
-use Rattle.pearl_kernel.specs.Timing.{IsQuiet, passed}
+use Rattle.pearl_rules.specs.Laws.{passed}
+use Rattle.pearl_kernel.specs.Timing.{IsQuiet}
 use Rattle.pearl_kernel.proofs.Passing.{passed-quiet}
 use Rattle.pearl_kernel.specs.Kept.{Kept, IsLawful, AllSettled, IsFirst, offered}
 use Rattle.pearl_machine.specs.Parts.{going_frames, is_going, start_of, running_of, StepsPart, SettlesPart}

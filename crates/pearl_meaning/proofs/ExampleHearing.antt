@@ -8,8 +8,8 @@ use Rattle.pearl_value.specs.declared.operator.Dyad.TheVariants.{Add}
 use Rattle.pearl_rules.specs.declared.action.Action.TheVariants.{Read, Try, Take, Get}
 use Rattle.pearl_rules.specs.declared.action.Answer.{Answer}
 use Rattle.pearl_rules.specs.declared.action.Answer.TheVariants.{Nothing, One, Many}
-use Rattle.pearl_rules.specs.declared.setup.Direction.TheVariants.{InOut}
-use Rattle.pearl_rules.specs.declared.setup.Device.TheVariants.{Interrupt, Terminal, Input, Output}
+use Rattle.pearl_value.specs.declared.device.Direction.TheVariants.{InOut}
+use Rattle.pearl_value.specs.declared.device.Device.TheVariants.{Interrupt, Terminal, Input, Output}
 use Rattle.pearl_rules.specs.declared.setup.TaskEntry.{TaskEntry}
 use Rattle.pearl_program.specs.PlainExpressions.{OfRead, OfDyadic, OfNow}
 use Rattle.pearl_program.specs.PlainStatements.{OfAt, OfActivate, OfTake, OfTerminate, NoStmts}

@@ -17,8 +17,8 @@ use Rattle.pearl_rules.specs.declared.action.Action.TheVariants as action
 use Rattle.pearl_rules.specs.declared.action.Answer.TheVariants.{Nothing, One, Many}
 use Rattle.pearl_rules.specs.declared.action.Start.TheVariants as start
 use Rattle.pearl_rules.specs.declared.action.Repeat.TheVariants as repeat
-use Rattle.pearl_program.specs.declared.table.Direction.TheVariants.{InOut}
-use Rattle.pearl_program.specs.declared.table.Device.TheVariants.{Interrupt, Terminal, Input, Output}
+use Rattle.pearl_value.specs.declared.device.Direction.TheVariants.{InOut}
+use Rattle.pearl_value.specs.declared.device.Device.TheVariants.{Interrupt, Terminal, Input, Output}
 use Rattle.pearl_program.specs.PlainExpressions.{PlainExpr, OfLiteral, OfRead, OfDyadic, OfNow}
 use Rattle.pearl_program.specs.PlainStatements.{OfRenew, OfAssign, OfIf, OfRepeat, OfActivate, OfAfter, OfWhen, OfUntil, OfRequest, OfRelease, OfEnable, OfTrigger, OfPut, OfGet, OfSend, OfTake, PlainStmts, NoStmts, MoreStmts}
 use Rattle.pearl_program.specs.PlainPrograms.{PlainTask, PlainProg}

@@ -1,6 +1,7 @@
 -- Which answers suit an action, and which a task can have since its start, or a part of a program since it began.
 use Rattle.std.specs.Prelude.{◌≡◌, ◌≢◌, ℕ, ◌-◌, nat_lt, if◌then◌else◌, List, [], ◌∷◌, ◌++◌, Option, Some, None, slice_get}
 use Rattle.std.specs.List.{AllZip}
+use Rattle.pearl_rules.specs.Tables.{input_kind}
 use Rattle.pearl_value.specs.declared.kind.Kind.{Kind}
 use Rattle.pearl_value.specs.declared.kind.Kind.TheVariants.{Bits, Clock}
 use Rattle.pearl_value.specs.WellFormed.{IsValueOf}
@@ -8,8 +9,6 @@ use Rattle.pearl_rules.specs.declared.action.Action.{Action}
 use Rattle.pearl_rules.specs.declared.action.Action.TheVariants.{Read, Now, Try, Terminate, Get, Take, End, Trap}
 use Rattle.pearl_rules.specs.declared.action.Answer.{Answer}
 use Rattle.pearl_rules.specs.declared.action.Answer.TheVariants.{Nothing, One, Many}
-use Rattle.pearl_program.specs.declared.table.Device.{Device}
-use Rattle.pearl_program.specs.declared.table.Device.TheVariants.{Input}
 use Rattle.pearl_program.specs.PlainPrograms.{PlainLeaf, PlainProg}
 use Rattle.pearl_meaning.specs.Frames.{Store}
 use Rattle.pearl_meaning.specs.Evaluation.{Outcome, Needs, Does}
@@ -20,11 +19,6 @@ abbrev pub slot_kind : List PlainLeaf → ℕ → Option Kind
 slot_kind [] slot = None
 slot_kind (leaf ∷ leaves) slot =
     if nat_lt slot leaf.values.count then Some leaf.values.kind else slot_kind leaves (slot - leaf.values.count)
-
--- the kind of the values that come in at a device
-abbrev pub input_kind : Option Device → Option Kind
-input_kind (Some (Input number kind)) = Some kind
-input_kind device = None
 
 -- a single value of this kind
 abbrev pub IsOneOf : Option Kind → Answer → Type 0

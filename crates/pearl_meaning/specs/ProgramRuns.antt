@@ -3,32 +3,13 @@ use Rattle.std.specs.Prelude.{ℕ, List, map}
 use Rattle.std.specs.List.{flat_map}
 use Rattle.pearl_value.specs.declared.cell.Cell.{Cell}
 use Rattle.pearl_rules.specs.declared.entry.Entry.{Entry}
-use Rattle.pearl_rules.specs.declared.setup.Direction as run_direction
-use Rattle.pearl_rules.specs.declared.setup.Direction.TheVariants as direction
-use Rattle.pearl_rules.specs.declared.setup.Device as run_device
-use Rattle.pearl_rules.specs.declared.setup.Device.TheVariants as device
 use Rattle.pearl_rules.specs.declared.setup.TaskEntry.{TaskEntry}
 use Rattle.pearl_rules.specs.declared.setup.Setup.{Setup}
 use Rattle.pearl_rules.specs.Runs as runs
 use Rattle.pearl_rules.specs.Runs.{Source}
-use Rattle.pearl_program.specs.declared.table.Direction.{Direction}
-use Rattle.pearl_program.specs.declared.table.Direction.TheVariants.{In, Out, InOut}
-use Rattle.pearl_program.specs.declared.table.Device.{Device}
-use Rattle.pearl_program.specs.declared.table.Device.TheVariants.{Interrupt, Terminal, Input, Output}
 use Rattle.pearl_program.specs.FirstCells.{first_cells}
 use Rattle.pearl_program.specs.PlainPrograms.{PlainLeaf, PlainTask, PlainProg}
 use Rattle.pearl_meaning.specs.Programs.{offer}
-
-abbrev pub direction_of : Direction → run_direction.Direction
-direction_of In = direction.In
-direction_of Out = direction.Out
-direction_of InOut = direction.InOut
-
-abbrev pub device_of : Device → run_device.Device
-device_of (Interrupt number) = device.Interrupt number
-device_of (Terminal number way) = device.Terminal number (direction_of way)
-device_of (Input number kind) = device.Input number kind
-device_of (Output number kind) = device.Output number kind
 
 abbrev pub entry_of : PlainTask → TaskEntry
 entry_of task = record { name = record { items = task.name }; priority = task.priority; main = task.main }
@@ -42,7 +23,7 @@ setup_of p = record {
   tasks = map entry_of p.tasks;
   slots = flat_map slots_of p.leaves;
   semaphores = p.semaphores;
-  devices = map device_of p.devices;
+  devices = p.devices;
   formats = p.formats;
 }
 

@@ -5,9 +5,7 @@ use Rattle.pearl_value.specs.declared.kind.CellKind.{CellKind}
 use Rattle.pearl_value.specs.declared.kind.CellKind.TheVariants.{Plain, RefTo}
 use Rattle.pearl_value.specs.declared.cell.Cell.{Cell}
 use Rattle.pearl_format.specs.declared.item.Item.{Item}
-use Rattle.pearl_rules.specs.Tables.{items_or_none}
-use Rattle.pearl_program.specs.declared.table.Device.{Device}
-use Rattle.pearl_program.specs.declared.table.Device.TheVariants.{Output}
+use Rattle.pearl_rules.specs.Tables.{items_or_none, output_kind}
 use Rattle.pearl_program.specs.declared.expression.Target.TheVariants.{Leaf, Own, Param}
 use Rattle.pearl_program.specs.PlainExpressions.{PlainVariable, OfVariable}
 use Rattle.pearl_program.specs.PlainPrograms.{PlainProcedure, PlainProg}
@@ -40,11 +38,6 @@ variable_kind setting (OfVariable (Leaf number) bounds subscripts) =
     option_map (λ leaf. leaf.values.kind) (slice_get setting.program.leaves number)
 variable_kind setting (OfVariable (Own cell) bounds subscripts) = cell_kind setting cell
 variable_kind setting (OfVariable (Param cell) bounds subscripts) = option_and_then referred_kind (slice_get setting.cells cell)
-
--- the kind of the values that go to a device
-abbrev pub output_kind : Option Device → Option Kind
-output_kind (Some (Output number kind)) = Some kind
-output_kind device = None
 
 abbrev pub sent_kind : Setting → ℕ → Option Kind
 sent_kind setting device = output_kind (slice_get setting.program.devices device)

@@ -6,7 +6,7 @@ use Rattle.std.specs.Option.{option_and_then}
 use Rattle.pearl_value.specs.declared.kind.Kind.{Kind}
 use Rattle.pearl_value.specs.declared.kind.Kind.TheVariants as kind
 use Rattle.pearl_tree.specs.declared.typing.Sort.TheVariants.{Fixed}
-use Rattle.pearl_tree.specs.declared.declaration.Direction.{Direction}
+use Rattle.pearl_value.specs.declared.device.Direction.{Direction}
 use Rattle.pearl_tree.specs.declared.declaration.Class.{Class}
 use Rattle.pearl_tree.specs.declared.declaration.Class.TheVariants.{Alphic, Basic as BasicClass}
 use Rattle.pearl_tree.specs.ShownDeclarations.{ShownItem, ShownParam}
@@ -21,13 +21,18 @@ use Rattle.pearl_names.specs.declared.scope.View.{View}
 use Rattle.pearl_names.specs.Found.{found_from}
 use Rattle.pearl_names.specs.ScopeNames.{ScopeNames}
 use Rattle.pearl_names.specs.Shapes.{Shape, Around, shape_of, sound_bounds}
-use Rattle.pearl_names.specs.Layout.{leaves_of, is_sound_leaf}
+use Rattle.pearl_names.specs.Layout.{Leaf, leaves_of, is_sound_leaf}
 use Rattle.pearl_names.specs.Known.{Known, known_of, around}
 
 -- the bounds and the shape of a variable
 pub record Form : Type 0 where
   pub bounds : List (ℤ × ℤ)
   pub shape : Shape
+
+-- where a rule is broken in a variable's declaration, it has no leaves
+abbrev pub leaves_in : Option Form → List Leaf
+leaves_in None = []
+leaves_in (Some form) = leaves_of [] form.bounds form.shape
 
 -- a parameter, and whether it is IDENT
 pub record Parameter : Type 0 where

@@ -1,9 +1,10 @@
 // What declares the names of a scope.
 
-use pearl_tree::declaration::{Class, Direction, Item, Param};
+use pearl_tree::declaration::{Class, Item, Param};
 use pearl_tree::name::Name;
 use pearl_tree::parts::Parts;
 use pearl_tree::typing::Basic;
+use pearl_value::device::Direction;
 
 /// What declares a name.
 #[derive(Clone, Copy)]

@@ -1,7 +1,7 @@
 // What a name stands for, with all that is asked of it where it is used.
 
 use crate::types::TypeRef;
-use pearl_tree::declaration::Direction;
+use pearl_value::device::Direction;
 use pearl_value::kind::Kind;
 
 /// The bounds of a dimension, the upper not below the lower.

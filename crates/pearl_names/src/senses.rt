@@ -22,9 +22,10 @@ use crate::length::{Lengths, kind_of_basic};
 use crate::names::{ScopeTable, after};
 use crate::sense::{Bounds, Form, Parameter, ScopeSenses, Sense, Signature};
 use crate::types::TypeRef;
-use pearl_tree::declaration::{Class, Direction, Item, Param};
+use pearl_tree::declaration::{Class, Item, Param};
 use pearl_tree::name::Name;
 use pearl_tree::typing::{Basic, Sort};
+use pearl_value::device::Direction;
 use pearl_value::kind::Kind;
 use std::alloc::{AllocError as NoMemory, Global};
 

@@ -13,8 +13,8 @@ use Rattle.pearl_tree.specs.declared.declaration.Class.{Class}
 use Rattle.pearl_tree.specs.declared.declaration.Class.TheVariants as class
 use Rattle.pearl_tree.specs.declared.declaration.Declared.{Declared}
 use Rattle.pearl_tree.specs.declared.declaration.Declared.TheVariants as declared
-use Rattle.pearl_tree.specs.declared.declaration.Direction.{Direction}
-use Rattle.pearl_tree.specs.declared.declaration.Direction.TheVariants as direction
+use Rattle.pearl_value.specs.declared.device.Direction.{Direction}
+use Rattle.pearl_value.specs.declared.device.Direction.TheVariants as direction
 use Rattle.pearl_tree.specs.declared.declaration.Spec.{Spec}
 use Rattle.pearl_tree.specs.declared.declaration.Spec.TheVariants as spec
 use Rattle.pearl_tree.specs.declared.tree.Decl.{Decl}

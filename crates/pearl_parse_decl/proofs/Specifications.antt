@@ -4,7 +4,7 @@ use Rattle.pearl_tree.specs.declared.name.Names.{Names}
 use Rattle.pearl_tree.specs.declared.declaration.Class.{Class}
 use Rattle.pearl_tree.specs.declared.declaration.DeviceWord.{DeviceWord}
 use Rattle.pearl_tree.specs.declared.declaration.DeviceWord.TheVariants as device
-use Rattle.pearl_tree.specs.declared.declaration.Direction.{Direction}
+use Rattle.pearl_value.specs.declared.device.Direction.{Direction}
 use Rattle.pearl_tree.specs.declared.declaration.Spec.{Spec}
 use Rattle.pearl_tree.specs.declared.declaration.Spec.TheVariants as spec
 use Rattle.pearl_tree.specs.declared.token.Token.{Token}

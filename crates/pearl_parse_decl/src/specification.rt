@@ -4,7 +4,7 @@ ghost use Rattle.std.specs.Prelude.{◌≡◌, ◌≢◌, ◌+◌, ◌<◌, ◌�
 ghost use Rattle.pearl_tree.specs.Standing.{what_at, HasWord, HasId};
 ghost use Rattle.pearl_tree.specs.Types as types;
 ghost use Rattle.pearl_tree.specs.Declarations as grammar;
-ghost use Rattle.pearl_tree.specs.declared.declaration.Direction.{Direction};
+ghost use Rattle.pearl_value.specs.declared.device.Direction.{Direction};
 ghost use Rattle.pearl_tree.specs.declared.word_code.TheConstants as w;
 ghost use Rattle.pearl_parse_expr.specs.declared.reading.Halt.{Halt};
 ghost use Rattle.pearl_parse_expr.specs.Stops as stops;
@@ -17,11 +17,12 @@ use crate::name::{bracketed_number, names};
 use crate::typing::basic;
 use pearl_parse_expr::reading::{Halt, Reading};
 use pearl_parse_expr::standing::{is_symbol, is_word, name_at, place_at};
-use pearl_tree::declaration::{Class, Device, DeviceWord, Direction, Spec};
+use pearl_tree::declaration::{Class, Device, DeviceWord, Spec};
 use pearl_tree::name::Names;
 use pearl_tree::symbol::{COLON, LEFT_ROUND, RIGHT_ROUND, SEMICOLON};
 use pearl_tree::token::{Token, What};
 use pearl_tree::word_code::{ALL, ALPHIC, BASIC, DATION, IN, INOUT, INTERRUPT, OUT};
+use pearl_value::device::Direction;
 use std::alloc::Global;
 
 fn direction_at(tokens: &[Token], at: usize) -> Option<Direction>

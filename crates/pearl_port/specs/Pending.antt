@@ -1,5 +1,5 @@
 -- What waits at an input and at a terminal, from the oldest on, and how much may wait there.
-use Rattle.std.specs.Prelude.{◌≡◌, ℕ, ◌-◌, ◌≤◌, ◌⊎◌, List, [], ◌∷◌, ◌++◌, drop, length}
+use Rattle.std.specs.Prelude.{◌≡◌, ℕ, ◌-◌, List, [], ◌∷◌, ◌++◌, drop, length}
 use Rattle.pearl_value.specs.declared.kind.Kind.{Kind}
 
 -- the kind of an input's values, how many may wait, and those that wait
@@ -22,10 +22,6 @@ module _ {X : Type 0} where
   -- without the oldest, where there is one
   abbrev pub served : Queue X → Queue X
   served queue = record queue { items = drop 1 queue.items }
-
--- the bytes of a terminal: line ends, and those that texts are written of
-abbrev pub IsTyped : ℕ → Type 0
-IsTyped byte = (byte ≡ 10) ⊎ ((32 ≤ byte) × (byte ≤ 126))
 
 -- how many more bytes may wait at a terminal, at which 4,096 may
 abbrev pub free : List ℕ → ℕ

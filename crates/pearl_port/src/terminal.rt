@@ -4,7 +4,8 @@ ghost use Rattle.std.specs.Prelude.{◌≡◌, ◌↔◌, ◌+◌, ◌-◌, ◌<
 ghost use Rattle.std.specs.Prelude.{length, drop, slice_get, vec_len, vec_capacity};
 ghost use Rattle.std.specs.Borrow.{sem};
 ghost use Rattle.std.specs.Io.BufRead.{Rests};
-ghost use Rattle.pearl_port.specs.Pending.{IsTyped, free};
+ghost use Rattle.pearl_value.specs.WellFormed.{IsTyped};
+ghost use Rattle.pearl_port.specs.Pending.{free};
 
 use std::alloc::{AllocError as NoMemory, Global};
 use std::marker::Model;
@@ -21,7 +22,7 @@ pub struct Terminal {
 
 impl Model for Terminal {
     ghost use Rattle.std.specs.Prelude.{◌≡◌, ◌≤◌, ℕ, List, All, length, drop, vec_capacity};
-    ghost use Rattle.pearl_port.specs.Pending.{IsTyped};
+    ghost use Rattle.pearl_value.specs.WellFormed.{IsTyped};
 
     ghost Value = { List ℕ };
 

@@ -9,13 +9,12 @@ ghost use Rattle.pearl_print.specs.Declarations.{device_word_tokens, device_toke
 use crate::lists::{Part, put_bracketed_number, put_flag, put_maybe_headed};
 use crate::put::{put_symbol, put_word};
 use crate::typing::{put_basic, put_bounds, put_names, put_typing};
-use pearl_tree::declaration::{
-    Class, Declared, Device, DeviceWord, Direction, Item, Param, Prio, Sema, Spec,
-};
+use pearl_tree::declaration::{Class, Declared, Device, DeviceWord, Item, Param, Prio, Sema, Spec};
 use pearl_tree::symbol::{COLON, SEMICOLON};
 use pearl_tree::word_code::{
     ALPHIC, BASIC, DATION, IDENT, IN, INIT, INOUT, INTERRUPT, INV, OUT, PRESET, PRIO, SEMA,
 };
+use pearl_value::device::Direction;
 use std::alloc::AllocError as NoMemory;
 
 fn put_device_word(into: &mut Vec<u8>, word: &DeviceWord) -> Result<(), NoMemory>

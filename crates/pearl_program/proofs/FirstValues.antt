@@ -5,12 +5,12 @@ use Rattle.std.proofs.Common.{arith}
 use Rattle.std.proofs.lemmas.List.{length-append, length-replicate}
 use Rattle.std.proofs.lemmas.List.Elements.{All-nil, All-cons, All-append, All-replicate}
 use Rattle.pearl_value.specs.declared.cell.Cell.{Cell}
-use Rattle.pearl_value.specs.Blanks.{blank_of}
+use Rattle.pearl_value.specs.Blanks.{blank_of, last_or}
 use Rattle.pearl_value.specs.WellFormed.{IsValueOf}
 use Rattle.pearl_value.proofs.Results.{blank_gives}
 use Rattle.pearl_program.specs.PlainStatements.{PlainValues}
 use Rattle.pearl_program.specs.SoundStatements.{AreFirst}
-use Rattle.pearl_program.specs.FirstCells.{last_or, first_cells}
+use Rattle.pearl_program.specs.FirstCells.{first_cells}
 
 last_suits : (P : Cell → Type 0) (x : Cell) (xs : List Cell) → P x → AllByRecursion P xs → P (last_or x xs)
 last_suits P x [] one all = one

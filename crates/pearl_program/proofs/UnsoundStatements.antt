@@ -10,9 +10,9 @@ use Rattle.pearl_value.specs.declared.cell.Cell.TheVariants as cell
 use Rattle.pearl_value.specs.Conversions.{SuitsKind}
 use Rattle.pearl_format.specs.declared.item.ItemCode.TheVariants.{F}
 use Rattle.pearl_format.specs.Items.{Suits}
-use Rattle.pearl_program.specs.declared.table.Direction.TheVariants.{In, Out}
-use Rattle.pearl_program.specs.declared.table.Device.{Device}
-use Rattle.pearl_program.specs.declared.table.Device.TheVariants.{Interrupt, Terminal, Input, Output}
+use Rattle.pearl_value.specs.declared.device.Direction.TheVariants.{In, Out}
+use Rattle.pearl_value.specs.declared.device.Device.{Device}
+use Rattle.pearl_value.specs.declared.device.Device.TheVariants.{Interrupt, Terminal, Input, Output}
 use Rattle.pearl_program.specs.PlainExpressions.{PlainExpr, OfLiteral, OfRead, NoExprs, MoreExprs, OfValue, OfIdent, NoArguments}
 use Rattle.pearl_program.specs.PlainStatements.{PlainStmt, OfCallOf, OfWhen, OfExit, OfReturn, OfActivate, OfRequest, OfPut, OfGet, OfSend, OfTake}
 use Rattle.pearl_program.specs.Typing.{Signature, Around, HasKind, IsVariable, Suit, SuitsParam, HaveKinds}

@@ -13,8 +13,8 @@ use Rattle.pearl_value.specs.declared.operator.Dyad.TheVariants.{Add}
 use Rattle.pearl_value.specs.WellFormed.{IsValueOf}
 use Rattle.pearl_format.specs.declared.item.ItemCode.TheVariants.{F}
 use Rattle.pearl_program.specs.declared.expression.Target.TheVariants.{Leaf, Own, Param}
-use Rattle.pearl_program.specs.declared.table.Direction.TheVariants.{InOut}
-use Rattle.pearl_program.specs.declared.table.Device.TheVariants.{Terminal}
+use Rattle.pearl_value.specs.declared.device.Direction.TheVariants.{InOut}
+use Rattle.pearl_value.specs.declared.device.Device.TheVariants.{Terminal}
 use Rattle.pearl_program.specs.PlainExpressions.{PlainExpr, OfLiteral, OfRead, OfDyadic, PlainVariable, OfVariable, NoExprs, MoreExprs, OfIdent, NoArguments, MoreArguments}
 use Rattle.pearl_program.specs.PlainStatements.{PlainCounter, PlainStmts, OfRenew, OfAssign, OfCallOf, OfRepeat, OfGet, NoStmts, MoreStmts}
 use Rattle.pearl_program.specs.PlainPrograms.{PlainProcedure, PlainTask, PlainProg}

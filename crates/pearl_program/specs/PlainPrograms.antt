@@ -4,7 +4,7 @@ use Rattle.pearl_value.specs.declared.kind.Kind.{Kind}
 use Rattle.pearl_value.specs.declared.kind.CellKind.{CellKind}
 use Rattle.pearl_format.specs.declared.item.Item.{Item}
 use Rattle.pearl_program.specs.declared.table.Leaf.{Leaf}
-use Rattle.pearl_program.specs.declared.table.Device.{Device}
+use Rattle.pearl_value.specs.declared.device.Device.{Device}
 use Rattle.pearl_program.specs.declared.program.Routine.{Routine}
 use Rattle.pearl_program.specs.declared.program.Procedure.{Procedure}
 use Rattle.pearl_program.specs.declared.program.Task.{Task}

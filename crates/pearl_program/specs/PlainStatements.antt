@@ -154,3 +154,7 @@ abbrev mutual
 abbrev pub plain_stmts : List Stmt → PlainStmts
 plain_stmts [] = NoStmts
 plain_stmts (s ∷ rest) = MoreStmts (plain_stmt s) (plain_stmts rest)
+
+abbrev pub plain_branches : List Branch → PlainBranches
+plain_branches [] = NoBranches
+plain_branches (branch ∷ rest) = MoreBranches (plain_stmts branch.statements.items) (plain_branches rest)

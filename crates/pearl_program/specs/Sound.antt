@@ -1,17 +1,16 @@
 -- Which programs are sound: every number names a thing of the needed sort, every value suits, hidden cells serve nothing
 -- else, no procedure calls its own or a greater number, and every size is in its range.
-use Rattle.std.specs.Prelude.{◌≡◌, ◌⊎◌, ℕ, ◌+◌, ◌<◌, ◌≤◌, ◌^◌, Bool, false, ◌&&◌, ◌||◌, ◌==◌, nat_eq, nat_le, IsTrue, List, [], ◌∷◌, length, map, take, drop, slice_index, Option, Some, None}
-use Rattle.std.specs.Char.{is_ascii_alphabetic, is_ascii_digit}
-use Rattle.std.specs.List.{AllByRecursion, IsDistinct, list_all, sum_by}
+use Rattle.std.specs.Prelude.{ℕ, ◌+◌, ◌<◌, ◌≤◌, false, nat_eq, IsTrue, List, [], ◌∷◌, length, map, take, drop, Option, Some, None}
+use Rattle.std.specs.List.{AllByRecursion, IsDistinct, sum_by}
 use Rattle.pearl_value.specs.declared.kind.Kind.{Kind}
 use Rattle.pearl_value.specs.declared.kind.CellKind.{CellKind}
 use Rattle.pearl_value.specs.declared.kind.CellKind.TheVariants.{Plain, RefTo}
 use Rattle.pearl_value.specs.Kinds.{IsKind}
 use Rattle.pearl_value.specs.WellFormed.{IsLetter}
-use Rattle.pearl_format.specs.declared.item.Item.{Item}
-use Rattle.pearl_format.specs.Items.{HasWidth}
-use Rattle.pearl_program.specs.declared.table.Device.{Device}
-use Rattle.pearl_program.specs.declared.table.Device.TheVariants.{Interrupt, Terminal, Input, Output}
+use Rattle.pearl_value.specs.Names.{is_id}
+use Rattle.pearl_value.specs.Counts.{IsPreset}
+use Rattle.pearl_value.specs.Devices.{IsDevice, AreRising}
+use Rattle.pearl_format.specs.Items.{IsFormat}
 use Rattle.pearl_program.specs.PlainPrograms.{PlainLeaf, PlainRoutine, PlainProcedure, PlainTask, PlainProg}
 use Rattle.pearl_program.specs.Typing.{Signature, Around}
 use Rattle.pearl_program.specs.SoundStatements.{IsIf, AreFirst, AreStmts}
@@ -23,45 +22,6 @@ pub record IsLeaf (leaf : PlainLeaf) : Type 0 where
   pub named : (0 < length leaf.name) × (length leaf.name ≤ 1024)
   pub spelled : AllByRecursion IsLetter leaf.name
   pub values : AreFirst leaf.values
-
--- INTERRUPT, TERMINAL, INPUT, OUTPUT
-abbrev pub sort_rank : Device → ℕ
-sort_rank (Interrupt number) = 0
-sort_rank (Terminal number direction) = 1
-sort_rank (Input number kind) = 2
-sort_rank (Output number kind) = 3
-
-abbrev pub own_number : Device → ℕ
-own_number (Interrupt number) = number
-own_number (Terminal number direction) = number
-own_number (Input number kind) = number
-own_number (Output number kind) = number
-
-abbrev pub HasKindOfValues : Device → Type 0
-HasKindOfValues (Input number kind) = IsKind kind
-HasKindOfValues (Output number kind) = IsKind kind
-HasKindOfValues device = Unit {0}
-
-abbrev pub IsDevice : Device → Type 0
-IsDevice device = (0 < own_number device) × (own_number device ≤ 99) × HasKindOfValues device
-
--- by sort, and then by number
-abbrev pub IsBefore : Device → Device → Type 0
-IsBefore a b = (sort_rank a < sort_rank b) ⊎ ((sort_rank a ≡ sort_rank b) × (own_number a < own_number b))
-
--- each device comes before the next, so none stands twice
-abbrev pub AreRising : List Device → Type 0
-AreRising [] = Unit {0}
-AreRising (device ∷ []) = Unit {0}
-AreRising (device ∷ next ∷ devices) = IsBefore device next × AreRising (next ∷ devices)
-
--- the width suits the code, and is at most 255
-abbrev pub IsItem : Item → Type 0
-IsItem item = HasWidth item.code item.width × (item.width ≤ 255)
-
--- how many values the items take and how long their text gets is asked only of the PUT or GET that names the format
-abbrev pub IsFormat : List Item → Type 0
-IsFormat items = AllByRecursion IsItem items
 
 abbrev pub IsCellKind : CellKind → Type 0
 IsCellKind (Plain kind) = IsKind kind
@@ -111,22 +71,10 @@ CallSmaller number [] = Unit {0}
 CallSmaller number (procedure ∷ rest) =
     (greatest_of_all calls procedure.routine.body ≤ number) × CallSmaller (number + 1) rest
 
--- a letter, a digit or `_`
-abbrev pub is_name_byte : ℕ → Bool
-is_name_byte b = is_ascii_alphabetic b || is_ascii_digit b || b == 95
-
--- an id begins with a letter, goes on with letters, digits and `_`, and has at most 63 bytes; that it is also none of the
--- language's words isn't asked here
-abbrev pub is_id : List ℕ → Bool
-is_id name = is_ascii_alphabetic (slice_index name 0) && list_all is_name_byte name && nat_le (length name) 63
-
 pub record IsTask (p : PlainProg) (task : PlainTask) : Type 0 where
   pub named : IsTrue (is_id task.name)
   pub urgent : (0 < task.priority) × (task.priority ≤ 255)
   pub routine : IsRoutine p 0 None task.routine
-
-abbrev pub IsPreset : ℕ → Type 0
-IsPreset preset = preset < 2 ^ 31
 
 -- at most 200 tasks, 200 procedures, 1,000 semaphores, 65,536 slots and 396 devices, and weights of at most 4,096
 pub record HasSizes (p : PlainProg) : Type 0 where

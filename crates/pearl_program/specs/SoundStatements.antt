@@ -8,12 +8,11 @@ use Rattle.pearl_value.specs.declared.kind.CellKind.TheVariants.{Plain}
 use Rattle.pearl_value.specs.Kinds.{IsKind}
 use Rattle.pearl_value.specs.WellFormed.{IsValueOf}
 use Rattle.pearl_value.specs.Conversions.{SuitsKind}
-use Rattle.pearl_format.specs.declared.item.Item.{Item}
-use Rattle.pearl_format.specs.Items.{Suits, text_width}
-use Rattle.pearl_program.specs.declared.table.Direction.{Direction}
-use Rattle.pearl_program.specs.declared.table.Direction.TheVariants.{In, Out}
-use Rattle.pearl_program.specs.declared.table.Device.{Device}
-use Rattle.pearl_program.specs.declared.table.Device.TheVariants.{Interrupt, Terminal, Input, Output}
+use Rattle.pearl_format.specs.Items.{FitsSome}
+use Rattle.pearl_value.specs.declared.device.Direction.{Direction}
+use Rattle.pearl_value.specs.declared.device.Direction.TheVariants.{In, Out}
+use Rattle.pearl_value.specs.declared.device.Device.{Device}
+use Rattle.pearl_value.specs.declared.device.Device.TheVariants.{Interrupt, Terminal, Input, Output}
 use Rattle.pearl_program.specs.PlainExpressions.{PlainExpr, PlainVariable, PlainExprs, PlainArguments}
 use Rattle.pearl_program.specs.PlainStatements.{PlainValues, PlainPeriodEnd, OfUntil, OfDuring, PlainPeriod, PlainStart, OfAt, OfAfter, OfWhen, OfWhenAfter, PlainOnce, OnceAt, OnceAfter, OnceWhen, PlainCounter, PlainStmt, OfRenew, OfAssign, OfCallOf, OfIf, OfCase, OfRepeat, OfExit, OfReturn, OfActivate, OfContinue, OfResume, OfSuspend, OfTerminate, OfPrevent, OfRequest, OfRelease, OfEnable, OfDisable, OfTrigger, OfPut, OfGet, OfSend, OfTake, PlainStmts, NoStmts, MoreStmts, PlainBranches, NoBranches, MoreBranches}
 use Rattle.pearl_program.specs.Typing.{Signature, Around, AreCells, AreOwn, HasKind, IsVariable, Suit, HasValueFor, IsFixed, HaveKinds}
@@ -103,16 +102,6 @@ pub record AreSemaphores (around : Around) (semaphores : List ℕ) : Type 0 wher
   pub few : length semaphores ≤ 16
   pub distinct : IsDistinct nat_eq semaphores
   pub there : AllByRecursion (λ semaphore. semaphore < around.semaphores) semaphores
-
--- the items suit the values' kinds, at most 64, and their widths are at most 1,024 together
-pub record FitsFormat (items : List Item) (kinds : List Kind) : Type 0 where
-  pub suits : Suits items kinds
-  pub few : length kinds ≤ 64
-  pub short : text_width items kinds ≤ 1024
-
-abbrev pub FitsSome : Option (List Item) → List Kind → Type 0
-FitsSome None kinds = ⊥
-FitsSome (Some items) kinds = FitsFormat items kinds
 
 abbrev pub Writes : Direction → Type 0
 Writes In = ⊥

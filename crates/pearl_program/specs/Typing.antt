@@ -10,7 +10,7 @@ use Rattle.pearl_value.specs.WellFormed.{IsValueOf}
 use Rattle.pearl_value.specs.Conversions.{SuitsKind}
 use Rattle.pearl_value.specs.Rows.{row1, row2}
 use Rattle.pearl_format.specs.declared.item.Item.{Item}
-use Rattle.pearl_program.specs.declared.table.Device.{Device}
+use Rattle.pearl_value.specs.declared.device.Device.{Device}
 use Rattle.pearl_program.specs.declared.expression.Target.TheVariants.{Leaf, Own, Param}
 use Rattle.pearl_program.specs.declared.expression.Bound.{Bound}
 use Rattle.pearl_program.specs.PlainExpressions.{PlainExpr, OfLiteral, OfRead, OfMonadic, OfDyadic, OfCall, OfNow, OfTry, PlainVariable, OfVariable, PlainExprs, NoExprs, MoreExprs, PlainArgument, OfValue, OfIdent, PlainArguments, NoArguments, MoreArguments}

@@ -1,9 +1,10 @@
 // Programs.
 
 use crate::statement::Stmt;
-use crate::table::{Device, Leaf};
+use crate::table::Leaf;
 use arrayvec::ArrayVec;
 use pearl_format::item::Item;
+use pearl_value::device::Device;
 use pearl_value::kind::{CellKind, Kind};
 use pearl_value::listing::Listing;
 

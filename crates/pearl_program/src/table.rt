@@ -21,22 +21,3 @@ pub struct Leaf {
     pub name: Listing<u8>,
     pub values: FirstValues,
 }
-
-/// Which way a terminal's texts go.
-#[derive(Clone, Copy, PartialEq, Eq, Debug)]
-pub enum Direction {
-    In,
-    Out,
-    InOut,
-}
-
-/// A device, with its number from 1 to 99.
-#[derive(Clone, Copy, PartialEq, Eq, Debug)]
-pub enum Device {
-    Interrupt { number: u8 },
-    Terminal { number: u8, direction: Direction },
-    /// Values of this kind come in.
-    Input { number: u8, kind: Kind },
-    /// Values of this kind go out.
-    Output { number: u8, kind: Kind },
-}

@@ -17,7 +17,7 @@ use Rattle.pearl_tree.specs.declared.typing.Bound.{Bound}
 use Rattle.pearl_tree.specs.declared.typing.Basic.{Basic}
 use Rattle.pearl_tree.specs.declared.typing.Basic.TheVariants.{Sized}
 use Rattle.pearl_tree.specs.declared.typing.Sort.TheVariants.{Fixed}
-use Rattle.pearl_tree.specs.declared.declaration.Direction.TheVariants as direction
+use Rattle.pearl_value.specs.declared.device.Direction.TheVariants as direction
 use Rattle.pearl_tree.specs.declared.declaration.Class.TheVariants.{Alphic}
 use Rattle.pearl_tree.specs.declared.expression.Side.TheVariants.{Upper}
 use Rattle.pearl_tree.specs.declared.tree.TaskHead.TheVariants.{PrioFirst}
@@ -32,8 +32,8 @@ use Rattle.pearl_system.specs.declared.device.SpecifiedDevice.{SpecifiedDevice}
 use Rattle.pearl_system.specs.declared.device.Role.TheVariants.{Terminal}
 use Rattle.pearl_program.specs.declared.expression.Target.TheVariants.{Leaf, Own}
 use Rattle.pearl_program.specs.declared.expression.Bound.{Bound as Bounds}
-use Rattle.pearl_program.specs.declared.table.Device.TheVariants as device
-use Rattle.pearl_program.specs.declared.table.Direction.TheVariants.{InOut}
+use Rattle.pearl_value.specs.declared.device.Device.TheVariants as device
+use Rattle.pearl_value.specs.declared.device.Direction.TheVariants.{InOut}
 use Rattle.pearl_program.specs.PlainExpressions as plain
 use Rattle.pearl_program.specs.PlainExpressions.{PlainExpr, PlainVariable}
 use Rattle.pearl_program.specs.PlainStatements as plain_stmt

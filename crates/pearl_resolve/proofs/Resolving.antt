@@ -13,10 +13,10 @@ use Rattle.pearl_names.specs.Tables.{Table}
 use Rattle.pearl_program.specs.declared.statement.Branch.{Branch}
 use Rattle.pearl_program.specs.declared.statement.Stmt.{Stmt}
 use Rattle.pearl_program.specs.PlainExpressions.{PlainExpr}
-use Rattle.pearl_program.specs.PlainStatements.{PlainCounter, PlainStmt, OfIf, OfCase, OfRepeat, PlainStmts, NoStmts, MoreStmts, PlainBranches, NoBranches, MoreBranches, plain_stmt, plain_stmts}
+use Rattle.pearl_program.specs.PlainStatements.{PlainCounter, PlainStmt, OfIf, OfCase, OfRepeat, PlainStmts, NoStmts, MoreStmts, PlainBranches, NoBranches, MoreBranches, plain_stmt, plain_stmts, plain_branches}
 use Rattle.pearl_resolve.specs.Cells.{counter_cells, scope_cells, cells_in, cells_in_all, cells_in_branches, cells_in_otherwise}
 use Rattle.pearl_resolve.specs.Expressions.{Numbered, resolve_expr}
-use Rattle.pearl_resolve.specs.Holding.{Resolves, plain_branches, joined_branches}
+use Rattle.pearl_resolve.specs.Holding.{Resolves, joined_branches}
 use Rattle.pearl_resolve.specs.Laying.{cells_of_sense}
 use Rattle.pearl_resolve.specs.Numbers.{At, counts, entered, loop_cells, senses_at, after, after_all, after_branches, after_otherwise}
 use Rattle.pearl_resolve.specs.Statements.{alone, counter_in, declared_renewals, joined, resolve_stmt, resolve_all, resolve_branches, resolve_otherwise, value_in}

@@ -10,8 +10,8 @@ use Rattle.pearl_names.specs.declared.sense.Form.{Form as HeldForm}
 use Rattle.pearl_names.specs.declared.types.Counts.{Counts}
 use Rattle.pearl_names.specs.declared.types.StructForm.{StructForm}
 use Rattle.pearl_names.specs.Holding.{HoldsForm}
-use Rattle.pearl_names.specs.Tables.{Form}
-use Rattle.pearl_resolve.specs.Laying.{leaves_in, slots}
+use Rattle.pearl_names.specs.Tables.{Form, leaves_in}
+use Rattle.pearl_resolve.specs.Laying.{slots}
 
 same_sums : {X : Type 0} (f g : X → ℕ) → ((x : X) → f x ≡ g x) → (xs : List X) → sum_by f xs ≡ sum_by g xs
 same_sums f g same [] = refl

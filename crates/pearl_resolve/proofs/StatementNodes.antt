@@ -8,8 +8,7 @@ use Rattle.pearl_program.specs.declared.statement.Repeat.{Repeat}
 use Rattle.pearl_program.specs.declared.statement.Case as case_
 use Rattle.pearl_program.specs.declared.statement.Case.{out-Case, outs-Case', Row_of-Branch, end_of-Branch, more_of-Branch, items-the_row-Branch, items_shown-the_row-Branch-1}
 use Rattle.pearl_program.specs.PlainExpressions.{plain_expr}
-use Rattle.pearl_program.specs.PlainStatements.{OfIf, OfCase, OfRepeat, MoreStmts, MoreBranches, plain_counter, plain_stmt, plain_stmts, plain_stmt_row, plain_branch_row}
-use Rattle.pearl_resolve.specs.Holding.{plain_branches}
+use Rattle.pearl_program.specs.PlainStatements.{OfIf, OfCase, OfRepeat, MoreStmts, MoreBranches, plain_counter, plain_stmt, plain_stmts, plain_stmt_row, plain_branch_row, plain_branches}
 
 stmts_plain : (n : _) (row : Row_of-Stmt n) → plain_stmt_row row ≡ plain_stmts (items-the_row-Stmt n row)
 stmts_plain _ end_of-Stmt = refl

@@ -12,7 +12,7 @@ use Rattle.pearl_names.specs.Tables.{Parameter}
 use Rattle.pearl_program.specs.declared.statement.Branch.{Branch}
 use Rattle.pearl_program.specs.declared.statement.Stmt.{Stmt}
 use Rattle.pearl_program.specs.PlainExpressions.{plain_exprs}
-use Rattle.pearl_program.specs.PlainStatements.{PlainValues, OfRenew, PlainStmts, NoStmts, MoreStmts, PlainBranches, NoBranches, MoreBranches, plain_stmt, plain_stmts}
+use Rattle.pearl_program.specs.PlainStatements.{PlainValues, OfRenew, PlainStmts, NoStmts, MoreStmts, PlainBranches, NoBranches, MoreBranches, plain_stmt, plain_stmts, plain_branches}
 use Rattle.pearl_program.specs.PlainPrograms.{PlainTask, PlainProcedure, plain_task, plain_procedure}
 use Rattle.pearl_resolve.specs.declared.numbered.ScopeNumbers.{ScopeNumbers}
 use Rattle.pearl_resolve.specs.declared.numbered.NumberedTable.{NumberedTable}
@@ -106,10 +106,6 @@ abbrev pub AddsOtherwise : NumberedTable → ℕ → HeldAt → ShownOtherwise �
 AddsOtherwise held scope at otherwise now cells more made new = (of : Numbered) → HoldsNumbered held of →
     Resolves (at_in now) cells more (plain_stmts new) (after_otherwise of.table (at_in at) otherwise)
     (cells_in_otherwise of scope (at_in at) otherwise) (joined (plain_stmts made) (resolve_otherwise of scope (at_in at) otherwise))
-
-abbrev pub plain_branches : List Branch → PlainBranches
-plain_branches [] = NoBranches
-plain_branches (branch ∷ rest) = MoreBranches (plain_stmts branch.statements.items) (plain_branches rest)
 
 abbrev pub joined_branches : PlainBranches → PlainBranches → PlainBranches
 joined_branches NoBranches more = more

@@ -36,7 +36,7 @@ pub(crate) fn product(a: u64, b: u64) -> Result<u64, AllocError>
 
 fn slots_of_form(forms: &[StructForm], form: &Option<Form>) -> Result<u32, AllocError>
     ensures { IfOk result (λ count. (of : Option tables.Form) → HoldsForm forms.now form.now of →
-        count ≡ spec.slots (spec.leaves_in of)) }
+        count ≡ spec.slots (tables.leaves_in of)) }
 {
     match form {
         Some(form) => {
@@ -49,7 +49,7 @@ fn slots_of_form(forms: &[StructForm], form: &Option<Form>) -> Result<u32, Alloc
 
 fn leaves_of_form(forms: &[StructForm], form: &Option<Form>) -> Result<u32, AllocError>
     ensures { IfOk result (λ count. (of : Option tables.Form) → HoldsForm forms.now form.now of →
-        count ≡ length (spec.leaves_in of)) }
+        count ≡ length (tables.leaves_in of)) }
 {
     match form {
         Some(form) => {

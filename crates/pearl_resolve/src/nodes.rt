@@ -2,8 +2,7 @@
 
 ghost use Rattle.std.specs.Prelude.{◌≡◌, map, option_map, IfOk};
 ghost use Rattle.pearl_program.specs.PlainExpressions.{plain_expr};
-ghost use Rattle.pearl_program.specs.PlainStatements.{OfCase, OfIf, OfRepeat, plain_counter, plain_stmt, plain_stmts};
-ghost use Rattle.pearl_resolve.specs.Holding.{plain_branches};
+ghost use Rattle.pearl_program.specs.PlainStatements.{OfCase, OfIf, OfRepeat, plain_counter, plain_stmt, plain_stmts, plain_branches};
 
 use pearl_program::expression::Expr;
 use pearl_program::statement::{Branch, Case, Counter, If, Repeat, Stmt};

@@ -4,7 +4,8 @@ use crate::expression_text::{put_bytes, put_cells, put_kind, put_number};
 use crate::statement_text::{put_block, put_values};
 use pearl_format::item::Item;
 use pearl_program::program::{Procedure, Program, Routine, Task};
-use pearl_program::table::{Device, Leaf};
+use pearl_program::table::Leaf;
+use pearl_value::device::Device;
 use pearl_value::listing::Listing;
 use std::alloc::{AllocError, Global};
 

@@ -10,7 +10,7 @@ use Rattle.pearl_value.specs.declared.cell.Cell.TheVariants.{Bits, Clock}
 use Rattle.pearl_value.specs.declared.kind.Kind.{Kind}
 use Rattle.pearl_value.specs.declared.kind.Kind.TheVariants as kind
 use Rattle.pearl_value.specs.declared.trap.Trap.{Trap}
-use Rattle.pearl_value.specs.WellFormed.{IsValue, IsValueOf}
+use Rattle.pearl_value.specs.WellFormed.{IsValue, IsValueOf, IsTyped}
 use Rattle.pearl_value.specs.Laws.{Gives}
 use Rattle.pearl_value.specs.Kinds.{IsKind}
 use Rattle.pearl_value.proofs.Results.{keeps_kinds}
@@ -27,18 +27,19 @@ use Rattle.pearl_rules.specs.declared.event.Event.{Event}
 use Rattle.pearl_rules.specs.declared.event.Event.TheVariants as event
 use Rattle.pearl_rules.specs.declared.action.Answer.{Answer}
 use Rattle.pearl_rules.specs.declared.action.Answer.TheVariants.{Nothing, One, Many}
-use Rattle.pearl_rules.specs.declared.setup.Device.{Device}
-use Rattle.pearl_rules.specs.declared.setup.Device.TheVariants as device
+use Rattle.pearl_value.specs.declared.device.Device.{Device}
+use Rattle.pearl_value.specs.declared.device.Device.TheVariants as device
 use Rattle.pearl_rules.specs.declared.setup.Setup.{Setup}
 use Rattle.pearl_format.specs.Items.{Suits as SuitsKinds}
-use Rattle.pearl_rules.specs.Tables.{items_or_none, IsDevice, IsInterrupt, IsReadable, input_kind}
+use Rattle.pearl_value.specs.Devices.{IsDevice}
+use Rattle.pearl_rules.specs.Tables.{items_or_none, IsInterrupt, IsReadable, input_kind}
 use Rattle.pearl_rules.specs.Core.{Core, Channel, Switch, Bytes, Values, Outward, Report, Happened, value_at, note, row_of, with_row, declared_of, first_channel, opening}
 use Rattle.pearl_rules.specs.Counts.{count_at, all_below_most}
 use Rattle.pearl_rules.specs.Plans.{time_at, day, millisecond}
 use Rattle.pearl_rules.specs.Devices.{channel_of, with_channel, items_of, bytes_at, bytes_in, terminal_room, with_bytes, without_bytes, values_at, values_in, input_room, joined, with_value_by, with_value, without_value_by, without_value, arrived}
 use Rattle.pearl_rules.specs.Scan.{Scanned, Short, Bad, Got, scan}
 use Rattle.pearl_rules.specs.Effect.{Reply, Hears, Ends, reply_if_other, releasing, trying, getting, taking, effect}
-use Rattle.pearl_rules.specs.Slots.{IsOneOf, AreOf, Suits, Fits, IsLike, IsTyped, IsChannelOf, HasKinds}
+use Rattle.pearl_rules.specs.Slots.{IsOneOf, AreOf, Suits, Fits, IsLike, IsChannelOf, HasKinds}
 use Rattle.pearl_rules.specs.Entries.{IsFitting, IsPrinted, ComesInAt}
 use Rattle.pearl_rules.proofs.ScanLaws.{reads_values}
 use Rattle.pearl_rules.proofs.Serving.{Starts, Closed, ClosedAtEnds, OnlyValues, Brings, KeepsValues, millisecond-kept, effect-kept, effect-free, interrupted-kept, bytes-kept, value-kept}

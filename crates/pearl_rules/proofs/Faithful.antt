@@ -5,7 +5,7 @@ use Rattle.pearl_value.specs.WellFormed.{IsValue}
 use Rattle.pearl_rules.specs.declared.action.Answer.{Answer}
 use Rattle.pearl_rules.specs.declared.entry.Entry.{Entry}
 use Rattle.pearl_rules.specs.declared.setup.Setup.{Setup}
-use Rattle.pearl_rules.specs.Tables.{IsDevice}
+use Rattle.pearl_value.specs.Devices.{IsDevice}
 use Rattle.pearl_rules.specs.Slots.{HasKinds}
 use Rattle.pearl_rules.specs.Entries.{AreFitting}
 use Rattle.pearl_rules.specs.Runs.{Supplier, Engine, kept_at, machine_start, machine_run, source_start, source_next, source_run, marked}

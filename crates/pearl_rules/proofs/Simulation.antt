@@ -11,7 +11,7 @@ use Rattle.pearl_rules.specs.declared.entry.Entry.{Entry}
 use Rattle.pearl_rules.specs.declared.entry.Entry.TheVariants.{Run, Tick, Pass, Turn, State}
 use Rattle.pearl_rules.specs.declared.setup.Setup.{Setup}
 use Rattle.pearl_rules.specs.Core.{Core, first_row}
-use Rattle.pearl_rules.specs.Tables.{IsDevice}
+use Rattle.pearl_value.specs.Devices.{IsDevice}
 use Rattle.pearl_rules.specs.Slots.{HasKinds}
 use Rattle.pearl_rules.specs.Entries.{IsFitting, AreFitting}
 use Rattle.pearl_rules.specs.Pick.{pick, turned, showing, last_if, can_turn}

@@ -12,8 +12,8 @@ use Rattle.pearl_rules.specs.declared.event.Event.{Event}
 use Rattle.pearl_rules.specs.declared.event.Event.TheVariants.{Start}
 use Rattle.pearl_rules.specs.declared.event.Shown.{Shown}
 use Rattle.pearl_rules.specs.declared.setup.TaskEntry.{TaskEntry}
-use Rattle.pearl_rules.specs.declared.setup.Device.{Device}
-use Rattle.pearl_rules.specs.declared.setup.Device.TheVariants as device
+use Rattle.pearl_value.specs.declared.device.Device.{Device}
+use Rattle.pearl_value.specs.declared.device.Device.TheVariants as device
 use Rattle.pearl_rules.specs.declared.setup.Setup.{Setup}
 
 -- what a run tells: that something happened, or how a task stands

@@ -1,6 +1,6 @@
 -- Which actions fit the tables, which answers suit an action, and what holds of each core: every slot and every input has values of its
 -- kind; and which counts, priorities and plans there are.
-use Rattle.std.specs.Prelude.{◌≡◌, ◌≢◌, ℕ, ◌^◌, ◌<◌, ◌≤◌, ◌⊎◌, ℤ, pos, ◌≤ℤ◌, List, Option, Some, None, IsSome, IfSome, All, nat_eq, length, slice_get}
+use Rattle.std.specs.Prelude.{◌≡◌, ◌≢◌, ℕ, ◌^◌, ◌<◌, ◌≤◌, ℤ, pos, ◌≤ℤ◌, List, Option, Some, None, IsSome, IfSome, All, nat_eq, length, slice_get}
 use Rattle.std.specs.List.{AllByRecursion, AllZip, IsDistinct}
 use Rattle.arrayvec.specs.ArrayVec.{ArrayVec}
 use Rattle.pearl_value.specs.declared.kind.Kind.{Kind}
@@ -8,7 +8,7 @@ use Rattle.pearl_value.specs.declared.kind.Kind.TheVariants as kind
 use Rattle.pearl_value.specs.declared.cell.Cell.{Cell}
 use Rattle.pearl_value.specs.Cells.{kind_of}
 use Rattle.pearl_value.specs.Kinds.{IsKind}
-use Rattle.pearl_value.specs.WellFormed.{IsValueOf, FitsSpan}
+use Rattle.pearl_value.specs.WellFormed.{IsValueOf, FitsSpan, IsTyped}
 use Rattle.pearl_format.specs.Bytes.{IsTextByte}
 use Rattle.pearl_format.specs.Items.{Suits as SuitsKinds}
 use Rattle.pearl_rules.specs.declared.action.Action.{Action}
@@ -25,12 +25,13 @@ use Rattle.pearl_rules.specs.declared.row.End.{End}
 use Rattle.pearl_rules.specs.declared.row.End.TheVariants as end
 use Rattle.pearl_rules.specs.declared.row.Plan.{Plan}
 use Rattle.pearl_rules.specs.declared.row.TaskRow.{TaskRow}
-use Rattle.pearl_rules.specs.declared.setup.Device.{Device}
-use Rattle.pearl_rules.specs.declared.setup.Device.TheVariants as device
+use Rattle.pearl_value.specs.declared.device.Device.{Device}
+use Rattle.pearl_value.specs.declared.device.Device.TheVariants as device
 use Rattle.pearl_rules.specs.declared.setup.Setup.{Setup}
 use Rattle.pearl_rules.specs.Core.{Core, Channel, Switch, Bytes, Values, Outward, cell_or_zero, value_at}
 use Rattle.pearl_rules.specs.Devices.{terminal_room, input_room}
-use Rattle.pearl_rules.specs.Tables.{IsPreset, TakesTexts, IsInterrupt, IsReadable, input_kind, output_kind, format_of}
+use Rattle.pearl_value.specs.Counts.{IsPreset}
+use Rattle.pearl_rules.specs.Tables.{TakesTexts, IsInterrupt, IsReadable, input_kind, output_kind, format_of}
 
 -- the kind of a slot's values: that of its first value
 abbrev pub slot_kind : Setup → ℕ → Kind
@@ -143,10 +144,6 @@ Fits setup (action.Trap trap) = Unit {0}
 -- a value where this one stood first
 abbrev pub IsLike : Cell → Cell → Type 0
 IsLike first x = IsValueOf (kind_of first) x
-
--- a byte that waits at a terminal: a line end, or one that texts are written of
-abbrev pub IsTyped : ℕ → Type 0
-IsTyped byte = (byte ≡ 10) ⊎ ((32 ≤ byte) × (byte ≤ 126))
 
 -- A device's channel is of its sort. What waits at a terminal are at most 4,096 bytes, at an input at most 256 values of its kind.
 abbrev pub IsChannelOf : Device → Channel → Type 0

@@ -9,7 +9,8 @@ use crate::literal::push_literal;
 use crate::piece::{push_bytes, push_number, push_spelled};
 use arrayvec::ArrayVec;
 use pearl_rules::event::{Event, Shown};
-use pearl_rules::setup::{Device, Setup};
+use pearl_rules::setup::Setup;
+use pearl_value::device::Device;
 use pearl_value::trap::Trap;
 
 /// Makes `into` the line of an event, whatever it held before.

@@ -13,10 +13,10 @@ use Rattle.pearl_value.specs.Cells.{kind_of}
 use Rattle.pearl_value.specs.WellFormed.{IsValue}
 use Rattle.pearl_value.specs.Rows.{row1, row2}
 use Rattle.pearl_value.specs.Applied.{applied1, applied2}
-use Rattle.pearl_value.specs.Conversions.{SuitsKind, converted}
+use Rattle.pearl_value.specs.Conversions.{SuitsKind, converted, suits_kind}
 use Rattle.pearl_stack.specs.Frames.{Frame, top_operands}
 use Rattle.pearl_instructions.specs.Steps.{Step, given, needed, popped, value_kind, makes}
-use Rattle.pearl_instructions.specs.Operators.{suits_kind, monadic, dyadic, convert}
+use Rattle.pearl_instructions.specs.Operators.{monadic, dyadic, convert}
 use Rattle.pearl_silent.specs.Steps.{on_top, Applies, IsFormed, made_on}
 use Rattle.pearl_silent.proofs.Applied.{given_some, needed_true, and_then_some, one_there, two_there}
 

@@ -22,11 +22,11 @@ use Rattle.pearl_format.specs.declared.item.Item.{Item}
 use Rattle.pearl_format.specs.Items.{data_count}
 use Rattle.pearl_format.specs.Texts.{text_of}
 use Rattle.pearl_value.specs.Applied.{applied1, applied2}
-use Rattle.pearl_value.specs.Conversions.{converted, fits_fixed}
+use Rattle.pearl_value.specs.Conversions.{converted, fits_fixed, suits_kind}
 use Rattle.pearl_value.specs.Rows.{row1, row2}
 use Rattle.std.specs.Ordering.{int_eq}
 use Rattle.pearl_value.specs.declared.trap.Trap.TheVariants.{Range, Format}
-use Rattle.pearl_instructions.specs.Operators.{number_of, numbers_of, suits_kind}
+use Rattle.pearl_instructions.specs.Operators.{number_of, numbers_of}
 use Rattle.pearl_instructions.specs.Objects.{items_at, result_of}
 use Rattle.pearl_instructions.specs.Offers.{as_start, start_or_free, start_kinds, activation_count, lasting, started, repeated, with_priority, items_suit, value_kinds, put_text}
 use Rattle.pearl_instructions.specs.Rows.{act, own_task, after}

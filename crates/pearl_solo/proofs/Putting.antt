@@ -14,8 +14,7 @@ use Rattle.pearl_value.specs.WellFormed.{IsValue, IsValueOf}
 use Rattle.pearl_format.specs.declared.item.Item.{Item}
 use Rattle.pearl_format.specs.declared.item.ItemCode.{ItemCode}
 use Rattle.pearl_format.specs.declared.item.ItemCode.TheVariants.{A, B1, B2, B3, B4, F, T, D, X, Skip}
-use Rattle.pearl_format.specs.Items.{HasWidth, TakesKind, SuitsItem, Suits, data_here, data_count, text_width}
-use Rattle.pearl_rules.specs.Tables.{IsFormat}
+use Rattle.pearl_format.specs.Items.{HasWidth, TakesKind, SuitsItem, Suits, data_here, data_count, text_width, IsFormat}
 use Rattle.pearl_rules.specs.declared.action.Action.TheVariants as action
 use Rattle.pearl_rules.specs.declared.action.Answer.{Answer}
 use Rattle.pearl_format.specs.Texts.{text_of}

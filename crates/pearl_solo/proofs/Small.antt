@@ -5,7 +5,7 @@ use Rattle.std.specs.List.{AllByRecursion, list_all}
 use Rattle.std.proofs.lemmas.Option.{same_Some, slice_get_within}
 use Rattle.pearl_format.specs.Items.{data_count}
 use Rattle.pearl_format.specs.declared.item.Item.{Item}
-use Rattle.pearl_rules.specs.declared.setup.Device.{Device}
+use Rattle.pearl_value.specs.declared.device.Device.{Device}
 use Rattle.pearl_stack.specs.declared.stack.Frame as size
 use Rattle.pearl_stack.specs.Frames.{Frame, Stack, top_operands}
 use Rattle.pearl_instructions.specs.declared.instr.Instr.{Instr}

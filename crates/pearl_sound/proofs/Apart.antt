@@ -8,7 +8,8 @@ use Rattle.pearl_names.specs.declared.scope.SortedName.{SortedName}
 use Rattle.pearl_names.specs.Tables.{Sense, Variable, Control, OwnParameter, NewType, Semaphore, Interrupt, AlphicDation, BasicDation, Task, Procedure}
 use Rattle.pearl_system.specs.declared.device.SpecifiedDevice.{SpecifiedDevice}
 use Rattle.pearl_resolve.specs.Numbers.{Before, behind, module_number, module_numbers}
-use Rattle.pearl_sound.specs.Laws.{AreApart, procedure_count, procedures_before}
+use Rattle.pearl_check.specs.Sizes.{procedure_count}
+use Rattle.pearl_sound.specs.Laws.{AreApart, procedures_before}
 use Rattle.pearl_sound.proofs.SoundParts.{some_one}
 
 record IsBehind (before later : Before) : Type 0 where

@@ -8,7 +8,7 @@ use Rattle.pearl_tree.specs.declared.format.Fmt.TheVariants.{Free}
 use Rattle.pearl_tree.specs.declared.format.FreeCode.TheVariants.{B}
 use Rattle.pearl_tree.specs.declared.typing.Basic.TheVariants.{Sized}
 use Rattle.pearl_tree.specs.declared.typing.Sort.TheVariants as sort
-use Rattle.pearl_tree.specs.declared.declaration.Direction.TheVariants.{InOut}
+use Rattle.pearl_value.specs.declared.device.Direction.TheVariants.{InOut}
 use Rattle.pearl_tree.specs.declared.declaration.Class.TheVariants.{Alphic}
 use Rattle.pearl_tree.specs.declared.tree.TaskHead.TheVariants.{PrioFirst}
 use Rattle.pearl_tree.specs.ShownExpressions.{NoSelectors}

@@ -7,7 +7,7 @@ use Rattle.pearl_value.specs.declared.kind.Kind.TheVariants.{Fixed, Bits, Chars,
 use Rattle.pearl_format.specs.declared.item.ItemCode.{ItemCode}
 use Rattle.pearl_format.specs.declared.item.ItemCode.TheVariants as code
 use Rattle.pearl_format.specs.Fields.{width_or, digit_count}
-use Rattle.pearl_format.specs.Items.{data_here, width_over, text_width, TakesKind, SuitsItem, Suits}
+use Rattle.pearl_format.specs.Items.{data_here, width_over, text_width, TakesKind, SuitsItem, Suits, FitsFormat}
 use Rattle.pearl_tree.specs.declared.name.Number.{Number}
 use Rattle.pearl_tree.specs.declared.format.Fmt.{Fmt}
 use Rattle.pearl_tree.specs.declared.format.Fmt.TheVariants.{Free, Wide}
@@ -17,7 +17,6 @@ use Rattle.pearl_tree.specs.declared.format.WideCode.TheVariants.{F, T, D}
 use Rattle.pearl_tree.specs.declared.rule.TheConstants as rule
 use Rattle.pearl_tree.specs.Faults.{fault_if}
 use Rattle.pearl_check.specs.Formats.{place_of_item, is_data, is_free_for, is_for, has_width, counted_width, is_for_other, item_faults, sum_of_widths, data_count, is_ill_sized, format_faults}
-use Rattle.pearl_program.specs.SoundStatements.{FitsFormat}
 use Rattle.pearl_resolve.specs.Resolve.{item_of, width_of}
 use Rattle.pearl_sound.proofs.ModuleEntries.{no_fault, neither}
 use Rattle.pearl_sound.proofs.SimpleStatements.{left_none, right_none, not_broken, really}

@@ -6,7 +6,7 @@ use Rattle.std.proofs.Common.{refl, ap, sym, subst, arith}
 use Rattle.std.proofs.lemmas.Int.{ints}
 use Rattle.std.proofs.lemmas.Option.{none-some}
 use Rattle.pearl_value.specs.declared.kind.CellKind.TheVariants.{RefTo}
-use Rattle.pearl_tree.specs.declared.declaration.Direction.TheVariants.{InOut}
+use Rattle.pearl_value.specs.declared.device.Direction.TheVariants.{InOut}
 use Rattle.pearl_tree.specs.Names.{name_text}
 use Rattle.pearl_names.specs.declared.meaning.Found.{Found}
 use Rattle.pearl_names.specs.declared.scope.View.TheVariants.{Within}

@@ -18,9 +18,9 @@ use Rattle.pearl_names.specs.FirstNames.{repeated}
 use Rattle.pearl_names.specs.Scopes.{Meaning, Entry, entries_as, declared_entries, spec_entries, decl_entries, decls_entries, types_in}
 use Rattle.pearl_names.specs.Scopes as scopes
 use Rattle.pearl_names.specs.Sorts.{sorted_name, sorted_names, names_of_scopes}
-use Rattle.pearl_names.specs.Tables.{Form, Sense, Variable, Semaphore, Task, sense_of, senses_of, table_of}
+use Rattle.pearl_names.specs.Tables.{Form, Sense, Variable, Semaphore, Task, sense_of, senses_of, table_of, leaves_in}
 use Rattle.pearl_system.specs.declared.device.SpecifiedDevice.{SpecifiedDevice}
-use Rattle.pearl_resolve.specs.Laying.{leaves_in, leaves_of_sense, filled_leaves}
+use Rattle.pearl_resolve.specs.Laying.{leaves_of_sense, filled_leaves}
 use Rattle.pearl_resolve.specs.Numbers.{At, after_decl, first, nothing_before, module_number, senses_at}
 use Rattle.pearl_resolve.specs.Numbers as numbering
 use Rattle.pearl_resolve.specs.Expressions.{Numbered}

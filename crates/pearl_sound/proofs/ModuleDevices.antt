@@ -13,8 +13,8 @@ use Rattle.pearl_tree.specs.declared.name.Name.{Name}
 use Rattle.pearl_tree.specs.declared.typing.Basic.{Basic}
 use Rattle.pearl_tree.specs.declared.declaration.Class.TheVariants as class
 use Rattle.pearl_tree.specs.declared.declaration.Device.{Device}
-use Rattle.pearl_tree.specs.declared.declaration.Direction.{Direction}
-use Rattle.pearl_tree.specs.declared.declaration.Direction.TheVariants.{In, Out}
+use Rattle.pearl_value.specs.declared.device.Direction.{Direction}
+use Rattle.pearl_value.specs.declared.device.Direction.TheVariants.{In, Out}
 use Rattle.pearl_tree.specs.declared.fault.RuleFault.{RuleFault}
 use Rattle.pearl_tree.specs.declared.rule.TheConstants as rule
 use Rattle.pearl_tree.specs.Names.{name_text, names_of}
@@ -45,7 +45,7 @@ use Rattle.pearl_system.specs.Specified.{as_form, specified_by, specified_in, sp
 use Rattle.pearl_system.proofs.DeviceLaws.{devices_are_specified, specified_means}
 use Rattle.pearl_program.specs.SoundStatements.{IsInterruptDevice}
 use Rattle.pearl_resolve.specs.Numbers.{device_number}
-use Rattle.pearl_resolve.specs.Resolve.{direction_of, kind_or_short, device_of, resolve}
+use Rattle.pearl_resolve.specs.Resolve.{kind_or_short, device_of, resolve}
 use Rattle.pearl_sound.specs.Laws.{IsOfDevice, has_text}
 use Rattle.pearl_sound.specs.ModuleNames.{IsModuleName, HasNamesOnce, DevicesAreThere}
 use Rattle.pearl_sound.specs.SoundNames.{IsTerminal, IsChannel}
@@ -317,7 +317,7 @@ terminal_fits : (lengths : List DefaultLength) (device : SpecifiedDevice) (of : 
 terminal_fits lengths device role.Interrupt f direction place suits is =
     clash is_dation (form.Dation direction (class.Alphic place)) form.Interrupt (sym is ∙ suits) refl refl
 terminal_fits lengths device (role.Terminal other) f direction place suits is =
-    ap direction_of (ap (direction_or other) (sym suits.1 ∙ is))
+    ap (direction_or other) (sym suits.1 ∙ is)
 terminal_fits lengths device (role.Input basic) f direction place suits is =
     clash is_alphic_form (form.Dation direction (class.Alphic place)) (form.Dation In (class.Basic basic suits.0)) (sym is ∙ suits.1) refl refl
 terminal_fits lengths device (role.Output basic) f direction place suits is =

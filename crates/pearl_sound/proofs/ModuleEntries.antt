@@ -27,7 +27,7 @@ use Rattle.pearl_system.specs.declared.device.SpecifiedDevice.{SpecifiedDevice}
 use Rattle.pearl_resolve.specs.Laying.{leaves_of_sense}
 use Rattle.pearl_resolve.specs.Numbers.{Before, behind, module_number, module_numbers}
 use Rattle.pearl_resolve.specs.Expressions.{Numbered, meant, meant_at}
-use Rattle.pearl_sound.specs.Laws.{procedure_count}
+use Rattle.pearl_check.specs.Sizes.{procedure_count}
 
 -- a list without faults
 pub no_fault : (broken : Bool) (place of : ℕ) (rest : List RuleFault) → fault_if broken place of ++ rest ≡ [] → (broken ≡ false) × (rest ≡ [])

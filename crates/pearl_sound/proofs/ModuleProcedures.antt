@@ -32,7 +32,7 @@ use Rattle.pearl_resolve.specs.Numbers as numbering
 use Rattle.pearl_resolve.specs.Expressions.{Numbered}
 use Rattle.pearl_resolve.specs.Cells.{param_cell, sense_cells, cells_in_all, routine_cells}
 use Rattle.pearl_resolve.specs.Resolve.{kind_or_short, names_in_param, result_kind, decl_procedures, procedures_in, resolve}
-use Rattle.pearl_sound.specs.Laws.{procedure_count}
+use Rattle.pearl_check.specs.Sizes.{procedure_count}
 use Rattle.pearl_sound.specs.ModuleNames.{IsModuleName, AreProcedureNumbers}
 use Rattle.pearl_sound.specs.SoundNames.{param_cells, IsCallee}
 use Rattle.pearl_sound.proofs.ByNumber.{something, stands_at}

@@ -22,12 +22,12 @@ use Rattle.pearl_names.specs.Layout.{Leaf, elements, leaf_slots, slots_of}
 use Rattle.pearl_names.specs.Scopes.{Entry, Scope, scopes_of, entries_as, item_entries, body_decl_entries, body_entries}
 use Rattle.pearl_names.specs.Scopes as scopes
 use Rattle.pearl_names.specs.Sorts.{sorted_names}
-use Rattle.pearl_names.specs.Tables.{Variable, Control, OwnParameter, NewType, Semaphore, Interrupt, AlphicDation, BasicDation, Task, Procedure, Sense, senses_of, table_of}
+use Rattle.pearl_names.specs.Tables.{Variable, Control, OwnParameter, NewType, Semaphore, Interrupt, AlphicDation, BasicDation, Task, Procedure, Sense, senses_of, table_of, leaves_in}
 use Rattle.pearl_program.specs.declared.expression.Target.TheVariants as target
 use Rattle.pearl_program.specs.PlainStatements.{PlainStmts, NoStmts, MoreStmts}
 use Rattle.pearl_program.specs.Typing.{Around, AreOwn}
 use Rattle.pearl_program.specs.SoundStatements.{IsIf, AreStmts}
-use Rattle.pearl_resolve.specs.Laying.{leaves_in, slots, left_behind, filled_leaves, cells_of_sense}
+use Rattle.pearl_resolve.specs.Laying.{slots, left_behind, filled_leaves, cells_of_sense}
 use Rattle.pearl_resolve.specs.Numbers.{own_numbers, senses_at}
 use Rattle.pearl_resolve.specs.Expressions.{Numbered, Meant, meant, meant_at, number_at}
 use Rattle.pearl_resolve.specs.Statements.{joined, renewals, variable_renewals, slots_of_meant, names_renewals, items_renewals, declared_renewals}

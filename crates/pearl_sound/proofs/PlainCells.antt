@@ -31,11 +31,11 @@ use Rattle.pearl_names.specs.Lengths.{length_at, kind_of_basic}
 use Rattle.pearl_names.specs.Scopes.{Entry, Scope, scopes_of, as_stmts, entries_as, item_entries, body_decl_entries, body_entries, param_entries, control_entries, routine_scopes, scopes_in, scopes_in_all, scopes_in_branches, stmt_scopes, all_scopes, branch_scopes, otherwise_scopes}
 use Rattle.pearl_names.specs.Scopes as scopes
 use Rattle.pearl_names.specs.Shapes.{Shape, OfKind, OfFields, Fields, NoField, MoreField}
-use Rattle.pearl_names.specs.Tables.{Sense, Variable, Control, OwnParameter, NewType, Semaphore, Interrupt, AlphicDation, BasicDation, Task, Procedure, sense_at, senses_of, table_of}
+use Rattle.pearl_names.specs.Tables.{Sense, Variable, Control, OwnParameter, NewType, Semaphore, Interrupt, AlphicDation, BasicDation, Task, Procedure, sense_at, senses_of, table_of, leaves_in}
 use Rattle.pearl_names.proofs.Collecting.{length-stmt_scopes, length-all_scopes, length-branch_scopes}
 use Rattle.pearl_program.specs.Sound.{IsCellKind, IsPlain}
 use Rattle.pearl_program.specs.SoundStatements.{IsIf}
-use Rattle.pearl_resolve.specs.Laying.{leaves_in, cells_of_sense}
+use Rattle.pearl_resolve.specs.Laying.{cells_of_sense}
 use Rattle.pearl_resolve.specs.Numbers.{At, counts, loop_cells, entered, senses_at, in_body, after, after_all, after_branches}
 use Rattle.pearl_resolve.specs.Cells.{param_cell, sense_cells, scope_cells, counter_cells, get_cells, cells_in, cells_in_all, cells_in_branches, cells_in_otherwise, routine_cells}
 use Rattle.pearl_resolve.specs.Expressions.{Numbered, meant, meant_at, number_at, walk_of, walk_from, Walk, to_field, field_of, kind_of_shape, along, step, target_kind}

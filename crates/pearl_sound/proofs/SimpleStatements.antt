@@ -4,11 +4,11 @@ use Rattle.std.specs.List.{AllByRecursion, flat_map}
 use Rattle.std.proofs.Common.{refl, ap, ◌∙◌, sym, subst, arith, true≢false}
 use Rattle.pearl_value.specs.declared.kind.Kind.{Kind}
 use Rattle.pearl_value.specs.declared.kind.Kind.TheVariants.{Fixed, Clock, Span}
-use Rattle.pearl_value.specs.Conversions.{SuitsKind}
+use Rattle.pearl_value.specs.Conversions.{SuitsKind, suits_kind}
 use Rattle.pearl_tree.specs.declared.fault.RuleFault.{RuleFault}
 use Rattle.pearl_tree.specs.declared.name.Name.{Name}
-use Rattle.pearl_tree.specs.declared.declaration.Direction.{Direction}
-use Rattle.pearl_tree.specs.declared.declaration.Direction.TheVariants.{In, Out, InOut}
+use Rattle.pearl_value.specs.declared.device.Direction.{Direction}
+use Rattle.pearl_value.specs.declared.device.Direction.TheVariants.{In, Out, InOut}
 use Rattle.pearl_tree.specs.declared.statement.TaskWord.{TaskWord}
 use Rattle.pearl_tree.specs.declared.statement.TaskWord.TheVariants.{Suspend, Terminate, Prevent}
 use Rattle.pearl_tree.specs.declared.statement.InterruptWord.{InterruptWord}
@@ -25,10 +25,9 @@ use Rattle.pearl_scope.specs.Placed.{Placed}
 use Rattle.pearl_system.specs.Rules.{is_in, is_out}
 use Rattle.pearl_program.specs.PlainExpressions.{PlainExpr, PlainVariable}
 use Rattle.pearl_check_expr.specs.Senses.{is_fixed}
-use Rattle.pearl_check_expr.specs.Kinds.{suits_kind}
 use Rattle.pearl_check_expr.specs.Judged.{misfits, expr_place}
 use Rattle.pearl_check_expr.specs.Subjects.{OfValue, OfTarget, OfCallStatement}
-use Rattle.pearl_check_expr.proofs.Suiting.{suits_both}
+use Rattle.pearl_value.proofs.Suiting.{suits_both}
 use Rattle.pearl_check.specs.declared.asked.Role.{Role}
 use Rattle.pearl_check.specs.declared.asked.Role.TheVariants.{Plain, Condition, Count, Moment, Lapse, Priority}
 use Rattle.pearl_check.specs.declared.asked.NameRole.{NameRole}

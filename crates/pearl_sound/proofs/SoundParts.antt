@@ -21,11 +21,12 @@ use Rattle.pearl_names.specs.declared.scope.View.{View}
 use Rattle.pearl_names.specs.declared.meaning.Found.{Found}
 use Rattle.pearl_names.specs.Found.{found_from}
 use Rattle.pearl_names.specs.Tables.{Parameter, Sense, Variable, Control, OwnParameter, NewType, Semaphore, Interrupt, AlphicDation, BasicDation, Task, Procedure, sense_at, sense_from}
-use Rattle.pearl_check_expr.specs.Kinds.{suits_kind, is_kind}
+use Rattle.pearl_value.specs.Conversions.{suits_kind}
+use Rattle.pearl_check_expr.specs.Kinds.{is_kind}
 use Rattle.pearl_check_expr.specs.Senses.{Callee, callee_of, is_fixed}
 use Rattle.pearl_check_expr.specs.Standings.{Judged, Standing, Broken, Open, is_fixed_or_unknown, faulty}
 use Rattle.pearl_check_expr.specs.Judged.{result_of, monadic_result, dyadic_result, with_monadics, try_judged, limit_of, variable_argument, value_argument, if_well}
-use Rattle.pearl_check_expr.proofs.Suiting.{suits_both}
+use Rattle.pearl_value.proofs.Suiting.{suits_both}
 use Rattle.pearl_program.specs.declared.expression.Bound.{Bound}
 use Rattle.pearl_program.specs.PlainExpressions.{PlainExpr, OfRead, PlainVariable}
 use Rattle.pearl_program.specs.Typing.{Around, IsBound, HasKind, IsVariable, SuitsParam}

@@ -6,6 +6,7 @@ use Rattle.std.proofs.Common.{refl, ap, ◌∙◌, sym, subst, arith}
 use Rattle.std.proofs.lemmas.List.{append-nil}
 use Rattle.pearl_value.specs.declared.kind.Kind.{Kind}
 use Rattle.pearl_value.specs.Kinds.{IsKind}
+use Rattle.pearl_tree.proofs.Ids.{ids_are_names}
 use Rattle.pearl_tree.specs.declared.typing.Basic.{Basic}
 use Rattle.pearl_tree.specs.declared.token.Token.{Token}
 use Rattle.pearl_tree.specs.declared.tree.Tree.{Tree}
@@ -61,7 +62,7 @@ use Rattle.pearl_sound.proofs.SimpleStatements.{left_none, split_all}
 use Rattle.pearl_sound.proofs.SoundForms.{all_append, basic_there}
 use Rattle.pearl_sound.proofs.StatementsStand.{IsWell, all_stand}
 use Rattle.pearl_sound.proofs.Stretched.{Lies}
-use Rattle.pearl_sound.proofs.WellRoutines.{IsWellRoutine, routines_well, all_urgent, all_results, all_named, id_is, head_fits}
+use Rattle.pearl_sound.proofs.WellRoutines.{IsWellRoutine, routines_well, all_urgent, all_results, all_named, head_fits}
 use Rattle.pearl_sound.proofs.WholeStatements.{joined_sound, all_sound}
 
 all_above : (low high : ℕ) (xs : List ℕ) → low ≤ high → AllByRecursion (λ x. high ≤ x) xs → AllByRecursion (λ x. low ≤ x) xs
@@ -205,7 +206,7 @@ module _ (tree : ShownTree) (devices : List SpecifiedDevice) (procedures : List 
       let own = well.0 in (
         (
           record {
-            named = id_is (name_text name) own.named;
+            named = ids_are_names (name_text name) own.named;
             urgent = head_fits head own.urgent;
             routine = routine_sound types at [] body (routine.Task head) None refl lies scoped written sighted own.statements own.first;
           },

@@ -9,8 +9,8 @@ use Rattle.pearl_value.specs.declared.kind.CellKind.{CellKind}
 use Rattle.pearl_value.specs.declared.kind.CellKind.TheVariants.{Plain}
 use Rattle.pearl_tree.specs.declared.name.Name.{Name}
 use Rattle.pearl_tree.specs.declared.format.Fmt.{Fmt}
-use Rattle.pearl_tree.specs.declared.declaration.Direction.{Direction}
-use Rattle.pearl_tree.specs.declared.declaration.Direction.TheVariants.{In, Out, InOut}
+use Rattle.pearl_value.specs.declared.device.Direction.{Direction}
+use Rattle.pearl_value.specs.declared.device.Direction.TheVariants.{In, Out, InOut}
 use Rattle.pearl_tree.specs.declared.rule.TheConstants as rule
 use Rattle.pearl_tree.specs.ShownExpressions.{ShownExpr, ShownRef}
 use Rattle.pearl_tree.specs.ShownStatements.{OfPut, OfGet}
@@ -28,16 +28,17 @@ use Rattle.pearl_check.specs.Roles.{is_role, role_of, asked_faults}
 use Rattle.pearl_check.specs.Routines.{RoutineSort}
 use Rattle.pearl_check.specs.Rules.{own_faults, statement_faults}
 use Rattle.pearl_check.specs.Views.{seen, value_kind, target_kind}
-use Rattle.pearl_program.specs.declared.table.Device.{Device}
-use Rattle.pearl_program.specs.declared.table.Device.TheVariants.{Terminal}
+use Rattle.pearl_value.specs.declared.device.Device.{Device}
+use Rattle.pearl_value.specs.declared.device.Device.TheVariants.{Terminal}
 use Rattle.pearl_program.specs.Typing.{Around, IsVariable, HaveKinds}
-use Rattle.pearl_program.specs.SoundStatements.{FitsSome, Writes, Reads, TakesTexts, GivesTexts, IsPut, IsGet, AreStmts}
+use Rattle.pearl_format.specs.Items.{FitsSome}
+use Rattle.pearl_program.specs.SoundStatements.{Writes, Reads, TakesTexts, GivesTexts, IsPut, IsGet, AreStmts}
 use Rattle.pearl_resolve.specs.Numbers.{At}
 use Rattle.pearl_resolve.specs.Cells.{get_cells}
 use Rattle.pearl_resolve.specs.Expressions.{Numbered, number_of, resolve_variable}
 use Rattle.pearl_resolve.specs.Expressions as resolving
 use Rattle.pearl_resolve.specs.Statements.{values_in, resolve_stmt}
-use Rattle.pearl_resolve.specs.Resolve.{direction_of, item_of}
+use Rattle.pearl_resolve.specs.Resolve.{item_of}
 use Rattle.pearl_sound.specs.KnownParts.{IsKnown}
 use Rattle.pearl_sound.specs.SoundNames.{IsTerminal, LeadNames}
 use Rattle.pearl_sound.proofs.FormatsFit.{formats_fit}
@@ -45,12 +46,12 @@ use Rattle.pearl_sound.proofs.Shapes.{target_kinds}
 use Rattle.pearl_sound.proofs.SimpleStatements.{left_none, right_none, not_broken, split_all, IsKept, AreKept, all_kept, named_role, value_sound, target_kept}
 
 -- terminals
-writes : (direction : Direction) → is_in direction ≡ false → Writes (direction_of direction)
+writes : (direction : Direction) → is_in direction ≡ false → Writes direction
 writes In free = absurd (true≢false free)
 writes Out free = tt
 writes InOut free = tt
 
-reads : (direction : Direction) → is_out direction ≡ false → Reads (direction_of direction)
+reads : (direction : Direction) → is_out direction ≡ false → Reads direction
 reads Out free = absurd (true≢false free)
 reads In free = tt
 reads InOut free = tt

@@ -1,10 +1,8 @@
 -- What is known of each task and procedure of a lawful module that breaks no static rule.
-use Rattle.std.specs.Prelude.{◌≡◌, ℕ, ◌+◌, ◌≤◌, ◌<◌, nat_le, nat_eq, Bool, true, false, not, ◌||◌, ◌&&◌, List, [], ◌∷◌, ◌++◌, length, map, All, Option, Some, None, IsTrue}
-use Rattle.std.specs.Char.{is_ascii_alphabetic, is_ascii_digit}
-use Rattle.std.specs.Int.{is_in_range}
-use Rattle.std.specs.List.{AllByRecursion, flat_map, list_all}
-use Rattle.std.proofs.Common.{inl, inr, ◌⊎◌, refl, ap, ◌∙◌, sym, arith, true≢false}
-use Rattle.std.proofs.lemmas.Bool.{leb-true, le-leb, eq-eqb}
+use Rattle.std.specs.Prelude.{◌≡◌, ℕ, ◌+◌, ◌≤◌, ◌<◌, nat_le, true, not, List, [], ◌∷◌, ◌++◌, map, All, Option, Some, None}
+use Rattle.std.specs.List.{AllByRecursion, flat_map}
+use Rattle.std.proofs.Common.{arith}
+use Rattle.std.proofs.lemmas.Bool.{leb-true}
 use Rattle.std.proofs.lemmas.List.Elements.{All-head, All-tail}
 use Rattle.pearl_tree.specs.declared.declaration.Prio.{Prio}
 use Rattle.pearl_tree.specs.declared.rule.TheConstants as rule
@@ -16,7 +14,7 @@ use Rattle.pearl_tree.specs.declared.tree.Decl.TheVariants as decl
 use Rattle.pearl_tree.specs.declared.tree.Tree.{Tree}
 use Rattle.pearl_tree.specs.Lawful.{IsLawfulDecl, IsLawful}
 use Rattle.pearl_tree.specs.Names.{name_text}
-use Rattle.pearl_tree.specs.Tokens.{IsLetter, IsIdByte, IsId}
+use Rattle.pearl_tree.specs.Tokens.{IsId}
 use Rattle.pearl_tree.specs.ShownModules.{ShownDecl, OfLength, OfType, OfDeclare, OfSpecify, OfTask, OfProc, ShownTree, shown_decl, shown_tree}
 use Rattle.pearl_names.specs.declared.length.DefaultLength.{DefaultLength}
 use Rattle.pearl_names.specs.Known.{Known, known_of}
@@ -30,7 +28,6 @@ use Rattle.pearl_system.specs.Rules as devices
 use Rattle.pearl_check.specs.Asked.{asked_at}
 use Rattle.pearl_check.specs.Routines.{RoutineSort, Task, Procedure, Routine, decl_routines, decls_routines, routines_of, statements_of}
 use Rattle.pearl_check.specs.Rules.{is_priority, unfit_priority, head_faults, s30, statement_faults, routine_faults, statements_broken, whole_broken, all_broken}
-use Rattle.pearl_program.specs.Sound.{is_name_byte, is_id}
 use Rattle.pearl_resolve.specs.Expressions.{Numbered}
 use Rattle.pearl_resolve.specs.Statements.{declared_renewals}
 use Rattle.pearl_resolve.specs.Resolve.{priority_of}
@@ -169,44 +166,6 @@ decls_named next (part ∷ rest) h =
 
 pub all_named : (tree : Tree) → IsLawful tree → AllByRecursion HasItsName (routines_of (shown_tree tree))
 all_named tree lawful = decls_named 1 tree.declarations.items.items lawful.declarations
-
--- an id as the program has it
-in_range : (low high b : ℕ) → low ≤ b → b ≤ high → is_in_range low high b ≡ true
-in_range low high b from to = ap (λ test. test && nat_le b high) (le-leb low b from) ∙ le-leb b high to
-
-one_of : (a b : Bool) → (a ≡ true) ⊎ (b ≡ true) → (a || b) ≡ true
-one_of true b is = refl
-one_of false b (inl is) = absurd (true≢false (sym is))
-one_of false b (inr is) = is
-
-all_true : (a b : Bool) → a ≡ true → b ≡ true → (a && b) ≡ true
-all_true a b one two = ap (λ test. test && b) one ∙ two
-
-letter_is : (b : ℕ) → IsLetter b → is_ascii_alphabetic b ≡ true
-letter_is b (inl big) = one_of (is_in_range 65 90 b) (is_in_range 97 122 b) (inl (in_range 65 90 b big.0 big.1))
-letter_is b (inr small) = one_of (is_in_range 65 90 b) (is_in_range 97 122 b) (inr (in_range 97 122 b small.0 small.1))
-
-byte_is : (b : ℕ) → IsIdByte b → is_name_byte b ≡ true
-byte_is b (inl letter) =
-    one_of (is_ascii_alphabetic b || is_ascii_digit b) (nat_eq b 95)
-    (inl (one_of (is_ascii_alphabetic b) (is_ascii_digit b) (inl (letter_is b letter))))
-byte_is b (inr (inl digit)) =
-    one_of (is_ascii_alphabetic b || is_ascii_digit b) (nat_eq b 95)
-    (inl (one_of (is_ascii_alphabetic b) (is_ascii_digit b) (inr (in_range 48 57 b digit.0 digit.1))))
-byte_is b (inr (inr line)) = one_of (is_ascii_alphabetic b || is_ascii_digit b) (nat_eq b 95) (inr (eq-eqb b 95 line))
-
-bytes_are : (text : List ℕ) → All IsIdByte text → list_all is_name_byte text ≡ true
-bytes_are [] all = refl
-bytes_are (b ∷ rest) all =
-    all_true (is_name_byte b) (list_all is_name_byte rest) (byte_is b (All-head IsIdByte b rest all)) (bytes_are rest (All-tail IsIdByte b rest all))
-
-pub id_is : (text : List ℕ) → IsId text → IsTrue (is_id text)
-id_is [] id = absurd id.begins
-id_is (b ∷ rest) id =
-    let letter = is_ascii_alphabetic b in
-    let bytes = list_all is_name_byte (b ∷ rest) in
-    all_true (letter && bytes) (nat_le (length (b ∷ rest)) 63) (all_true letter bytes (letter_is b id.begins) (bytes_are (b ∷ rest) id.bytes))
-    (le-leb (length (b ∷ rest)) 63 id.length)
 
 -- a priority that breaks no rule is from 1 to 255
 abbrev IsPriority : ℕ → Type 0

@@ -8,7 +8,7 @@ use Rattle.pearl_tree.specs.declared.name.Number.{Number}
 use Rattle.pearl_tree.specs.declared.format.Fmt.TheVariants.{Wide}
 use Rattle.pearl_tree.specs.declared.format.WideCode.TheVariants.{F}
 use Rattle.pearl_tree.specs.declared.typing.Bound.{Bound}
-use Rattle.pearl_tree.specs.declared.declaration.Direction.TheVariants.{InOut}
+use Rattle.pearl_value.specs.declared.device.Direction.TheVariants.{InOut}
 use Rattle.pearl_tree.specs.declared.declaration.Class.TheVariants.{Alphic}
 use Rattle.pearl_tree.specs.declared.tree.TaskHead.TheVariants.{PrioFirst}
 use Rattle.pearl_tree.specs.ShownLiterals.{OfNumber}

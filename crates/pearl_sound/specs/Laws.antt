@@ -2,6 +2,7 @@
 use Rattle.std.specs.Prelude.{◌≡◌, ℕ, ℤ, ◌+◌, ◌-◌, ◌*◌, ◌≤◌, ◌<◌, nat_eq, Bool, false, true, IsTrue, List, [], ◌∷◌, ◌++◌, length, map, take, drop, Option, Some, unwrap_or, slice_get}
 use Rattle.std.specs.List.{AllByRecursion, IsDistinct, flat_map, list_any, sum_by}
 use Rattle.std.specs.Str.{bytes_eq}
+use Rattle.pearl_check.specs.Sizes.{procedure_count}
 use Rattle.pearl_value.specs.declared.kind.Kind.{Kind}
 use Rattle.pearl_value.specs.declared.kind.CellKind.{CellKind}
 use Rattle.pearl_format.specs.declared.item.Item.{Item}
@@ -27,12 +28,13 @@ use Rattle.pearl_names.specs.declared.scope.View.TheVariants.{Within}
 use Rattle.pearl_check_expr.specs.Judged.{judged, judged_variable, called}
 use Rattle.pearl_check_expr.specs.Senses.{Callee, callee_of}
 use Rattle.pearl_names.specs.declared.scope.SortedName.{SortedName}
-use Rattle.pearl_names.specs.Tables.{Form, Parameter, Sense, Variable, Control, Semaphore, Interrupt, AlphicDation, BasicDation, Task, Procedure, Table, sense_from, table_of}
+use Rattle.pearl_names.specs.Tables.{Form, Parameter, Sense, Variable, Control, Semaphore, Interrupt, AlphicDation, BasicDation, Task, Procedure, Table, sense_from, table_of, leaves_in}
 use Rattle.pearl_tree.specs.declared.name.Name.{Name}
 use Rattle.pearl_tree.specs.Names.{name_text}
 use Rattle.pearl_program.specs.HiddenCells.{hidden_in_all}
 use Rattle.pearl_program.specs.Sound.{signature_of, IsProcedure, IsTask}
-use Rattle.pearl_program.specs.SoundStatements.{FitsFormat, IsCall, AreStmts}
+use Rattle.pearl_format.specs.Items.{FitsFormat}
+use Rattle.pearl_program.specs.SoundStatements.{IsCall, AreStmts}
 use Rattle.pearl_program.specs.Typing.{Around, AreOpen, HasKind, IsVariable}
 use Rattle.pearl_calls.specs.Callers.{Caller}
 use Rattle.pearl_calls.specs.Numberings.{IsNumbering}
@@ -53,7 +55,7 @@ use Rattle.pearl_scope.specs.Rules.{faults_in}
 use Rattle.pearl_scope.specs.Rules as names
 use Rattle.pearl_resolve.specs.Numbers as numbering
 use Rattle.pearl_resolve.specs.Numbers.{At, Before, senses_at, routine_start, scope_numbers, module_numbers, own_numbers, after_all, after_body, numbers_in_all, body_numbers}
-use Rattle.pearl_resolve.specs.Laying.{leaves_in, filled_leaves, slots, cells_of_sense}
+use Rattle.pearl_resolve.specs.Laying.{filled_leaves, slots, cells_of_sense}
 use Rattle.pearl_resolve.specs.Expressions.{Numbered, number_of, resolve_expr, resolve_arguments, resolve_variable, target_kind}
 use Rattle.pearl_sound.specs.SoundNames.{IsLiteral, HasLiterals, HaveLiterals, SelectorsHaveLiterals, is_control, IsCallee, LeadValues, LeadNames, HasSemaphoresApart}
 use Rattle.pearl_sound.specs.ModuleNames.{IsModuleName, HasNamesOnce, AreProcedureNumbers, DevicesAreThere}
@@ -142,10 +144,6 @@ AreApart numbers p q Task Task first second = first < second
 AreApart numbers p q (Procedure parameters result) (Procedure others other) first second =
     (p < q) × (first ≡ unwrap_or (slice_get numbers p) 0) × (second ≡ unwrap_or (slice_get numbers q) 0)
 AreApart numbers p q one two first second = Unit {0}
-
-abbrev pub procedure_count : Sense → ℕ
-procedure_count (Procedure parameters result) = 1
-procedure_count sense = 0
 
 -- how many procedures are declared before the name at this place
 abbrev pub procedures_before : Before → List Sense → ℕ → ℕ

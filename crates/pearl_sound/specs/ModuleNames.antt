@@ -2,7 +2,7 @@
 use Rattle.std.specs.Prelude.{◌≡◌, ℕ, ◌<◌, nat_eq, List, [], length, Some, unwrap_or, slice_get}
 use Rattle.std.specs.List.{AllByRecursion, IsDistinct}
 use Rattle.pearl_value.specs.declared.kind.Kind.{Kind}
-use Rattle.pearl_tree.specs.declared.declaration.Direction.{Direction}
+use Rattle.pearl_value.specs.declared.device.Direction.{Direction}
 use Rattle.pearl_tree.specs.ShownModules.{ShownTree}
 use Rattle.pearl_names.specs.declared.scope.SortedName.{SortedName}
 use Rattle.pearl_names.specs.FirstNames.{repeated}

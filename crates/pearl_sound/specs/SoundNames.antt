@@ -8,8 +8,8 @@ use Rattle.pearl_value.specs.declared.kind.CellKind.{CellKind}
 use Rattle.pearl_value.specs.declared.kind.CellKind.TheVariants.{RefTo}
 use Rattle.pearl_value.specs.WellFormed.{IsValueOf}
 use Rattle.pearl_tree.specs.declared.name.Name.{Name}
-use Rattle.pearl_tree.specs.declared.declaration.Direction.{Direction}
-use Rattle.pearl_tree.specs.declared.declaration.Direction.TheVariants.{In, Out, InOut}
+use Rattle.pearl_value.specs.declared.device.Direction.{Direction}
+use Rattle.pearl_value.specs.declared.device.Direction.TheVariants.{In, Out, InOut}
 use Rattle.pearl_tree.specs.Names.{name_text}
 use Rattle.pearl_tree.specs.ShownLiterals.{ShownLiteral}
 use Rattle.pearl_tree.specs.ShownExpressions.{ShownExpr, OfOperand, OfDyadic, ShownPrimary, OfLiteral, OfRef, OfGroup, OfNow, OfTry, OfLimit, ShownSelectors, NoSelectors, MoreSelectors, ShownSelector, OfSubscripts, OfComponent, ShownExprs, NoExprs, MoreExprs}
@@ -22,15 +22,14 @@ use Rattle.pearl_check_expr.specs.Standings.{Open, variable_start}
 use Rattle.pearl_program.specs.declared.expression.Target.{Target}
 use Rattle.pearl_program.specs.declared.expression.Target.TheVariants.{Leaf, Own, Param}
 use Rattle.pearl_program.specs.declared.expression.Bound.{Bound}
-use Rattle.pearl_program.specs.declared.table.Device.{Device}
-use Rattle.pearl_program.specs.declared.table.Device.TheVariants.{Terminal}
+use Rattle.pearl_value.specs.declared.device.Device.{Device}
+use Rattle.pearl_value.specs.declared.device.Device.TheVariants.{Terminal}
 use Rattle.pearl_program.specs.PlainExpressions.{OfVariable}
 use Rattle.pearl_program.specs.PlainExpressions as plain
 use Rattle.pearl_program.specs.Typing.{Signature, Around, elements, IsBound, AreOwn, IsLeafOf, IsControl}
 use Rattle.pearl_program.specs.SoundStatements.{IsTaskNumber, IsInterrupt, IsInput, IsOutput}
 use Rattle.pearl_resolve.specs.Expressions.{Numbered, meant, number_of, literal_cell, Walk, walk_from, to_field, field_of}
 use Rattle.pearl_resolve.specs.Cells.{param_cell}
-use Rattle.pearl_resolve.specs.Resolve.{direction_of}
 
 -- a literal that has a kind is a value of it
 abbrev pub IsLiteral : List DefaultLength → ShownLiteral → Type 0
@@ -108,7 +107,7 @@ pub record IsCallee (around : Around) (number : ℕ) (parameters : List Paramete
 
 -- a terminal whose texts go this way
 abbrev pub IsTerminal : Direction → Option Device → Type 0
-IsTerminal direction (Some (Terminal number to)) = to ≡ direction_of direction
+IsTerminal direction (Some (Terminal number to)) = to ≡ direction
 IsTerminal direction device = ⊥
 
 -- an input or an output of this kind; none is both

@@ -19,8 +19,8 @@ use Rattle.pearl_system.specs.Laws.{IsSpecifiedBy}
 use Rattle.pearl_system.specs.Rising.{IsLess, IsRising, Lists}
 use Rattle.pearl_system.proofs.DeviceLaws.{devices_are_specified}
 use Rattle.pearl_system.proofs.Lists.{pairs_head, pairs_tail}
-use Rattle.pearl_program.specs.Sound as sound
-use Rattle.pearl_program.specs.Sound.{sort_rank, own_number, HasKindOfValues, IsBefore, AreRising}
+use Rattle.pearl_value.specs.Devices as device_list
+use Rattle.pearl_value.specs.Devices.{sort_rank, own_number, HasKindOfValues, IsBefore, AreRising}
 use Rattle.pearl_data.specs.Devices.{kind_or_short, device_of}
 use Rattle.pearl_sound_data.proofs.Faults.{really, both, all_weaker}
 use Rattle.pearl_sound_data.proofs.Shapes.{IfThere, AreSet, all_set, basic_kind}
@@ -36,10 +36,10 @@ short_kind None is = (omega arith, omega arith)
 short_kind (Some kind) is = is
 
 module _ (lengths : List DefaultLength) (set : AreSet lengths) where
-  device_sound : (device : SpecifiedDevice) → is_number device.number ≡ true → sound.IsDevice (device_of lengths device)
+  device_sound : (device : SpecifiedDevice) → is_number device.number ≡ true → device_list.IsDevice (device_of lengths device)
   device_sound device is = by device.role
     where
-      by : (of : Role) → sound.IsDevice (device_of lengths (record device { role = of }))
+      by : (of : Role) → device_list.IsDevice (device_of lengths (record device { role = of }))
       by role.Interrupt = let fits = number_fits device.number is in (fits.0, fits.1, tt)
       by (role.Terminal direction) = let fits = number_fits device.number is in (fits.0, fits.1, tt)
       by (role.Input basic) =
@@ -50,7 +50,7 @@ module _ (lengths : List DefaultLength) (set : AreSet lengths) where
           (fits.0, fits.1, short_kind (kind_of_basic lengths basic) (basic_kind lengths set basic))
 
   devices_sound : (devices : List SpecifiedDevice) → AllByRecursion (λ (device : SpecifiedDevice). is_number device.number ≡ true) devices →
-      AllByRecursion sound.IsDevice (map (device_of lengths) devices)
+      AllByRecursion device_list.IsDevice (map (device_of lengths) devices)
   devices_sound [] all = tt
   devices_sound (device ∷ rest) all = (device_sound device all.0, devices_sound rest all.1)
 
@@ -97,7 +97,7 @@ has_number tree device found =
     ap is_number found.3.same.number ∙ (both (is_some (sort_of (spelling part.word))) (is_number part.number.value) is).1
 
 pub program_devices : (tree : ShownTree) (devices : List SpecifiedDevice) → Lists device_key (IsDevice tree) devices →
-    AllByRecursion sound.IsDevice (map (device_of (lengths_set tree.declarations)) devices) ×
+    AllByRecursion device_list.IsDevice (map (device_of (lengths_set tree.declarations)) devices) ×
     AreRising (map (device_of (lengths_set tree.declarations)) devices)
 program_devices tree devices lists =
     let lengths = lengths_set tree.declarations in

@@ -9,7 +9,7 @@ use Rattle.std.proofs.lemmas.List.Sums.{sum_by-cons}
 use Rattle.std.proofs.lemmas.Option.{none-some}
 use Rattle.pearl_value.specs.declared.kind.Kind.{Kind}
 use Rattle.pearl_value.specs.declared.cell.Cell.{Cell}
-use Rattle.pearl_value.specs.Blanks.{blank_of}
+use Rattle.pearl_value.specs.Blanks.{blank_of, last_or}
 use Rattle.pearl_tree.specs.declared.rule.TheConstants as rule
 use Rattle.pearl_tree.specs.declared.literal.Sign.{Sign}
 use Rattle.pearl_tree.specs.declared.literal.Sign.TheVariants.{Plus, Minus}
@@ -21,7 +21,7 @@ use Rattle.pearl_names.specs.declared.scope.View.TheVariants.{Within}
 use Rattle.pearl_names.specs.Known.{Known, around}
 use Rattle.pearl_names.specs.Layout.{Leaf, elements, leaf_slots, slots_of, leaves_of, leaves_within, is_sound_leaf, item_leaves}
 use Rattle.pearl_names.specs.Shapes.{Shape, shape_of, sound_bounds}
-use Rattle.pearl_names.specs.Tables.{Form, sound_form, form_of}
+use Rattle.pearl_names.specs.Tables.{Form, sound_form, form_of, leaves_in}
 use Rattle.pearl_scope.specs.Constants.{fits_kind, is_empty, misses, missing_slots, wrong_signs}
 use Rattle.pearl_scope.specs.Laws as law
 use Rattle.pearl_scope.specs.Laws.{Becomes}
@@ -29,8 +29,8 @@ use Rattle.pearl_scope.specs.Parts.{Item}
 use Rattle.pearl_scope.specs.Rules.{slots_of_names, missing_of, s7}
 use Rattle.pearl_scope.proofs.Put.{fits_where_put}
 use Rattle.pearl_program.specs.PlainPrograms.{PlainLeaf}
-use Rattle.pearl_program.specs.FirstCells.{last_or, first_cells}
-use Rattle.pearl_data.specs.Laying.{value_of, or_blank, constant_in, values_of_leaf, slots, left_behind, filled_leaves, leaves_in}
+use Rattle.pearl_program.specs.FirstCells.{first_cells}
+use Rattle.pearl_data.specs.Laying.{value_of, or_blank, constant_in, values_of_leaf, slots, left_behind, filled_leaves}
 use Rattle.pearl_sound_data.specs.Constants.{IsConstant}
 use Rattle.pearl_resolve.specs.Expressions.{Numbered, meant}
 use Rattle.pearl_resolve.specs.Statements.{slots_of_meant}

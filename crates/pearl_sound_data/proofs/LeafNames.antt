@@ -27,11 +27,11 @@ use Rattle.pearl_names.specs.Known.{known_of}
 use Rattle.pearl_names.specs.Layout.{Leaf, elements}
 use Rattle.pearl_names.specs.Counts.{path_bytes, bytes_behind}
 use Rattle.pearl_names.specs.Scopes.{decls_entries}
-use Rattle.pearl_names.specs.Tables.{Sense, Variable, Control, OwnParameter, NewType, Semaphore, Interrupt, AlphicDation, BasicDation, Task, Procedure, senses_of, table_of}
+use Rattle.pearl_names.specs.Tables.{Sense, Variable, Control, OwnParameter, NewType, Semaphore, Interrupt, AlphicDation, BasicDation, Task, Procedure, senses_of, table_of, leaves_in}
 use Rattle.pearl_check.specs.Sizes.{Declared, with_senses, declared_in, has_long_leaf, long_leaf_fault, passed, task_count, procedure_count, semaphore_count, slot_count, counted_sizes}
 use Rattle.pearl_program.specs.PlainPrograms.{PlainLeaf}
 use Rattle.pearl_program.specs.Sound.{IsLeaf}
-use Rattle.pearl_data.specs.Laying.{leaves_in, leaves_of_sense, left_behind, path_name, filled_leaves}
+use Rattle.pearl_data.specs.Laying.{leaves_of_sense, left_behind, path_name, filled_leaves}
 use Rattle.pearl_resolve.specs.Expressions.{Numbered, Meant, number_at, meant_at, meant}
 use Rattle.pearl_resolve.specs.Statements.{slots_of_meant}
 use Rattle.pearl_resolve.specs.Resolve.{variable_leaves, names_leaves, declared_leaves, decl_leaves}

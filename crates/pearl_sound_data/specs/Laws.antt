@@ -14,7 +14,7 @@ use Rattle.pearl_tree.specs.ShownModules.{ShownTree, shown_tree}
 use Rattle.pearl_names.specs.declared.scope.View.TheVariants.{Within}
 use Rattle.pearl_names.specs.Known.{Known, around}
 use Rattle.pearl_names.specs.Layout.{Leaf, slots_of}
-use Rattle.pearl_names.specs.Tables.{Form, form_of, table_of}
+use Rattle.pearl_names.specs.Tables.{Form, form_of, table_of, leaves_in}
 use Rattle.pearl_scope.specs.Parts.{Item}
 use Rattle.pearl_scope.specs.Rules.{slots_of_names, s7}
 use Rattle.pearl_scope.specs.Rules as names
@@ -25,9 +25,12 @@ use Rattle.pearl_check.specs.Rules.{statements_broken, all_broken}
 use Rattle.pearl_program.specs.FirstCells.{first_cells}
 use Rattle.pearl_program.specs.PlainPrograms.{PlainLeaf, PlainProg}
 use Rattle.pearl_program.specs.SoundStatements.{AreFirst}
-use Rattle.pearl_program.specs.Sound as sound
-use Rattle.pearl_program.specs.Sound.{IsLeaf, IsFormat, IsPreset, AreRising}
-use Rattle.pearl_data.specs.Laying.{leaves_in, leaves_of_sense, constant_in, left_behind, filled_leaves}
+use Rattle.pearl_value.specs.Devices as device_list
+use Rattle.pearl_value.specs.Devices.{AreRising}
+use Rattle.pearl_value.specs.Counts.{IsPreset}
+use Rattle.pearl_format.specs.Items.{IsFormat}
+use Rattle.pearl_program.specs.Sound.{IsLeaf}
+use Rattle.pearl_data.specs.Laying.{leaves_of_sense, constant_in, left_behind, filled_leaves}
 use Rattle.pearl_resolve.specs.Expressions.{Numbered, Meant, meant, number_of}
 use Rattle.pearl_resolve.specs.Statements.{names_renewals, variable_renewals}
 use Rattle.pearl_resolve.specs.Resolve.{names_leaves, resolve}
@@ -52,7 +55,7 @@ LeavesHaveFirstValues = (tree : ShownTree) (devices : List SpecifiedDevice) (pro
 -- the devices have numbers from 1 to 99 and kinds with lengths in their ranges, and stand in the order of sorts and numbers
 abbrev pub DevicesAreSound : Type 0
 DevicesAreSound = (tree : ShownTree) (devices : List SpecifiedDevice) (procedures : List ℕ) → Lists device_key (IsDevice tree) devices →
-    AllByRecursion sound.IsDevice (resolve (table_of tree) devices procedures tree).devices ×
+    AllByRecursion device_list.IsDevice (resolve (table_of tree) devices procedures tree).devices ×
     AreRising (resolve (table_of tree) devices procedures tree).devices
 
 -- where S9 isn't broken, what semaphores have at first is below 2^31
@@ -74,7 +77,7 @@ LeavesAreSound = (tree : Tree) (devices : List SpecifiedDevice) (procedures : Li
 pub record HasSoundTables (p : PlainProg) : Type 0 where
   pub leaves : AllByRecursion IsLeaf p.leaves
   pub semaphores : AllByRecursion IsPreset p.semaphores
-  pub devices : AllByRecursion sound.IsDevice p.devices
+  pub devices : AllByRecursion device_list.IsDevice p.devices
   pub rising : AreRising p.devices
   pub formats : AllByRecursion IsFormat p.formats
 

@@ -11,7 +11,7 @@ use Rattle.std.proofs.lemmas.Slice.Eq.{bytes_eq-Decides}
 use Rattle.pearl_tree.specs.declared.fault.RuleFault.{RuleFault}
 use Rattle.pearl_tree.specs.declared.name.Name.{Name}
 use Rattle.pearl_tree.specs.declared.name.Number.{Number}
-use Rattle.pearl_tree.specs.declared.declaration.Direction.{Direction}
+use Rattle.pearl_value.specs.declared.device.Direction.{Direction}
 use Rattle.pearl_tree.specs.declared.declaration.Class.TheVariants as class
 use Rattle.pearl_tree.specs.declared.rule.TheConstants as rule
 use Rattle.pearl_tree.specs.Faults.{fault_if}

@@ -16,7 +16,8 @@ use Rattle.pearl_check.specs.Rules.{all_broken}
 use Rattle.pearl_check.specs.Routines.{Routine, is_procedure, is_task, routines_of}
 use Rattle.pearl_check.specs.Sizes.{task_count, procedure_count, semaphore_count, slot_count, cells_of}
 use Rattle.pearl_program.specs.PlainPrograms.{PlainProcedure, PlainTask, PlainProg}
-use Rattle.pearl_program.specs.Sound.{IsRoutine, CallSmaller, is_id, IsTask, HasSizes, IsSound}
+use Rattle.pearl_value.specs.Names.{is_id}
+use Rattle.pearl_program.specs.Sound.{IsRoutine, CallSmaller, IsTask, HasSizes, IsSound}
 use Rattle.pearl_resolve.specs.Numbers.{first}
 use Rattle.pearl_resolve.specs.Expressions.{Numbered}
 use Rattle.pearl_resolve.specs.Resolve.{device_of, tasks_in, procedures_in, numbered_of, resolve}

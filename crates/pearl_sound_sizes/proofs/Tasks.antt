@@ -1,10 +1,8 @@
 -- The tasks of a module: their priorities, and their names.
-use Rattle.std.specs.Prelude.{◌≡◌, ℕ, ◌≤◌, ◌<◌, ◌&&◌, ◌||◌, nat_le, not, Bool, true, false, IsTrue, List, [], ◌∷◌, length, map, filter, Some, None, All}
-use Rattle.std.specs.Char.{is_ascii_alphabetic}
-use Rattle.std.specs.List.{AllByRecursion, AllZip, list_all}
-use Rattle.std.proofs.Common.{refl, ap, ◌∙◌, sym, arith, inl, inr}
-use Rattle.std.proofs.lemmas.Bool.{leb-true, le-leb}
-use Rattle.std.proofs.lemmas.Bool.Decides.{nat_tests}
+use Rattle.std.specs.Prelude.{◌≡◌, ℕ, ◌≤◌, ◌<◌, nat_le, not, true, IsTrue, List, [], ◌∷◌, map, filter, Some, None, All}
+use Rattle.std.specs.List.{AllByRecursion, AllZip}
+use Rattle.std.proofs.Common.{ap, ◌∙◌, sym, arith}
+use Rattle.std.proofs.lemmas.Bool.{leb-true}
 use Rattle.std.proofs.lemmas.List.Elements.{All-head, All-tail}
 use Rattle.pearl_tree.specs.declared.declaration.Prio.{Prio}
 use Rattle.pearl_tree.specs.declared.rule.TheConstants as rule
@@ -14,13 +12,13 @@ use Rattle.pearl_tree.specs.declared.tree.TaskHead.{TaskHead}
 use Rattle.pearl_tree.specs.declared.tree.TaskHead.TheVariants.{PrioFirst, MainFirst}
 use Rattle.pearl_tree.specs.Lawful.{IsLawfulDecl}
 use Rattle.pearl_tree.specs.ShownModules.{ShownTree, shown_decl}
-use Rattle.pearl_tree.specs.Tokens.{IsLetter, IsIdByte, IsId}
+use Rattle.pearl_tree.proofs.Ids.{ids_are_names}
 use Rattle.pearl_names.specs.Tables.{table_of}
 use Rattle.pearl_system.specs.declared.device.SpecifiedDevice.{SpecifiedDevice}
 use Rattle.pearl_check.specs.Routines.{Routine, is_task, routines_of}
 use Rattle.pearl_check.specs.Rules.{is_priority, unfit_priority, head_faults, s30}
 use Rattle.pearl_program.specs.PlainPrograms.{PlainTask}
-use Rattle.pearl_program.specs.Sound.{is_name_byte, is_id}
+use Rattle.pearl_value.specs.Names.{is_id}
 use Rattle.pearl_resolve.specs.Numbers.{At, after_decl, first}
 use Rattle.pearl_resolve.specs.Expressions.{Numbered}
 use Rattle.pearl_resolve.specs.Resolve.{priority_of, decl_tasks, tasks_in, numbered_of, resolve}
@@ -69,39 +67,6 @@ tasks_urgent tree devices numbers kept =
     (all_filtered (IsKept tree) is_task (routines_of tree) kept)
 
 -- names
-letter : (b : ℕ) → IsLetter b → is_ascii_alphabetic b ≡ true
-letter b (inl low) = let a = low.0 in let c = low.1 in grind (arith, nat_tests)
-letter b (inr high) = let a = high.0 in let c = high.1 in grind (arith, nat_tests)
-
-or_left : (a b : Bool) → a ≡ true → (a || b) ≡ true
-or_left a b is = ap (λ first. first || b) is
-
-or_right : (a b : Bool) → b ≡ true → (a || b) ≡ true
-or_right true b is = refl
-or_right false b is = is
-
-name_byte : (b : ℕ) → IsIdByte b → is_name_byte b ≡ true
-name_byte b (inl is) = let a = letter b is in grind (arith, nat_tests)
-name_byte b (inr (inl is)) = let a = is.0 in let c = is.1 in grind (arith, nat_tests)
-name_byte b (inr (inr is)) = grind (arith, nat_tests)
-
-name_bytes : (text : List ℕ) → All IsIdByte text → list_all is_name_byte text ≡ true
-name_bytes [] all = refl
-name_bytes (b ∷ rest) all =
-    ap (λ test. test && list_all is_name_byte rest) (name_byte b (All-head IsIdByte b rest all)) ∙ name_bytes rest (All-tail IsIdByte b rest all)
-
-all_three : (a b c : Bool) → a ≡ true → b ≡ true → c ≡ true → (a && b && c) ≡ true
-all_three true true true one two three = refl
-all_three false b c one two three = one
-all_three true false c one two three = two
-all_three true true false one two three = three
-
-id_named : (text : List ℕ) → IsId text → IsTrue (is_id text)
-id_named [] id = absurd id.begins
-id_named (b ∷ rest) id =
-    all_three (is_ascii_alphabetic b) (list_all is_name_byte (b ∷ rest)) (nat_le (length (b ∷ rest)) 63) (letter b id.begins) (name_bytes (b ∷ rest) id.bytes)
-    (le-leb (length (b ∷ rest)) 63 id.length)
-
 abbrev IsNamedTask : PlainTask → Type 0
 IsNamedTask task = IsTrue (is_id task.name)
 
@@ -110,7 +75,7 @@ decl_named numbered at (decl.Length sort number place) lawful = tt
 decl_named numbered at (decl.Type name part place) lawful = tt
 decl_named numbered at (decl.Declare parts place) lawful = tt
 decl_named numbered at (decl.Specify specs place) lawful = tt
-decl_named numbered at (decl.Task name head body place) lawful = (id_named name.text.items lawful.0, tt)
+decl_named numbered at (decl.Task name head body place) lawful = (ids_are_names name.text.items lawful.0, tt)
 decl_named numbered at (decl.Proc name params returns body place) lawful = tt
 
 pub tasks_named : (numbered : Numbered) (at : At) (decls : List Decl) → All IsLawfulDecl decls →

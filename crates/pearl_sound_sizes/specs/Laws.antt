@@ -21,8 +21,12 @@ use Rattle.pearl_check.specs.Rules.{all_broken}
 use Rattle.pearl_check.specs.Sizes.{cells_of, weighed_procedures, weighed_tasks}
 use Rattle.pearl_check.specs.Weighing.{HoldsWeighed}
 use Rattle.pearl_program.specs.PlainPrograms.{PlainLeaf, PlainRoutine, PlainProcedure, PlainTask, PlainProg}
-use Rattle.pearl_program.specs.Sound as sound
-use Rattle.pearl_program.specs.Sound.{IsLeaf, AreRising, IsFormat, IsRoutine, IsProcedure, CallSmaller, is_id, IsPreset, HasSizes, IsSound}
+use Rattle.pearl_value.specs.Devices as device_list
+use Rattle.pearl_value.specs.Counts.{IsPreset}
+use Rattle.pearl_value.specs.Names.{is_id}
+use Rattle.pearl_format.specs.Items.{IsFormat}
+use Rattle.pearl_value.specs.Devices.{AreRising}
+use Rattle.pearl_program.specs.Sound.{IsLeaf, IsRoutine, IsProcedure, CallSmaller, HasSizes, IsSound}
 use Rattle.pearl_program.specs.Weights.{weight, weights_of}
 use Rattle.pearl_resolve.specs.Numbers.{first}
 use Rattle.pearl_resolve.specs.Resolve.{procedures_in, numbered_of}
@@ -114,7 +118,7 @@ TasksAreNamed = (tree : Tree) (devices : List SpecifiedDevice) (numbers : List â
 pub record RestIsSound (p : PlainProg) : Type 0 where
   pub leaves : AllByRecursion IsLeaf p.leaves
   pub semaphores : AllByRecursion IsPreset p.semaphores
-  pub devices : AllByRecursion sound.IsDevice p.devices
+  pub devices : AllByRecursion device_list.IsDevice p.devices
   pub rising : AreRising p.devices
   pub formats : AllByRecursion IsFormat p.formats
   pub procedures : AllByRecursion (IsProcedure p) p.procedures

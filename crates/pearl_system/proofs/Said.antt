@@ -4,7 +4,7 @@ use Rattle.std.specs.List.{cons_option, filter_map, find, slice_get}
 use Rattle.std.specs.Prelude.{◌&&◌, option_and_then, is_some}
 use Rattle.pearl_tree.specs.declared.declaration.Class.TheVariants.{Alphic, Basic}
 use Rattle.pearl_tree.specs.declared.declaration.Device.{Device}
-use Rattle.pearl_tree.specs.declared.declaration.Direction.TheVariants.{In, Out}
+use Rattle.pearl_value.specs.declared.device.Direction.TheVariants.{In, Out}
 use Rattle.pearl_system.specs.declared.device.DeviceSort.{DeviceSort}
 use Rattle.pearl_system.specs.declared.device.DeviceSort.TheVariants.{Interrupt, Terminal, Input, Output}
 use Rattle.pearl_system.specs.declared.device.Role.{Role}

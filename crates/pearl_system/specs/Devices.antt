@@ -6,7 +6,7 @@ use Rattle.pearl_tree.specs.declared.declaration.Class.TheVariants.{Alphic, Basi
 use Rattle.pearl_tree.specs.declared.declaration.Device.{Device}
 use Rattle.pearl_tree.specs.declared.declaration.DeviceWord.{DeviceWord}
 use Rattle.pearl_tree.specs.declared.declaration.DeviceWord.TheVariants as word
-use Rattle.pearl_tree.specs.declared.declaration.Direction.TheVariants.{In, Out}
+use Rattle.pearl_value.specs.declared.device.Direction.TheVariants.{In, Out}
 use Rattle.pearl_tree.specs.ShownModules.{ShownTree}
 use Rattle.pearl_system.specs.declared.device.DeviceSort.{DeviceSort}
 use Rattle.pearl_system.specs.declared.device.DeviceSort.TheVariants.{Interrupt, Terminal, Input, Output}

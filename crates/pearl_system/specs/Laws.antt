@@ -2,7 +2,7 @@
 use Rattle.std.specs.Prelude.{◌≡◌, ℕ, ◌<◌, false, List, [], Contains, Some, slice_get}
 use Rattle.pearl_tree.specs.declared.declaration.Class.TheVariants.{Alphic, Basic}
 use Rattle.pearl_tree.specs.declared.declaration.Device.{Device}
-use Rattle.pearl_tree.specs.declared.declaration.Direction.TheVariants.{In, Out}
+use Rattle.pearl_value.specs.declared.device.Direction.TheVariants.{In, Out}
 use Rattle.pearl_tree.specs.ShownModules.{ShownTree}
 use Rattle.pearl_system.specs.declared.device.DeviceSort.{DeviceSort}
 use Rattle.pearl_system.specs.declared.device.DeviceSort.TheVariants as sort

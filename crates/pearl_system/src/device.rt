@@ -11,8 +11,9 @@ use crate::first::{FirstDevices, named};
 use crate::rising::add;
 use crate::specified::{Form, Specified};
 use arrayvec::ArrayVec;
-use pearl_tree::declaration::{Class, Device, DeviceWord, Direction};
+use pearl_tree::declaration::{Class, Device, DeviceWord};
 use pearl_tree::typing::Basic;
+use pearl_value::device::Direction;
 use pearl_value::listing::Listing;
 use std::alloc::{AllocError as NoMemory, Global};
 

@@ -10,9 +10,10 @@ use crate::device::{DeviceSort, is_number, sort_of, spelling, word_place};
 use crate::first::{FirstDevices, add_twin, named, note};
 use crate::specified::{Form, Specified};
 use indexmap::{IndexMap, IndexSet};
-use pearl_tree::declaration::{Class, Device, Direction};
+use pearl_tree::declaration::{Class, Device};
 use pearl_tree::fault::RuleFault;
 use pearl_tree::rule;
+use pearl_value::device::Direction;
 use std::alloc::{AllocError as NoMemory, Global};
 
 fn is_alphic(class: Class) -> bool

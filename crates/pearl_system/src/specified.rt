@@ -7,9 +7,10 @@ ghost use Rattle.pearl_tree.specs.ShownModules.{shown_decl, shown_tree};
 ghost use Rattle.pearl_system.specs.Specified as spec;
 
 use arrayvec::ArrayVec;
-use pearl_tree::declaration::{Class, Direction, Spec};
+use pearl_tree::declaration::{Class, Spec};
 use pearl_tree::name::Name;
 use pearl_tree::tree::{Decl, Tree};
+use pearl_value::device::Direction;
 use std::alloc::{AllocError as NoMemory, Global};
 
 /// What a name is specified as.

@@ -28,4 +28,5 @@ pub mod OneStatement
 pub mod OneModule
 pub mod FirstStop
 pub mod FaultOrder
+pub mod Ids
 pub mod OneFaultList

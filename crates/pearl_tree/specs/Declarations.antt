@@ -8,8 +8,8 @@ use Rattle.pearl_tree.specs.declared.declaration.Item.{Item}
 use Rattle.pearl_tree.specs.declared.declaration.Sema.{Sema}
 use Rattle.pearl_tree.specs.declared.declaration.Declared.{Declared}
 use Rattle.pearl_tree.specs.declared.declaration.Declared.TheVariants as declared
-use Rattle.pearl_tree.specs.declared.declaration.Direction.{Direction}
-use Rattle.pearl_tree.specs.declared.declaration.Direction.TheVariants.{In, Out, InOut}
+use Rattle.pearl_value.specs.declared.device.Direction.{Direction}
+use Rattle.pearl_value.specs.declared.device.Direction.TheVariants.{In, Out, InOut}
 use Rattle.pearl_tree.specs.declared.declaration.Class.{Class}
 use Rattle.pearl_tree.specs.declared.declaration.Class.TheVariants as class
 use Rattle.pearl_tree.specs.declared.declaration.Spec.{Spec}

@@ -12,7 +12,7 @@ use Rattle.pearl_tree.specs.declared.declaration.Item.{Item}
 use Rattle.pearl_tree.specs.declared.declaration.Sema.{Sema}
 use Rattle.pearl_tree.specs.declared.declaration.Declared.{Declared}
 use Rattle.pearl_tree.specs.declared.declaration.Declared.TheVariants as declared
-use Rattle.pearl_tree.specs.declared.declaration.Direction.{Direction}
+use Rattle.pearl_value.specs.declared.device.Direction.{Direction}
 use Rattle.pearl_tree.specs.declared.declaration.Class.{Class}
 use Rattle.pearl_tree.specs.declared.declaration.Spec.{Spec}
 use Rattle.pearl_tree.specs.declared.declaration.Spec.TheVariants as spec

@@ -4,6 +4,7 @@ use crate::literal::Const;
 use crate::name::{Name, Names, Number};
 use crate::parts::Parts;
 use crate::typing::{Basic, Bound, Typing};
+use pearl_value::device::Direction;
 
 /// `id | INTERRUPT` in a device
 #[derive(Drop)]
@@ -53,14 +54,6 @@ pub struct Sema {
 pub enum Declared {
     Item(Item),
     Sema(Sema),
-}
-
-/// `IN | OUT | INOUT`
-#[derive(Clone, Copy, PartialEq, Eq, Debug)]
-pub enum Direction {
-    In,
-    Out,
-    InOut,
 }
 
 /// `ALPHIC | BASIC basic`

@@ -1,4 +1,5 @@
-// The names of the static rules, as refusals print them: the rule of number 12 is S12. docs/language.md states each.
+// The names of the static rules, as refusals print them: the rule of number 12 is S12. docs/use/language.md states
+// each.
 
 /// A name is declared twice in one scope.
 pub const S1: u8 = 1;

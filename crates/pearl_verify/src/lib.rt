@@ -10,7 +10,6 @@ mod kinds;
 mod limits;
 mod named;
 mod operands;
-mod operator;
 mod pushed;
 mod routine;
 pub mod rule;

@@ -5,20 +5,19 @@ ghost use Rattle.pearl_value.specs.declared.kind.CellKind.TheVariants.{Plain};
 ghost use Rattle.pearl_instructions.specs.Kinds.{monadic_kind, dyadic_kind, converts, v3, reference_to, referred, pushed_kind};
 
 use crate::kinds::Kinds;
-use crate::operator::{result_of_one, result_of_two, suits_kind};
 use crate::same::{reference_to, referred};
 use crate::table::{kind_taken, leaf_kind, result_of};
 use pearl_instructions::instr::Instr;
 use pearl_instructions::object::{Code, Object};
-use pearl_value::conversion::cell_kind;
+use pearl_value::conversion::{cell_kind, suits};
 use pearl_value::kind::{CellKind, Kind};
-use pearl_value::operator::{Dyad, Monad};
+use pearl_value::operator::{Dyad, Monad, result1, result2};
 
 fn monadic_kind(op: Monad, kinds: &Kinds) -> Option<Kind>
     ensures { result ≡ monadic_kind op kinds.now }
 {
     match kinds.at(0) {
-        Some(CellKind::Plain(of)) => result_of_one(op, of),
+        Some(CellKind::Plain(of)) => result1(op, of),
         Some(CellKind::RefTo(_)) => None,
         None => None,
     }
@@ -28,7 +27,7 @@ fn dyadic_kind(op: Dyad, kinds: &Kinds) -> Option<Kind>
     ensures { result ≡ dyadic_kind op kinds.now }
 {
     match (kinds.at(1), kinds.at(0)) {
-        (Some(CellKind::Plain(of_x)), Some(CellKind::Plain(of_y))) => result_of_two(op, of_x, of_y),
+        (Some(CellKind::Plain(of_x)), Some(CellKind::Plain(of_y))) => result2(op, of_x, of_y),
         _ => None,
     }
 }
@@ -37,7 +36,7 @@ fn converts(to: Kind, kinds: &Kinds) -> bool
     ensures { result ≡ converts to kinds.now }
 {
     match kinds.at(0) {
-        Some(CellKind::Plain(from)) => suits_kind(from, to),
+        Some(CellKind::Plain(from)) => suits(from, to),
         Some(CellKind::RefTo(_)) => false,
         None => false,
     }

@@ -11,7 +11,7 @@ ghost use Rattle.pearl_verify.specs.Formats.{format_row};
 use crate::formats::FormatRow;
 use pearl_format::item::Item;
 use pearl_instructions::object::{Code, Object};
-use pearl_rules::setup::{Device, Direction};
+use pearl_value::device::{Device, Direction};
 use pearl_value::kind::{CellKind, Kind};
 
 /// Whether a number is below a count.

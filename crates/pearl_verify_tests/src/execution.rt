@@ -2,7 +2,7 @@
 
 ghost use Rattle.std.specs.Prelude.{◌≡◌, ◌+◌, ◌<◌, ◌≤◌, ℕ, length, IfOk, IfSome};
 ghost use Rattle.std.specs.List.{AllByRecursion};
-ghost use Rattle.pearl_rules.specs.Tables.{IsFormat};
+ghost use Rattle.pearl_format.specs.Items.{IsFormat};
 ghost use Rattle.pearl_instructions.specs.Lawful.{IsLeaf, IsProcedure, IsTask, IsObject};
 ghost use Rattle.pearl_instructions.specs.Objects.{slot_kind};
 ghost use Rattle.pearl_instructions.specs.Rows.{begun};
@@ -18,12 +18,12 @@ use pearl_format::item::{Item, ItemCode};
 use pearl_instructions::instr::{Bounds, Reading};
 use pearl_instructions::object::{Code, Leaf, Object, Procedure, Task};
 use pearl_instructions::valid::Valid;
-use pearl_rules::setup::{Device, Direction};
 use pearl_solo::answers::answer;
 use pearl_solo::frames::begin;
 use pearl_solo::settle::settle;
 use pearl_stack::stack::{Loaded, Parked};
 use pearl_value::cell::Cell;
+use pearl_value::device::{Device, Direction};
 use pearl_value::kind::{CellKind, Kind};
 use pearl_value::listing::Listing;
 use pearl_value::operator::Dyad;

@@ -2,7 +2,6 @@ use Rattle.std.proofs.Common.{map, ap, sym, subst, ◌∙◌}
 use Rattle.std.specs.List.{AllZip}
 use Rattle.pearl_program.specs.PlainPrograms.{plain_prog, plain_leaf}
 use Rattle.pearl_program.specs.declared.program.Program.{Program}
-use Rattle.pearl_meaning.specs.ProgramRuns.{device_of}
 use Rattle.pearl_instructions.specs.declared.object.Object.{Object}
 use Rattle.pearl_gen_expr.specs.Tables.{plain_leaf as leaf_said}
 use Rattle.pearl_gen_stmt.specs.Generated.{IsGenerated}
@@ -19,7 +18,7 @@ returns-clause-generated c =
     (generated parts o
     (ap (map leaf_said) c.new-3.ensures ∙ (c.in_ok-leaves.ensures ∙ ap (map plain_leaf) c.as_slice-2.ensures))
     (c.new-2.ensures ∙ (c.in_ok-semaphores.ensures.items ∙ c.as_slice-3.ensures))
-    (c.new.ensures ∙ (c.in_ok-devices.ensures ∙ ap (map device_of) c.as_slice-4.ensures))
+    (c.new.ensures ∙ (c.in_ok-devices.ensures ∙ c.as_slice-4.ensures))
     (c.new-4.ensures ∙ (c.in_ok-formats.ensures ∙ c.as_slice.ensures))
     (subst (λ list. AllZip (IsProcedure (plain_prog parts)) parts.procedures list) (sym c.new-5.ensures) c.in_ok-procedures.ensures)
     (subst (λ list. AllZip (IsTask (plain_prog parts)) parts.tasks list) (sym c.new-6.ensures) c.in_ok-tasks.ensures))

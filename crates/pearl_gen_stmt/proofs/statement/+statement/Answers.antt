@@ -18,14 +18,14 @@ use Rattle.pearl_program.specs.declared.statement.Repeat.{Repeat}
 use Rattle.pearl_program.specs.declared.statement.Branch.{Branch}
 use Rattle.pearl_program.specs.declared.statement.Stmt.{Stmt}
 use Rattle.pearl_program.specs.PlainExpressions.{cell_of, plain_expr, plain_exprs, plain_variable, plain_arguments}
-use Rattle.pearl_program.specs.PlainStatements.{plain_values, plain_start, plain_once, plain_period, plain_counter, plain_stmt, plain_stmts}
+use Rattle.pearl_program.specs.PlainStatements.{plain_values, plain_start, plain_once, plain_period, plain_counter, plain_stmt, plain_stmts, plain_branches}
 use Rattle.pearl_program.specs.PlainPrograms.{plain_prog}
 use Rattle.pearl_meaning.specs.Setting.{Setting}
 use Rattle.pearl_instructions.specs.declared.instr.Instr.TheVariants as instr
 use Rattle.pearl_gen_expr.specs.ExprCode.{Is}
 use Rattle.pearl_gen_expr.proofs.Emitted.{extends_more, some_are}
 use Rattle.pearl_gen_stmt.specs.StmtCode.{on_task, RenewAt, AssignAt, CallOfAt, ReturnAt, ActivateAt, ContinueAt, ResumeAt, ListAt, PutAt, GetAt, SendAt, TakeAt, AdvanceAt}
-use Rattle.pearl_gen_stmt.specs.Emission.{setting_of, plain_branches, plain_if, plain_case, plain_repeat, Adds, AddsStmt, AddsStmts, AddsElse, AddsBranches}
+use Rattle.pearl_gen_stmt.specs.Emission.{setting_of, plain_if, plain_case, plain_repeat, Adds, AddsStmt, AddsStmts, AddsElse, AddsBranches}
 use Rattle.pearl_gen_stmt.proofs.Adding.{alone_adds}
 use Rattle.pearl_gen_stmt.proofs.Settling.{on_ok, none_there, extends_longer, extends_by, extends_apart}
 use Rattle.pearl_gen_stmt.proofs.StatementRows.{if_plain, case_plain, repeat_plain}

@@ -1,7 +1,7 @@
 use Rattle.std.proofs.Common.{drop}
-use Rattle.pearl_program.specs.PlainStatements.{plain_stmts}
+use Rattle.pearl_program.specs.PlainStatements.{plain_stmts, plain_branches}
 use Rattle.pearl_gen_expr.specs.Emitting.{Extends}
-use Rattle.pearl_gen_stmt.specs.Emission.{setting_of, plain_branches}
+use Rattle.pearl_gen_stmt.specs.Emission.{setting_of}
 use Rattle.pearl_gen_stmt.proofs.Nesting.{StmtsSoFar, BranchesSoFar}
 use Rattle.pearl_gen_stmt.proofs.statement.«+statement».Given as goal
 

@@ -1,7 +1,6 @@
 use Rattle.std.proofs.Common.{drop}
-use Rattle.pearl_program.specs.PlainStatements.{plain_stmts}
+use Rattle.pearl_program.specs.PlainStatements.{plain_stmts, plain_branches}
 use Rattle.pearl_program.specs.Weights.{greatest_of_all, greatest_of_branches}
-use Rattle.pearl_gen_stmt.specs.Emission.{plain_branches}
 use Rattle.pearl_generate.proofs.Sums.{IsGreatestOf}
 use Rattle.pearl_generate.proofs.statement.«+statement».Given as goal
 

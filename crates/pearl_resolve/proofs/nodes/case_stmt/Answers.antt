@@ -1,8 +1,7 @@
 use Rattle.std.proofs.Common.{ap, ◌∙◌}
 use Rattle.pearl_program.specs.declared.statement.Case.{out-Case, out-roll-Case}
 use Rattle.pearl_program.specs.PlainExpressions.{plain_expr}
-use Rattle.pearl_program.specs.PlainStatements.{OfCase, plain_stmts}
-use Rattle.pearl_resolve.specs.Holding.{plain_branches}
+use Rattle.pearl_program.specs.PlainStatements.{OfCase, plain_stmts, plain_branches}
 use Rattle.pearl_resolve.proofs.StatementNodes.{case_plain}
 use Rattle.pearl_resolve.proofs.nodes.case_stmt.Goals as goal
 

@@ -10,9 +10,9 @@ use Rattle.pearl_tree.specs.ShownStatements.{shown_body_decl, shown_stmt}
 use Rattle.pearl_names.specs.Lengths.{length_at}
 use Rattle.pearl_names.specs.Listed.{branches_shown, otherwise_shown, stmts_shown}
 use Rattle.pearl_names.proofs.StatementRows.{begin_shown, case_shown, if_shown, repeat_shown}
-use Rattle.pearl_program.specs.PlainStatements.{plain_stmts}
+use Rattle.pearl_program.specs.PlainStatements.{plain_stmts, plain_branches}
 use Rattle.pearl_resolve.specs.Cells as cells_of
-use Rattle.pearl_resolve.specs.Holding.{at_in, plain_branches}
+use Rattle.pearl_resolve.specs.Holding.{at_in}
 use Rattle.pearl_resolve.specs.Parts.{shown_activate, shown_assign, shown_begin, shown_call, shown_case, shown_continue, shown_get, shown_if, shown_on_interrupt, shown_on_semaphores, shown_on_task, shown_put, shown_repeat, shown_resume, shown_return, shown_send, shown_take}
 use Rattle.pearl_resolve.specs.Statements as spec
 use Rattle.pearl_resolve.proofs.Numbering.{counts_shown, loop_cells_shown}

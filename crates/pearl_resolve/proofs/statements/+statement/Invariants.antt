@@ -1,8 +1,8 @@
 use Rattle.std.proofs.Common.{drop}
 use Rattle.pearl_names.specs.Listed.{branches_shown, stmts_shown}
-use Rattle.pearl_program.specs.PlainStatements.{plain_stmts}
+use Rattle.pearl_program.specs.PlainStatements.{plain_stmts, plain_branches}
 use Rattle.pearl_resolve.specs.Expressions.{Numbered}
-use Rattle.pearl_resolve.specs.Holding.{HoldsNumbered, at_in, plain_branches}
+use Rattle.pearl_resolve.specs.Holding.{HoldsNumbered, at_in}
 use Rattle.pearl_resolve.proofs.Resolving.{Going, GoingBranches}
 use Rattle.pearl_resolve.proofs.statements.«+statement».Given as goal
 

@@ -3,8 +3,7 @@ use Rattle.std.proofs.Common.{◌≡◌, ◌↔◌, true, false, refl, sym, true
 use Rattle.std.proofs.lemmas.Bool.{leb-true, le-leb}
 use Rattle.pearl_value.specs.declared.kind.Kind.{Kind}
 use Rattle.pearl_value.specs.declared.kind.Kind.TheVariants.{Fixed, Bits, Chars, Clock, Span}
-use Rattle.pearl_value.specs.Conversions.{SuitsKind}
-use Rattle.pearl_check_expr.specs.Kinds.{suits_kind}
+use Rattle.pearl_value.specs.Conversions.{SuitsKind, suits_kind}
 
 both : (true ≡ true) ↔ Unit {0}
 both = ((λ e. tt), λ h. refl)
