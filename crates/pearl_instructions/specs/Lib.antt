@@ -12,6 +12,8 @@ pub mod Operators
 pub mod Offers
 -- one row for each instruction, and what runs of rows are
 pub mod Rows
+-- one row for each opcode: what it names, takes and pushes, and where it leads
+pub mod Opcodes
 -- which operands each instruction takes, and of which sorts
 pub mod Operands
 -- which numbers an instruction may name, and which cells it names
