@@ -12,7 +12,7 @@ pub mod Operators
 pub mod Offers
 -- one row for each instruction, and what runs of rows are
 pub mod Rows
--- one row for each opcode: what it names, takes and pushes, and where it leads
+-- what each opcode holds, names, takes and pushes, where it leads and what its limits are: one row each
 pub mod Opcodes
 -- which operands each instruction takes, and of which sorts
 pub mod Operands

@@ -88,7 +88,8 @@ all_kept (test ∷ []) = test
 all_kept (test ∷ other ∷ more) = test && all_kept (other ∷ more)
 
 abbrev pub all_there : Object → Code → Opcode → Bool
-all_there o code row = all_kept (names_there o row.names ++ cells_there o code row.cells ++ targets_there code row.targets)
+all_there o code row =
+    all_kept (names_there o row.names ++ cells_there o code row.cells ++ targets_there code row.targets)
 
 -- V1: each number names something, a device of the right sort and direction, and each range some of the routine's cells
 abbrev pub v1 : Object → Code → Instr → Bool

@@ -1,4 +1,4 @@
--- One row for each opcode, which the rules of the validator read. There is no default: an opcode without a row is refused.
+-- What each opcode holds, names, takes and pushes, where it leads and what its limits are: one row each, no default.
 use Rattle.std.specs.Prelude.{ℕ, Bool, true, false, List, [], ◌∷◌, ◌++◌, Option, Some, None, length, map, replicate, reverse}
 use Rattle.pearl_value.specs.declared.kind.Kind.{Kind}
 use Rattle.pearl_value.specs.declared.kind.Kind.TheVariants as kind
@@ -69,7 +69,7 @@ pub data Takes : Type 0 where
   OwnResult : Takes
   Values : (format : ℕ) → Takes
 
--- which kinds must be just the same: that of the value on top and the one that is said, or those of the cells that are named
+-- which kinds must be just the same: that of the value on top and the one that is said, or those of its cells
 pub data Exact : Type 0 where
   AnyKinds : Exact
   KindOfCells : Exact
@@ -169,14 +169,23 @@ opcode (Load c) = record plain { cells = AnyCell c; pushes = OfCell c }
 opcode (Store c) = record plain { cells = OneCell c; takes = These (Anything ∷ []); exact = KindOfCells }
 opcode (Fill c n of) = record plain { holds = OfKind of; cells = ManyCells c n; exact = CellsOf of }
 opcode Drop = record plain { takes = These (Anything ∷ []) }
-opcode (Conv to) = record plain { holds = OfKind to; takes = These (Anything ∷ []); operation = Conversion to; pushes = Made }
+opcode (Conv to) = record plain {
+  holds = OfKind to;
+  takes = These (Anything ∷ []);
+  operation = Conversion to;
+  pushes = Made;
+}
 opcode (Index bounds) = record plain {
   takes = These (replicate (length bounds.value) SomeFixed);
   pushes = AValue (Plain (kind.Fixed 31));
   limits = OfBounds bounds.value;
 }
 opcode (LoadAt c n) = record plain { cells = ManyCells c n; takes = These (offset ∷ []); pushes = OfCell c }
-opcode (StoreAt c n) = record plain { cells = ManyCells c n; takes = These (Anything ∷ offset ∷ []); exact = KindOfCells }
+opcode (StoreAt c n) = record plain {
+  cells = ManyCells c n;
+  takes = These (Anything ∷ offset ∷ []);
+  exact = KindOfCells;
+}
 opcode (Read v) = record plain { names = ALeaf v; pushes = OfLeaf v }
 opcode (Write v) = record plain { names = ALeaf v; takes = These (Anything ∷ []); exact = KindOfLeaf v }
 opcode (ReadAt v) = record plain { names = ALeaf v; takes = These (offset ∷ []); pushes = OfLeaf v }
