@@ -7,7 +7,7 @@ use Rattle.pearl_value.specs.Blanks.{blank_of}
 use Rattle.pearl_program.specs.FirstCells as program_cells
 use Rattle.pearl_instructions.specs.declared.object.Leaf.{Leaf}
 use Rattle.pearl_meaning.specs.ProgramRuns as program
-use Rattle.pearl_engine.specs.Setups.{last_or, first_cells}
+use Rattle.pearl_instructions.specs.Setups.{last_or, first_cells}
 use Rattle.pearl_gen_expr.specs.Tables.{plain_leaf}
 use Rattle.pearl_faithful.specs.Laws.{SameTables}
 

@@ -2,7 +2,7 @@
 use Rattle.std.proofs.Common.{◌≡◌, ◌-◌, suc, List, [], ◌∷◌, Some, length, slice_get, sym, ap, ◌∙◌, arith}
 use Rattle.std.proofs.lemmas.Option.{same_Some}
 use Rattle.pearl_value.specs.declared.cell.Cell.{Cell}
-use Rattle.pearl_engine.specs.Setups.{last_or}
+use Rattle.pearl_instructions.specs.Setups.{last_or}
 
 pub last_is : (x y : Cell) (xs : List Cell) → slice_get xs (length xs - 1) ≡ Some y → last_or x xs ≡ y
 last_is x y [] e = cc

@@ -1,6 +1,6 @@
 use Rattle.std.proofs.Common.{sym, ap, ◌∙◌}
 use Rattle.pearl_value.specs.Blanks.{blank_of}
-use Rattle.pearl_engine.specs.Setups.{last_or}
+use Rattle.pearl_instructions.specs.Setups.{last_or}
 use Rattle.pearl_machine.proofs.LastValue.{last_is}
 use Rattle.pearl_machine.proofs.tables.last_value.Goals as goal
 
