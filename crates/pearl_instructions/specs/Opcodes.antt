@@ -29,9 +29,11 @@ pub data Names : Type 0 where
   ASemaphore : (s : ℕ) → Names
   Semaphores : (list : List ℕ) → Names
   ATask : (t : ℕ) → Names
+  -- with the interrupt of a schedule, where it has one
   ATaskWhen : (t : ℕ) (when : StartForm) → Names
   AWhen : (when : StartForm) → Names
   AnInterrupt : (d : ℕ) → Names
+  -- a terminal that takes texts, and a format; a terminal that gives texts
   AWriter : (d format : ℕ) → Names
   AReader : (d : ℕ) → Names
   AnInput : (d : ℕ) → Names
@@ -112,6 +114,7 @@ pub data Way : Type 0 where
   Returns : Way
   Finishes : Way
 
+-- what keeps its limits: a list of semaphores, bounds, or a format
 pub data Limits : Type 0 where
   NoLimits : Limits
   OfSemaphores : (list : List ℕ) → Limits
