@@ -20,7 +20,7 @@ use Rattle.pearl_instructions.specs.Lawful.{IsObject}
 use Rattle.pearl_instructions.specs.Valid.{unsound, IsValid}
 use Rattle.pearl_meaning.specs.Programs.{offer}
 use Rattle.pearl_meaning.specs.ProgramRuns.{source_run}
-use Rattle.pearl_engine.specs.Engines.{machine_run, marked}
+use Rattle.pearl_instructions.specs.Engines.{machine_run, marked}
 use Rattle.pearl_gen_stmt.specs.Generated.{last_of, IsCode, IsGenerated}
 use Rattle.pearl_faithful.specs.Faithful.{IsFaithfulTo}
 use Rattle.pearl_faithful.specs.Laws.{FaithfulPrograms}

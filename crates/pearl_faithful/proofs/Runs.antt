@@ -16,10 +16,10 @@ use Rattle.pearl_instructions.specs.declared.object.Object.{Object}
 use Rattle.pearl_instructions.specs.Lawful.{IsObject}
 use Rattle.pearl_instructions.specs.Valid.{IsValid}
 use Rattle.pearl_meaning.specs.Programs.{offer}
-use Rattle.pearl_engine.specs.Setups.{entry_of, setup_of}
-use Rattle.pearl_engine.specs.Engines.{engine, total_rows, marked}
-use Rattle.pearl_engine.specs.Owners.{rows_left}
-use Rattle.pearl_engine.specs.Laws.{AreTables}
+use Rattle.pearl_instructions.specs.Setups.{entry_of, setup_of}
+use Rattle.pearl_instructions.specs.Engines.{engine, total_rows, marked}
+use Rattle.pearl_instructions.specs.Owners.{rows_left}
+use Rattle.pearl_instructions.specs.RunLaws.{AreTables}
 use Rattle.pearl_gen_stmt.specs.Generated.{IsGenerated}
 use Rattle.pearl_faithful.specs.Laws.{SameRuns, TasksStand, TasksOfferSoon, FaithfulPrograms, ObjectsFinish, ObjectsKeepKinds, ObjectsRun, ObjectsEndAlike}
 use Rattle.pearl_faithful.specs.Standing.{Stands}

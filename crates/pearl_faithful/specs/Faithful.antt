@@ -9,8 +9,8 @@ use Rattle.pearl_instructions.specs.declared.object.Object.{Object}
 use Rattle.pearl_meaning.specs.Programs.{offer}
 use Rattle.pearl_meaning.specs.ProgramRuns as program
 use Rattle.pearl_meaning.specs.ProgramRuns.{source_run}
-use Rattle.pearl_engine.specs.Setups.{setup_of}
-use Rattle.pearl_engine.specs.Engines.{engine, total_rows, machine_run, marked}
+use Rattle.pearl_instructions.specs.Setups.{setup_of}
+use Rattle.pearl_instructions.specs.Engines.{engine, total_rows, machine_run, marked}
 
 -- the object has the program's tables, and its code runs as the program's task rules say
 pub record IsFaithfulTo (p : PlainProg) (o : Object) : Type 0 where

@@ -14,9 +14,9 @@ use Rattle.pearl_instructions.specs.Valid.{IsValid}
 use Rattle.pearl_meaning.specs.Programs.{offer}
 use Rattle.pearl_meaning.specs.ProgramRuns as program
 use Rattle.pearl_meaning.specs.ProgramRuns.{source_run}
-use Rattle.pearl_engine.specs.Setups.{setup_of}
-use Rattle.pearl_engine.specs.Engines.{engine, total_rows, machine_run}
-use Rattle.pearl_engine.specs.Owners.{rows_left}
+use Rattle.pearl_instructions.specs.Setups.{setup_of}
+use Rattle.pearl_instructions.specs.Engines.{engine, total_rows, machine_run}
+use Rattle.pearl_instructions.specs.Owners.{rows_left}
 use Rattle.pearl_gen_expr.specs.Tables.{HasTables}
 use Rattle.pearl_gen_stmt.specs.Generated.{IsGenerated}
 use Rattle.pearl_faithful.specs.Faithful.{IsFaithfulTo, RunsAlike, EndsAlike, Finishes}

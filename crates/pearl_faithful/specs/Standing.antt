@@ -6,7 +6,7 @@ use Rattle.pearl_program.specs.PlainPrograms.{PlainProg}
 use Rattle.pearl_instructions.specs.declared.object.Object.{Object}
 use Rattle.pearl_meaning.specs.Programs.{offer}
 use Rattle.pearl_meaning.specs.Hearing.{Heard}
-use Rattle.pearl_engine.specs.Owners.{StandsIn}
+use Rattle.pearl_instructions.specs.Owners.{StandsIn}
 use Rattle.pearl_gen_stmt.specs.Offering.{OffersAfter}
 
 -- The stack is the task's own, the task can have had these answers, and from there on its code offers what the task

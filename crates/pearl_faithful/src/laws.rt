@@ -2,7 +2,7 @@
 
 ghost use Rattle.pearl_faithful.specs.Laws.{SameTables, SameRuns, TasksStand, TasksOfferSoon, FaithfulPrograms, ObjectsFinish, ObjectsKeepKinds, ObjectsRun, ObjectsEndAlike};
 
-use pearl_engine::laws;
+use pearl_instructions::runs;
 use pearl_gen_stmt::laws::tasks_offer;
 
 /// The tables from which an object's run starts are those of its program.
@@ -21,13 +21,13 @@ pub fn tasks_stand()
     ensures alone { TasksStand }
     ensures soon { TasksOfferSoon }
 {
-    laws::tasks_begin();
-    laws::stacks_stay_a_tasks();
-    laws::answers_lead_to_stacks();
-    laws::answers_suit();
-    laws::offers_name_what_is_there();
-    laws::offers_fit_the_tables();
-    laws::actions_are_offered_soon();
+    runs::tasks_begin();
+    runs::stacks_stay_a_tasks();
+    runs::answers_lead_to_stacks();
+    runs::answers_suit();
+    runs::offers_name_what_is_there();
+    runs::offers_fit_the_tables();
+    runs::actions_are_offered_soon();
     tasks_offer();
 }
 
@@ -36,7 +36,7 @@ pub fn tasks_stand()
 pub fn faithful_programs()
     ensures { FaithfulPrograms }
 {
-    laws::tables_are_lawful();
+    runs::tables_are_lawful();
     tasks_stand();
 }
 
@@ -45,7 +45,7 @@ pub fn faithful_programs()
 pub fn objects_finish()
     ensures { ObjectsFinish }
 {
-    laws::tables_are_lawful();
+    runs::tables_are_lawful();
     tasks_stand();
 }
 
@@ -53,7 +53,7 @@ pub fn objects_finish()
 pub fn objects_keep_kinds()
     ensures { ObjectsKeepKinds }
 {
-    laws::tables_are_lawful();
+    runs::tables_are_lawful();
     tasks_stand();
 }
 

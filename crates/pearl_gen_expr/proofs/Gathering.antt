@@ -18,7 +18,8 @@ use Rattle.pearl_instructions.specs.declared.object.Code.{Code}
 use Rattle.pearl_instructions.specs.declared.object.Procedure.{Procedure}
 use Rattle.pearl_instructions.specs.declared.object.Object.{Object}
 use Rattle.pearl_instructions.specs.Objects.{is_task}
-use Rattle.pearl_instructions.specs.Operands.{Shape, Anything, SomeFixed, v2, arguments_asked, same_shape}
+use Rattle.pearl_instructions.specs.Opcodes.{Anything, SomeFixed}
+use Rattle.pearl_instructions.specs.Operands.{Shape, v2, arguments_asked, same_shape}
 use Rattle.pearl_instructions.specs.Kinds.{suits_parameters}
 use Rattle.pearl_instructions.specs.Valid.{extent, elements, is_array, call_fits, result_shape}
 use Rattle.pearl_gen_expr.specs.ExprCode.{bounds_of}

@@ -23,7 +23,8 @@ use Rattle.pearl_instructions.specs.declared.object.Code.{Code}
 use Rattle.pearl_instructions.specs.declared.object.Object.{Object}
 use Rattle.pearl_instructions.specs.Objects.{items_at}
 use Rattle.pearl_instructions.specs.Offers.{as_start, start_or_free, start_kinds, repeat_kinds, takes_kind, item_suits, items_suit}
-use Rattle.pearl_instructions.specs.Operands.{Shape, Anything, Exactly, is_reference, same_cell, v2, scheduled, priority_asked, values_asked}
+use Rattle.pearl_instructions.specs.Opcodes.{Anything, Exactly, scheduled, priority_asked}
+use Rattle.pearl_instructions.specs.Operands.{Shape, is_reference, same_cell, v2, values_asked}
 use Rattle.pearl_instructions.specs.Named.{has_cells, takes_texts, gives_texts, names_interrupt, has_read_cells, read_cells}
 use Rattle.pearl_instructions.specs.Valid.{plain_kinds, suits_format, values_suit, cells_suit}
 use Rattle.pearl_gen_expr.specs.Shapes.{Keeps, handed}

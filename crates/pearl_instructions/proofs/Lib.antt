@@ -26,3 +26,9 @@ mod ExampleDevices
 mod ExampleRest
 mod Silence
 mod SlotTable
+pub mod Slots
+pub mod Tables
+pub mod FitTables
+pub mod Stands
+pub mod Soon
+mod ExampleRun

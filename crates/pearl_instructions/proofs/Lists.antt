@@ -14,7 +14,8 @@ use Rattle.pearl_value.specs.WellFormed.{IsValue, IsValueOf}
 use Rattle.pearl_instructions.specs.declared.object.Object.{Object}
 use Rattle.pearl_instructions.specs.Lawful.{IsCellKind}
 use Rattle.pearl_instructions.specs.Offers.{value_kinds}
-use Rattle.pearl_instructions.specs.Operands.{Shape, Exactly, same_cell, scheduled, v2}
+use Rattle.pearl_instructions.specs.Opcodes.{Exactly, scheduled}
+use Rattle.pearl_instructions.specs.Operands.{Shape, same_cell, v2}
 use Rattle.pearl_instructions.specs.Valid.{plain_kinds}
 use Rattle.pearl_instructions.specs.Stacks.{Suits}
 use Rattle.pearl_instructions.proofs.Tests.{and_true, same_cell_true}

@@ -34,7 +34,8 @@ use Rattle.pearl_instructions.specs.Objects.{items_at}
 use Rattle.pearl_instructions.specs.Steps.{Step, given, needed, taken, next, traps, acts}
 use Rattle.pearl_instructions.specs.Offers.{as_start, start_or_free, start_kinds, lasting, started, items_suit, value_kinds, put_text}
 use Rattle.pearl_instructions.specs.Rows.{act}
-use Rattle.pearl_instructions.specs.Operands.{Shape, Anything, values_asked, scheduled, v2}
+use Rattle.pearl_instructions.specs.Opcodes.{Anything, scheduled}
+use Rattle.pearl_instructions.specs.Operands.{Shape, values_asked, v2}
 use Rattle.pearl_instructions.specs.Named.{is_input, takes_texts, names_interrupt}
 use Rattle.pearl_instructions.specs.Kinds.{plain_kind, kind_sent, kind_taken, is_kind}
 use Rattle.pearl_instructions.specs.Valid.{plain_kinds, suits_format, values_suit}

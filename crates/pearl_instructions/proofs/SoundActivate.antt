@@ -22,7 +22,8 @@ use Rattle.pearl_instructions.specs.declared.object.Object.{Object}
 use Rattle.pearl_instructions.specs.Steps.{Step, acts}
 use Rattle.pearl_instructions.specs.Offers.{start_kinds, repeat_kinds, activation_count, started, repeated, with_priority}
 use Rattle.pearl_instructions.specs.Rows.{act}
-use Rattle.pearl_instructions.specs.Operands.{Shape, is_fixed, scheduled, priority_asked, v2}
+use Rattle.pearl_instructions.specs.Opcodes.{scheduled, priority_asked}
+use Rattle.pearl_instructions.specs.Operands.{Shape, is_fixed, v2}
 use Rattle.pearl_instructions.specs.Named.{names_interrupt}
 use Rattle.pearl_instructions.specs.Stacks.{routines_of, Suits}
 use Rattle.pearl_rules.specs.Slots.{IsRepeat}

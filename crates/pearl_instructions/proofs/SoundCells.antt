@@ -23,7 +23,8 @@ use Rattle.pearl_instructions.specs.declared.object.Object.{Object}
 use Rattle.pearl_instructions.specs.Steps.{Step, value_kind, traps, within}
 use Rattle.pearl_instructions.specs.Cells.{store, filled, cell_reference}
 use Rattle.pearl_instructions.specs.Rows.{act}
-use Rattle.pearl_instructions.specs.Operands.{Shape, meets, offset, v2}
+use Rattle.pearl_instructions.specs.Opcodes.{offset}
+use Rattle.pearl_instructions.specs.Operands.{Shape, meets, v2}
 use Rattle.pearl_instructions.specs.Named.{has_cells, cells_at}
 use Rattle.pearl_instructions.specs.Kinds.{is_kind, has_on_top, first_kind, is_uniform, reference_to}
 use Rattle.pearl_instructions.specs.Stacks.{routines_of, cell_kinds, plain_at, cell_kind, Suits, IsTop}

@@ -25,7 +25,8 @@ use Rattle.pearl_instructions.specs.Lawful.{IsCellKind, IsPlain, IsProcedure, Is
 use Rattle.pearl_instructions.specs.Steps.{Step, at, next}
 use Rattle.pearl_instructions.specs.Flow as flow
 use Rattle.pearl_instructions.specs.Rows.{act}
-use Rattle.pearl_instructions.specs.Operands.{Shape, Anything, Exactly, is_fixed, meets, same_shape, arguments_asked, v2}
+use Rattle.pearl_instructions.specs.Opcodes.{Anything, Exactly}
+use Rattle.pearl_instructions.specs.Operands.{Shape, is_fixed, meets, same_shape, arguments_asked, v2}
 use Rattle.pearl_instructions.specs.Named.{cells_at}
 use Rattle.pearl_instructions.specs.Kinds.{is_uniform, are_fixed, suits_parameters, shape_after}
 use Rattle.pearl_instructions.specs.Valid.{shape_before, result_shape, IsValid}

@@ -19,7 +19,8 @@ use Rattle.pearl_instructions.specs.declared.object.Object.{Object}
 use Rattle.pearl_instructions.specs.Steps.{given, makes}
 use Rattle.pearl_instructions.specs.Operators.{numbers_of, offset_of, index_of}
 use Rattle.pearl_instructions.specs.Rows.{act}
-use Rattle.pearl_instructions.specs.Operands.{Shape, SomeFixed, is_fixed, v2}
+use Rattle.pearl_instructions.specs.Opcodes.{SomeFixed}
+use Rattle.pearl_instructions.specs.Operands.{Shape, is_fixed, v2}
 use Rattle.pearl_instructions.specs.Valid.{extent, elements}
 use Rattle.pearl_instructions.specs.Stacks.{routines_of, Suits}
 use Rattle.pearl_instructions.proofs.Tests.{and_true}

@@ -2,22 +2,20 @@
 use Rattle.std.specs.Prelude.{ℕ, Bool, true, false, ◌&&◌, not, List, [], ◌∷◌, ◌++◌, Option, Some, None, is_some, option_map, option_and_then, option_to_list, length, take, drop, reverse, slice_get}
 use Rattle.std.specs.List.{list_all}
 use Rattle.pearl_value.specs.declared.kind.Kind.{Kind}
-use Rattle.pearl_value.specs.declared.kind.Kind.TheVariants as kind
 use Rattle.pearl_value.specs.declared.kind.CellKind.{CellKind}
 use Rattle.pearl_value.specs.declared.kind.CellKind.TheVariants.{Plain, RefTo}
 use Rattle.pearl_value.specs.declared.operator.Monad.{Monad}
 use Rattle.pearl_value.specs.declared.operator.Dyad.{Dyad}
-use Rattle.pearl_value.specs.Cells.{cell_kind_of}
 use Rattle.pearl_value.specs.Rows.{row1, row2}
 use Rattle.pearl_value.specs.declared.device.Device.{Device}
 use Rattle.pearl_value.specs.declared.device.Device.TheVariants.{Input, Output}
 use Rattle.pearl_instructions.specs.declared.instr.Instr.{Instr}
-use Rattle.pearl_instructions.specs.declared.instr.Instr.TheVariants.{Const, Load, Store, Fill, Conv, Index, LoadAt, StoreAt, Read, Write, ReadAt, WriteAt, RefSlot, RefSlotAt, RefCell, RefCellAt, ReadRef, WriteRef, Call, Within, Advance, NonZero, Monadic, Dyadic, Now, Try, Take, Send}
 use Rattle.pearl_instructions.specs.declared.object.Leaf.{Leaf}
 use Rattle.pearl_instructions.specs.declared.object.Code.{Code}
 use Rattle.pearl_instructions.specs.declared.object.Procedure.{Procedure}
 use Rattle.pearl_instructions.specs.declared.object.Object.{Object}
 use Rattle.pearl_value.specs.Conversions.{suits_kind}
+use Rattle.pearl_instructions.specs.Opcodes.{Exact, AnyKinds, KindOfCells, KindOfLeaf, KindReferred, KindSent, KindsOfParameters, CellsOf, FixedCells, Operation, NoOperation, Conversion, OnOne, OnTwo, Pushes, NoValue, Made, AValue, OfCell, OfLeaf, ToCell, ToLeaf, OfReferred, SameAgain, OfProcedure, OfInput, opcode}
 use Rattle.pearl_instructions.specs.Operands.{Shape, same_cell, same_shape, is_fixed, is_reference, asked}
 use Rattle.pearl_instructions.specs.Named.{get_cells, range_of}
 
@@ -38,12 +36,15 @@ abbrev pub converts : Kind → Shape → Bool
 converts to (Plain from ∷ left) = suits_kind from to
 converts to s = false
 
+abbrev pub applies : Operation → Shape → Bool
+applies NoOperation s = true
+applies (Conversion to) s = converts to s
+applies (OnOne op) s = is_some (monadic_kind op s)
+applies (OnTwo op) s = is_some (dyadic_kind op s)
+
 -- V3: an operator has a row for the kinds, and a conversion's kinds suit
 abbrev pub v3 : Instr → Shape → Bool
-v3 (Conv to) s = converts to s
-v3 (Monadic op) s = is_some (monadic_kind op s)
-v3 (Dyadic op) s = is_some (dyadic_kind op s)
-v3 instr s = true
+v3 instr s = applies (opcode instr).operation s
 
 abbrev pub kind_sent : Option Device → Option CellKind
 kind_sent (Some (Output number of)) = Some (Plain of)
@@ -90,19 +91,19 @@ are_fixed kinds = list_all is_fixed kinds
 abbrev pub first_kind : List CellKind → Option CellKind
 first_kind kinds = slice_get kinds 0
 
+abbrev pub is_exact : Object → List CellKind → Exact → Shape → Bool
+is_exact o cells AnyKinds s = true
+is_exact o cells KindOfCells s = has_on_top s (first_kind cells)
+is_exact o cells (KindOfLeaf v) s = has_on_top s (leaf_kind (slice_get o.leaves v))
+is_exact o cells KindReferred s = suits_reference s
+is_exact o cells (KindSent d) s = has_on_top s (kind_sent (slice_get o.devices d))
+is_exact o cells (KindsOfParameters p) s = suits_parameters (slice_get o.procedures p) s
+is_exact o cells (CellsOf of) s = is_kind (Plain of) (first_kind cells)
+is_exact o cells FixedCells s = are_fixed cells
+
 -- a value's kind is exactly that of the cell, leaf, reference, parameter or device; the cells of a loop are FIXED
 abbrev pub suits_exactly : Object → Code → Instr → Shape → Bool
-suits_exactly o code (Store c) s = has_on_top s (first_kind (range_of code (Store c)))
-suits_exactly o code (StoreAt c n) s = has_on_top s (first_kind (range_of code (StoreAt c n)))
-suits_exactly o code (Fill c n of) s = is_kind (Plain of) (first_kind (range_of code (Fill c n of)))
-suits_exactly o code (Write v) s = has_on_top s (leaf_kind (slice_get o.leaves v))
-suits_exactly o code (WriteAt v) s = has_on_top s (leaf_kind (slice_get o.leaves v))
-suits_exactly o code WriteRef s = suits_reference s
-suits_exactly o code (Call p) s = suits_parameters (slice_get o.procedures p) s
-suits_exactly o code (Within c) s = are_fixed (range_of code (Within c))
-suits_exactly o code (Advance c i) s = are_fixed (range_of code (Advance c i))
-suits_exactly o code (Send d) s = has_on_top s (kind_sent (slice_get o.devices d))
-suits_exactly o code instr s = true
+suits_exactly o code instr s = is_exact o (range_of code instr) (opcode instr).exact s
 
 -- V4: exact kinds, and ranges of one kind
 abbrev pub v4 : Object → Code → Instr → Shape → Bool
@@ -116,29 +117,28 @@ abbrev pub reference_to : CellKind → CellKind
 reference_to (Plain of) = RefTo of
 reference_to (RefTo of) = RefTo of
 
+abbrev pub kind_made : Operation → Shape → Option CellKind
+kind_made NoOperation s = None
+kind_made (Conversion to) s = Some (Plain to)
+kind_made (OnOne op) s = option_map Plain (monadic_kind op s)
+kind_made (OnTwo op) s = option_map Plain (dyadic_kind op s)
+
+abbrev pub kind_pushed : Object → Code → Operation → Pushes → Shape → Option CellKind
+kind_pushed o code by NoValue s = None
+kind_pushed o code by Made s = kind_made by s
+kind_pushed o code by (AValue k) s = Some k
+kind_pushed o code by (OfCell c) s = slice_get code.cells c
+kind_pushed o code by (OfLeaf v) s = leaf_kind (slice_get o.leaves v)
+kind_pushed o code by (ToCell c) s = option_map reference_to (slice_get code.cells c)
+kind_pushed o code by (ToLeaf v) s = option_map reference_to (leaf_kind (slice_get o.leaves v))
+kind_pushed o code by OfReferred s = option_map referred (first_kind s)
+kind_pushed o code by SameAgain s = first_kind s
+kind_pushed o code by (OfProcedure p) s = option_map Plain (option_and_then (λ callee. callee.result) (slice_get o.procedures p))
+kind_pushed o code by (OfInput d) s = kind_taken (slice_get o.devices d)
+
 -- the kind of what an instruction pushes, where it pushes something
 abbrev pub pushed_kind : Object → Code → Instr → Shape → Option CellKind
-pushed_kind o code (Const x) s = Some (cell_kind_of x.value)
-pushed_kind o code (Load c) s = slice_get code.cells c
-pushed_kind o code (Conv to) s = Some (Plain to)
-pushed_kind o code (Index bounds) s = Some (Plain (kind.Fixed 31))
-pushed_kind o code (LoadAt c n) s = slice_get code.cells c
-pushed_kind o code (Read v) s = leaf_kind (slice_get o.leaves v)
-pushed_kind o code (ReadAt v) s = leaf_kind (slice_get o.leaves v)
-pushed_kind o code (RefSlot v) s = option_map reference_to (leaf_kind (slice_get o.leaves v))
-pushed_kind o code (RefSlotAt v) s = option_map reference_to (leaf_kind (slice_get o.leaves v))
-pushed_kind o code (RefCell c) s = option_map reference_to (slice_get code.cells c)
-pushed_kind o code (RefCellAt c n) s = option_map reference_to (slice_get code.cells c)
-pushed_kind o code ReadRef s = option_map referred (first_kind s)
-pushed_kind o code (Call p) s = option_map Plain (option_and_then (λ callee. callee.result) (slice_get o.procedures p))
-pushed_kind o code (Within c) s = Some (Plain (kind.Bits 1))
-pushed_kind o code NonZero s = first_kind s
-pushed_kind o code (Monadic op) s = option_map Plain (monadic_kind op s)
-pushed_kind o code (Dyadic op) s = option_map Plain (dyadic_kind op s)
-pushed_kind o code Now s = Some (Plain kind.Clock)
-pushed_kind o code (Try semaphore) s = Some (Plain (kind.Bits 1))
-pushed_kind o code (Take d) s = kind_taken (slice_get o.devices d)
-pushed_kind o code instr s = None
+pushed_kind o code instr s = kind_pushed o code (opcode instr).operation (opcode instr).pushes s
 
 -- the shape below an instruction's operands
 abbrev pub below : Object → ℕ → Instr → Shape → Shape

@@ -10,13 +10,13 @@ use Rattle.pearl_format.specs.Items.{IsFormat}
 use Rattle.pearl_value.specs.Devices.{IsDevice}
 use Rattle.pearl_value.specs.Devices as device_list
 use Rattle.pearl_instructions.specs.declared.instr.Instr.{Instr}
-use Rattle.pearl_instructions.specs.declared.instr.Instr.TheVariants.{Const, Fill, Conv}
 use Rattle.pearl_instructions.specs.declared.object.Leaf.{Leaf}
 use Rattle.pearl_instructions.specs.declared.object.Shape.{Shape as Stated}
 use Rattle.pearl_instructions.specs.declared.object.Code.{Code}
 use Rattle.pearl_instructions.specs.declared.object.Procedure.{Procedure}
 use Rattle.pearl_instructions.specs.declared.object.Task.{Task}
 use Rattle.pearl_instructions.specs.declared.object.Object.{Object}
+use Rattle.pearl_instructions.specs.Opcodes.{Held, NothingHeld, Literal, OfKind, opcode}
 
 abbrev pub IsCellKind : CellKind → Type 0
 IsCellKind (Plain of) = IsKind of
@@ -35,12 +35,14 @@ pub record IsLeaf (leaf : Leaf) : Type 0 where
   pub constants : AllByRecursion (IsValueOf leaf.kind) leaf.constants
   pub few : length leaf.constants ≤ leaf.slots
 
+abbrev pub IsHeld : Held → Type 0
+IsHeld NothingHeld = Unit {0}
+IsHeld (Literal x) = IsValue x
+IsHeld (OfKind of) = IsKind of
+
 -- literals are values, and kinds are kinds
 abbrev pub IsInstr : Instr → Type 0
-IsInstr (Const x) = IsValue x.value
-IsInstr (Fill c n of) = IsKind of
-IsInstr (Conv to) = IsKind to
-IsInstr instr = Unit {0}
+IsInstr instr = IsHeld (opcode instr).holds
 
 -- the numbers of the instructions whose shape is stated rise
 abbrev pub AreRising : List Stated → Type 0

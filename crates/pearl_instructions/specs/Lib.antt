@@ -12,6 +12,8 @@ pub mod Operators
 pub mod Offers
 -- one row for each instruction, and what runs of rows are
 pub mod Rows
+-- what each opcode holds, names, takes and pushes, where it leads and what its limits are: one row each
+pub mod Opcodes
 -- which operands each instruction takes, and of which sorts
 pub mod Operands
 -- which numbers an instruction may name, and which cells it names
@@ -32,3 +34,11 @@ pub mod Lawful
 pub mod Slots
 -- what holds of every valid object
 pub mod Laws
+-- the tables from which an object's run starts
+pub mod Setups
+-- how an object's code runs, and how the object runs over a journal's entries
+pub mod Engines
+-- whose stack a task's code stands with, and how soon it offers an action
+pub mod Owners
+-- what holds of the runs of valid objects
+pub mod RunLaws

@@ -1,5 +1,5 @@
 -- Which operands each instruction takes from the end of the shape before it. A shape has the kinds of the operands, from the top down.
-use Rattle.std.specs.Prelude.{ℕ, Bool, true, false, ◌&&◌, ◌==◌, List, [], ◌∷◌, ◌++◌, Option, Some, None, length, map, reverse, replicate, slice_get}
+use Rattle.std.specs.Prelude.{ℕ, Bool, true, false, ◌&&◌, ◌==◌, List, [], ◌∷◌, Option, Some, None, replicate, slice_get}
 use Rattle.pearl_value.specs.declared.kind.Kind.{Kind}
 use Rattle.pearl_value.specs.declared.kind.Kind.TheVariants as kind
 use Rattle.pearl_value.specs.declared.kind.CellKind.{CellKind}
@@ -7,21 +7,13 @@ use Rattle.pearl_value.specs.declared.kind.CellKind.TheVariants.{Plain, RefTo}
 use Rattle.pearl_format.specs.declared.item.Item.{Item}
 use Rattle.pearl_format.specs.Items.{data_count}
 use Rattle.pearl_instructions.specs.declared.instr.Instr.{Instr}
-use Rattle.pearl_instructions.specs.declared.instr.Instr.TheVariants.{Store, Drop, Conv, Index, LoadAt, StoreAt, Write, ReadAt, WriteAt, RefSlotAt, RefCellAt, ReadRef, WriteRef, JumpZero, Case, Call, Return, NonZero, Monadic, Dyadic, Activate, Continue, Resume, Put, Send}
 use Rattle.pearl_instructions.specs.declared.object.Procedure.{Procedure}
 use Rattle.pearl_instructions.specs.declared.object.Object.{Object}
 use Rattle.pearl_instructions.specs.Objects.{items_at, result_of}
-use Rattle.pearl_instructions.specs.Offers.{as_start, start_or_free, start_kinds, repeat_kinds}
+use Rattle.pearl_instructions.specs.Opcodes.{Asked, Anything, SomeFixed, SomeReference, Exactly, Takes, These, Arguments, OwnResult, Values, opcode}
 
 abbrev pub Shape : Type 0
 Shape = List CellKind
-
--- what the table asks of an operand
-pub data Asked : Type 0 where
-  Anything : Asked
-  SomeFixed : Asked
-  SomeReference : Asked
-  Exactly : (of : Kind) → Asked
 
 abbrev pub same_kind : Kind → Kind → Bool
 same_kind (kind.Fixed a) (kind.Fixed b) = a == b
@@ -55,17 +47,6 @@ meets SomeFixed k = is_fixed k
 meets SomeReference k = is_reference k
 meets (Exactly of) k = same_cell (Plain of) k
 
-abbrev pub offset : Asked
-offset = Exactly (kind.Fixed 31)
-
--- values of a schedule, the top one first
-abbrev pub scheduled : List Kind → List Asked
-scheduled kinds = reverse (map Exactly kinds)
-
-abbrev pub priority_asked : Bool → List Asked
-priority_asked true = SomeFixed ∷ []
-priority_asked false = []
-
 abbrev pub arguments_asked : Option Procedure → List Asked
 arguments_asked None = []
 arguments_asked (Some procedure) = replicate procedure.params Anything
@@ -78,34 +59,15 @@ abbrev pub result_asked : Option Kind → List Asked
 result_asked None = []
 result_asked (Some of) = Anything ∷ []
 
+abbrev pub taken_by : Object → ℕ → Takes → List Asked
+taken_by o r (These wants) = wants
+taken_by o r (Arguments p) = arguments_asked (slice_get o.procedures p)
+taken_by o r OwnResult = result_asked (result_of o r)
+taken_by o r (Values format) = values_asked (items_at o format)
+
 -- what an instruction of routine r asks of the operands, the top one first
 abbrev pub asked : Object → ℕ → Instr → List Asked
-asked o r (Store c) = Anything ∷ []
-asked o r Drop = Anything ∷ []
-asked o r (Conv to) = Anything ∷ []
-asked o r (Index bounds) = replicate (length bounds.value) SomeFixed
-asked o r (LoadAt c n) = offset ∷ []
-asked o r (StoreAt c n) = Anything ∷ offset ∷ []
-asked o r (Write v) = Anything ∷ []
-asked o r (ReadAt v) = offset ∷ []
-asked o r (WriteAt v) = Anything ∷ offset ∷ []
-asked o r (RefSlotAt v) = offset ∷ []
-asked o r (RefCellAt c n) = offset ∷ []
-asked o r ReadRef = SomeReference ∷ []
-asked o r WriteRef = Anything ∷ SomeReference ∷ []
-asked o r (JumpZero i) = Exactly (kind.Bits 1) ∷ []
-asked o r (Case targets) = SomeFixed ∷ []
-asked o r (Call p) = arguments_asked (slice_get o.procedures p)
-asked o r Return = result_asked (result_of o r)
-asked o r NonZero = SomeFixed ∷ []
-asked o r (Monadic op) = Anything ∷ []
-asked o r (Dyadic op) = Anything ∷ Anything ∷ []
-asked o r (Activate a) = priority_asked a.value.priority ++ scheduled (start_kinds a.value.start ++ repeat_kinds a.value.repeat)
-asked o r (Continue c) = scheduled (start_kinds (start_or_free c.value.once))
-asked o r (Resume form) = scheduled (start_kinds (as_start form))
-asked o r (Put d format) = values_asked (items_at o format)
-asked o r (Send d) = Anything ∷ []
-asked o r instr = []
+asked o r instr = taken_by o r (opcode instr).takes
 
 -- V2: the shape's end is what the table asks
 abbrev pub v2 : List Asked → Shape → Bool

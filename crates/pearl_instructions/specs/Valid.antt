@@ -8,32 +8,35 @@ use Rattle.pearl_format.specs.declared.item.Item.{Item}
 use Rattle.pearl_format.specs.Items.{data_count, text_width}
 use Rattle.pearl_instructions.specs.declared.instr.Bounds.{Bounds}
 use Rattle.pearl_instructions.specs.declared.instr.Instr.{Instr}
-use Rattle.pearl_instructions.specs.declared.instr.Instr.TheVariants.{Index, Jump, JumpZero, Case, Turn, Call, Return, End, Trap, Advance, Request, Release, TerminateOwn, Put, Get}
+use Rattle.pearl_instructions.specs.declared.instr.Instr.TheVariants.{Turn}
 use Rattle.pearl_instructions.specs.declared.object.Shape.{Shape as Stated}
 use Rattle.pearl_instructions.specs.declared.object.Code.{Code}
 use Rattle.pearl_instructions.specs.declared.object.Procedure.{Procedure}
 use Rattle.pearl_instructions.specs.declared.object.Object.{Object}
 use Rattle.pearl_instructions.specs.Objects.{routine_at, is_task, result_of, items_at}
 use Rattle.pearl_instructions.specs.Offers.{items_suit}
+use Rattle.pearl_instructions.specs.Opcodes.{Targets, NoTarget, Target, AnyTarget, Way, GoesOn, Stops, Returns, Finishes, Limits, NoLimits, OfSemaphores, OfBounds, OfValues, OfCells, opcode}
 use Rattle.pearl_instructions.specs.Operands.{Shape, same_shape, asked, v2}
-use Rattle.pearl_instructions.specs.Named.{v1, get_cells}
+use Rattle.pearl_instructions.specs.Named.{v1, read_cells}
 use Rattle.pearl_instructions.specs.Kinds.{plain_kind, v3, v4, v5, shape_after}
 
+abbrev pub leads_on : Way → Bool
+leads_on GoesOn = true
+leads_on Stops = false
+leads_on Returns = false
+leads_on Finishes = false
+
 abbrev pub goes_on : Instr → Bool
-goes_on (Jump i) = false
-goes_on Return = false
-goes_on End = false
-goes_on (Trap trap) = false
-goes_on TerminateOwn = false
-goes_on instr = true
+goes_on instr = leads_on (opcode instr).way
+
+abbrev pub targets_of : Targets → List ℕ
+targets_of NoTarget = []
+targets_of (Target i) = i ∷ []
+targets_of (AnyTarget list) = list
 
 -- the instructions to which an instruction may jump
 abbrev pub targets : Instr → List ℕ
-targets (Jump i) = i ∷ []
-targets (JumpZero i) = i ∷ []
-targets (Case list) = list.value
-targets (Advance c i) = i ∷ []
-targets instr = []
+targets instr = targets_of (opcode instr).targets
 
 -- a jump names instruction i
 abbrev pub is_named : List Instr → ℕ → Bool
@@ -74,29 +77,40 @@ is_turn other = false
 abbrev pub v7 : Code → ℕ → Instr → Bool
 v7 code i instr = list_all (λ t. nat_lt i t || is_turn (slice_get code.instructions t)) (targets instr)
 
+abbrev pub calls_smaller : Object → ℕ → Option ℕ → Bool
+calls_smaller o r None = true
+calls_smaller o r (Some p) = is_task o r || nat_lt p r
+
 -- V8: a procedure calls smaller numbers
 abbrev pub v8 : Object → ℕ → Instr → Bool
-v8 o r (Call p) = is_task o r || nat_lt p r
-v8 o r instr = true
+v8 o r instr = calls_smaller o r (opcode instr).calls
 
 abbrev pub result_shape : Option Kind → Shape
 result_shape result = option_to_list (option_map Plain result)
 
+abbrev pub ends_well : Object → ℕ → Way → Shape → Bool
+ends_well o r GoesOn s = true
+ends_well o r Stops s = true
+ends_well o r Returns s = not (is_task o r) && same_shape s (result_shape (result_of o r))
+ends_well o r Finishes s = is_task o r && same_shape s []
+
 -- V10: a procedure returns just its result, and a task ends with no operand
 abbrev pub v10 : Object → ℕ → Instr → Shape → Bool
-v10 o r Return s = not (is_task o r) && same_shape s (result_shape (result_of o r))
-v10 o r End s = is_task o r && same_shape s []
-v10 o r instr s = true
+v10 o r instr s = ends_well o r (opcode instr).way s
 
 -- with the cells, the shape below the arguments and the callee's depth
 abbrev pub call_fits : Code → Option Procedure → Shape → Bool
 call_fits code None s = true
 call_fits code (Some callee) s = nat_le (length code.cells + length (drop callee.params s) + callee.code.depth) code.depth
 
+abbrev pub keeps_depth : Object → Code → Option ℕ → Shape → Bool
+keeps_depth o code None s = nat_le (length code.cells + length s) code.depth
+keeps_depth o code (Some p) s =
+    nat_le (length code.cells + length s) code.depth && call_fits code (slice_get o.procedures p) s
+
 -- V11: cells and operands stay within the stated depth, over calls too
 abbrev pub v11 : Object → Code → Instr → Shape → Bool
-v11 o code (Call p) s = nat_le (length code.cells + length s) code.depth && call_fits code (slice_get o.procedures p) s
-v11 o code instr s = nat_le (length code.cells + length s) code.depth
+v11 o code instr s = keeps_depth o code (opcode instr).calls s
 
 abbrev pub is_repeated : ℕ → List ℕ → Bool
 is_repeated n ns = list_any (λ m. m == n) ns
@@ -138,14 +152,16 @@ abbrev pub cells_suit : Option (List Item) → List CellKind → Bool
 cells_suit None cells = false
 cells_suit (Some items) cells = suits_format items (plain_kinds cells)
 
+abbrev pub keeps_limits : Object → Code → Limits → Shape → Bool
+keeps_limits o code NoLimits s = true
+keeps_limits o code (OfSemaphores list) s = is_semaphore_list list
+keeps_limits o code (OfBounds bounds) s = is_array bounds
+keeps_limits o code (OfValues format) s = values_suit (items_at o format) s
+keeps_limits o code (OfCells c format) s = cells_suit (items_at o format) (read_cells code c (items_at o format))
+
 -- V12: lists of semaphores, bounds and formats keep their limits
 abbrev pub v12 : Object → Code → Instr → Shape → Bool
-v12 o code (Request semaphores) s = is_semaphore_list semaphores.value
-v12 o code (Release semaphores) s = is_semaphore_list semaphores.value
-v12 o code (Index bounds) s = is_array bounds.value
-v12 o code (Put d format) s = values_suit (items_at o format) s
-v12 o code (Get g) s = cells_suit (items_at o g.value.format) (get_cells o code (Get g))
-v12 o code instr s = true
+v12 o code instr s = keeps_limits o code (opcode instr).limits s
 
 -- a rule, or where it is kept the least of those behind it
 abbrev pub keep : Bool → ℕ → Option ℕ → Option ℕ

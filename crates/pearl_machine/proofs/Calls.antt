@@ -16,8 +16,8 @@ use Rattle.pearl_rules.proofs.PickLaws.{states-offers}
 use Rattle.pearl_rules.proofs.EffectLaws.{millisecond-length, arrived-length}
 use Rattle.pearl_rules.proofs.ToldLaws.{millisecond-told_before, arrived-told_before}
 use Rattle.pearl_instructions.specs.declared.object.Object.{Object}
-use Rattle.pearl_engine.specs.Engines.{engine}
-use Rattle.pearl_engine.specs.Setups.{setup_of}
+use Rattle.pearl_instructions.specs.Engines.{engine}
+use Rattle.pearl_instructions.specs.Setups.{setup_of}
 use Rattle.pearl_script.specs.Lines.{event_line, state_line, report_line}
 use Rattle.pearl_script.specs.Words.{task_name}
 use Rattle.pearl_kernel.specs.Kept as kernel

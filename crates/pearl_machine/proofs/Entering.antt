@@ -15,8 +15,8 @@ use Rattle.pearl_io.proofs.Pieces.{takes_more, takes_front_more}
 use Rattle.pearl_stack.specs.Frames.{Frame}
 use Rattle.pearl_instructions.specs.declared.object.Object.{Object}
 use Rattle.pearl_instructions.specs.Rows.{row}
-use Rattle.pearl_engine.specs.Engines.{engine, stepped_by}
-use Rattle.pearl_engine.specs.Setups.{setup_of}
+use Rattle.pearl_instructions.specs.Engines.{engine, stepped_by}
+use Rattle.pearl_instructions.specs.Setups.{setup_of}
 use Rattle.pearl_script.specs.Lines.{lines_of, close_line}
 use Rattle.pearl_kernel.specs.Kept.{Kept, IsLawful, IsFirst}
 use Rattle.pearl_machine.specs.Parts.{start_of, going_frames, running_of, StepsPart, HasMemories}

@@ -4,7 +4,7 @@ use Rattle.pearl_rules.specs.declared.entry.Entry.{Entry}
 use Rattle.pearl_rules.specs.declared.entry.Entry.TheVariants.{Run, Tick, Pass, State}
 use Rattle.pearl_rules.specs.Core.{Report}
 use Rattle.pearl_rules.specs.Runs.{Mark, Acts, Tells, Passes, Arrives, Coming, next_mark, unsettled}
-use Rattle.pearl_engine.specs.Setups.{setup_of}
+use Rattle.pearl_instructions.specs.Setups.{setup_of}
 use Rattle.pearl_io.specs.Outside.{Takes}
 use Rattle.pearl_script.specs.Lines.{lines_of}
 use Rattle.pearl_machine.specs.Seen.{Seen, Handles, Makes, ActsFirst, PassesSome, picked, retold}

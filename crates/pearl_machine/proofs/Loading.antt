@@ -10,8 +10,8 @@ use Rattle.pearl_stack.specs.Frames.{Frame}
 use Rattle.pearl_instructions.specs.declared.object.Object.{Object}
 use Rattle.pearl_instructions.specs.Lawful.{IsObject}
 use Rattle.pearl_instructions.specs.Valid.{IsValid}
-use Rattle.pearl_engine.specs.Engines.{engine}
-use Rattle.pearl_engine.specs.Setups.{setup_of, entry_of}
+use Rattle.pearl_instructions.specs.Engines.{engine}
+use Rattle.pearl_instructions.specs.Setups.{setup_of, entry_of}
 use Rattle.pearl_kernel.specs.Kept.{Kept, IsLawful}
 use Rattle.pearl_machine.specs.Known.{Known}
 use Rattle.pearl_machine.specs.Parts.{HasMemories, shown, start_of, frames_if, stack_in, is_going, running_of}

@@ -12,7 +12,7 @@ use Rattle.pearl_rules.proofs.PickLaws.{pick-offers, states-offers, turned-is}
 use Rattle.pearl_rules.proofs.ToldLaws.{effect-told_before, turned-told_before}
 use Rattle.pearl_stack.specs.Frames.{Frame}
 use Rattle.pearl_instructions.specs.declared.object.Object.{Object}
-use Rattle.pearl_engine.specs.Engines.{engine}
+use Rattle.pearl_instructions.specs.Engines.{engine}
 use Rattle.pearl_kernel.specs.Kept as kernel
 use Rattle.pearl_kernel.specs.Kept.{Kept, IsLawful, AllSettled, offered, is_silent, is_unsettled}
 use Rattle.pearl_machine.specs.Parts.{shown, start_of, stack_in, is_going, running_of}

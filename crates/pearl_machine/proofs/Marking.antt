@@ -8,7 +8,7 @@ use Rattle.pearl_rules.specs.Effect.{Reply, Hears, Ends}
 use Rattle.pearl_rules.specs.Runs.{Running, kept, kept_at, refreshed, dropped, answered, fresh}
 use Rattle.pearl_stack.specs.Frames.{Frame}
 use Rattle.pearl_instructions.specs.declared.object.Object.{Object}
-use Rattle.pearl_engine.specs.Engines.{engine}
+use Rattle.pearl_instructions.specs.Engines.{engine}
 use Rattle.pearl_machine.specs.Parts.{shown, start_of, frames_if, going_frames, stack_in, is_going, running_of, heard_part}
 use Rattle.pearl_machine.specs.declared.part.Part.{Part}
 use Rattle.pearl_machine.proofs.Listed.{get_here, get_elsewhere, kept_here, kept_gone, kept_elsewhere}

@@ -20,10 +20,10 @@ use Rattle.pearl_instructions.specs.Rows.{row, lowest}
 use Rattle.pearl_instructions.specs.Stacks.{Below, routines_of, lowest_depth, depth_or_none, room}
 use Rattle.pearl_instructions.specs.Steps as steps
 use Rattle.pearl_instructions.specs.Valid.{keep, judged_at, judged_whole, is_closed, unsound_in, IsValid}
-use Rattle.pearl_engine.specs.Engines.{engine}
-use Rattle.pearl_engine.specs.Owners.{IsStackOf, StandsIn}
-use Rattle.pearl_engine.specs.Setups.{setup_of}
-use Rattle.pearl_engine.proofs.Stands.{offers_is}
+use Rattle.pearl_instructions.specs.Engines.{engine}
+use Rattle.pearl_instructions.specs.Owners.{IsStackOf, StandsIn}
+use Rattle.pearl_instructions.specs.Setups.{setup_of}
+use Rattle.pearl_instructions.proofs.Stands.{offers_is}
 use Rattle.pearl_solo.specs.Answered.{CanHear}
 use Rattle.pearl_machine.specs.declared.part.Part.{Part}
 use Rattle.pearl_machine.specs.Known.{Known}

@@ -9,8 +9,8 @@ use Rattle.pearl_rules.specs.Runs.{Running, Machine, Mark, Passes, kept, kept_at
 use Rattle.pearl_rules.proofs.ToldLaws.{millisecond-told_before}
 use Rattle.pearl_stack.specs.Frames.{Frame}
 use Rattle.pearl_instructions.specs.declared.object.Object.{Object}
-use Rattle.pearl_engine.specs.Engines.{engine}
-use Rattle.pearl_engine.specs.Setups.{setup_of}
+use Rattle.pearl_instructions.specs.Engines.{engine}
+use Rattle.pearl_instructions.specs.Setups.{setup_of}
 use Rattle.pearl_kernel.specs.Kept.{Kept, IsLawful, AllSettled, offered}
 use Rattle.pearl_kernel.specs.Timing.{IsQuiet}
 use Rattle.pearl_kernel.proofs.Passing.{millisecond-silent}

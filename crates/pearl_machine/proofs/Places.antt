@@ -7,7 +7,7 @@ use Rattle.pearl_rules.specs.Core.{Core, is_active, is_active_row}
 use Rattle.pearl_rules.specs.Runs.{Running, kept, kept_at, refreshed, fresh, offer_of, unsettled_from}
 use Rattle.pearl_stack.specs.Frames.{Frame, Stack}
 use Rattle.pearl_instructions.specs.declared.object.Object.{Object}
-use Rattle.pearl_engine.specs.Engines.{engine}
+use Rattle.pearl_instructions.specs.Engines.{engine}
 use Rattle.pearl_machine.specs.Parts.{shown, start_of, going_frames, running_of}
 use Rattle.pearl_machine.specs.Seen.{IsUnsettled}
 use Rattle.pearl_machine.specs.declared.part.Part.{Part}

@@ -10,9 +10,9 @@ use Rattle.pearl_rules.specs.Pick.{states}
 use Rattle.pearl_rules.specs.Runs.{Running, Offers, kept_at, unsettled}
 use Rattle.pearl_stack.specs.Frames.{Frame, Stack}
 use Rattle.pearl_instructions.specs.declared.object.Object.{Object}
-use Rattle.pearl_engine.specs.Engines.{engine}
-use Rattle.pearl_engine.specs.Owners.{IsStackOf}
-use Rattle.pearl_engine.specs.Setups.{setup_of, entry_of}
+use Rattle.pearl_instructions.specs.Engines.{engine}
+use Rattle.pearl_instructions.specs.Owners.{IsStackOf}
+use Rattle.pearl_instructions.specs.Setups.{setup_of, entry_of}
 use Rattle.pearl_kernel.specs.Kept.{Kept, IsLawful, IsFirst, AllSettled, offered, is_silent, is_unsettled}
 use Rattle.pearl_machine.specs.Parts.{HasMemories, shown, start_of, going_frames, is_going, running_of, SettlesPart}
 use Rattle.pearl_machine.specs.Ready.{IsReady, IsDue, Stands, AllStand, untold, seen_of}

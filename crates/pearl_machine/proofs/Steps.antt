@@ -6,7 +6,7 @@ use Rattle.pearl_rules.specs.Runs.{Engine, Running, Machine, Coming, stepped, ke
 use Rattle.pearl_stack.specs.Frames.{Frame}
 use Rattle.pearl_instructions.specs.declared.object.Object.{Object}
 use Rattle.pearl_instructions.specs.Rows.{row}
-use Rattle.pearl_engine.specs.Engines.{engine, stepped_by}
+use Rattle.pearl_instructions.specs.Engines.{engine, stepped_by}
 use Rattle.pearl_silent.specs.Settling.{Silently}
 use Rattle.pearl_solo.specs.Settling.{Settles}
 use Rattle.pearl_machine.proofs.Listed.{set_twice, kept_here, kept_elsewhere, kept_same, kept_there}

@@ -9,8 +9,8 @@ use Rattle.pearl_instructions.specs.declared.object.Object.{Object}
 use Rattle.pearl_instructions.specs.declared.object.Task.{Task}
 use Rattle.pearl_instructions.specs.Rows.{begun}
 use Rattle.pearl_instructions.specs.Stacks.{room}
-use Rattle.pearl_engine.specs.Engines.{engine}
-use Rattle.pearl_engine.specs.Owners.{IsStackOf}
+use Rattle.pearl_instructions.specs.Engines.{engine}
+use Rattle.pearl_instructions.specs.Owners.{IsStackOf}
 use Rattle.pearl_exchange.specs.declared.offer.Offer.{Offer}
 use Rattle.pearl_exchange.specs.Offers.{action_of}
 use Rattle.pearl_solo.specs.declared.stepped.Gave.{Gave}

@@ -8,10 +8,10 @@ use Rattle.pearl_rules.specs.Pick.{pick}
 use Rattle.pearl_rules.specs.Runs.{Running, Machine, Mark, Acts, Passes, kept_at, machine_offers, machine_mark, machine_after, next_mark, unsettled}
 use Rattle.pearl_stack.specs.Frames.{Frame}
 use Rattle.pearl_instructions.specs.declared.object.Object.{Object}
-use Rattle.pearl_engine.specs.Engines.{engine}
+use Rattle.pearl_instructions.specs.Engines.{engine}
 use Rattle.pearl_solo.specs.Settling.{Settles}
 use Rattle.pearl_script.specs.Lines.{report_line}
-use Rattle.pearl_engine.specs.Setups.{setup_of}
+use Rattle.pearl_instructions.specs.Setups.{setup_of}
 
 -- what is executed, and a state of its run that has told only what isn't written yet, with no entry left
 pub record Seen : Type 0 where

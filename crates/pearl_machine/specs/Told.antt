@@ -4,7 +4,7 @@ use Rattle.pearl_rules.specs.declared.entry.Entry.{Entry}
 use Rattle.pearl_rules.specs.declared.setup.Setup.{Setup}
 use Rattle.pearl_rules.specs.Core.{Report}
 use Rattle.pearl_rules.specs.Runs.{Mark, next_mark, unsettled}
-use Rattle.pearl_engine.specs.Setups.{setup_of}
+use Rattle.pearl_instructions.specs.Setups.{setup_of}
 use Rattle.pearl_io.specs.Outside.{Takes, TakesFront}
 use Rattle.pearl_script.specs.Lines.{report_line, lines_of}
 use Rattle.pearl_machine.specs.Seen.{Seen, Handles, Makes, picked, retold}

@@ -9,8 +9,8 @@ ghost use Rattle.pearl_rules.specs.declared.entry.Entry.TheVariants.{Run, Tick, 
 ghost use Rattle.pearl_rules.specs.Entries.{last_moment_of_all, moment_after, EntryFits};
 ghost use Rattle.pearl_rules.specs.Runs.{machine_start, machine_step, machine_offers, unsettled};
 ghost use Rattle.pearl_rules.specs.Runs.{Tells, Turns, Passes, Arrives};
-ghost use Rattle.pearl_engine.specs.Engines.{engine};
-ghost use Rattle.pearl_engine.specs.Setups.{setup_of};
+ghost use Rattle.pearl_instructions.specs.Engines.{engine};
+ghost use Rattle.pearl_instructions.specs.Setups.{setup_of};
 ghost use Rattle.pearl_io.specs.Outside.{Takes, TakesFront, WriteFailed};
 ghost use Rattle.pearl_script.specs.Lines.{close_line as line_of_close, lines_of};
 ghost use Rattle.pearl_kernel.specs.Timing.{IsQuiet};

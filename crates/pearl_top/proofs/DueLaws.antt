@@ -5,7 +5,7 @@ use Rattle.std.proofs.lemmas.List.{take-append-drop, take-take}
 use Rattle.std.specs.Prelude.{OnOk, IfErr}
 use Rattle.pearl_rules.specs.declared.entry.Entry.{Entry}
 use Rattle.pearl_rules.specs.declared.setup.Setup.{Setup}
-use Rattle.pearl_engine.specs.Setups.{setup_of}
+use Rattle.pearl_instructions.specs.Setups.{setup_of}
 use Rattle.pearl_machine.specs.Seen.{Seen}
 use Rattle.pearl_journal.specs.Entries.{All, Bad, Entries, entries}
 use Rattle.pearl_journal.specs.Lines.{journal_lines, ended_lines}

@@ -9,8 +9,8 @@ use Rattle.pearl_rules.proofs.PickLaws.{pick-offers, states-offers}
 use Rattle.pearl_program.specs.PlainPrograms.{PlainProg}
 use Rattle.pearl_instructions.specs.declared.object.Object.{Object}
 use Rattle.pearl_stack.specs.Frames.{Frame}
-use Rattle.pearl_engine.specs.Engines.{engine}
-use Rattle.pearl_engine.specs.Setups.{setup_of}
+use Rattle.pearl_instructions.specs.Engines.{engine}
+use Rattle.pearl_instructions.specs.Setups.{setup_of}
 use Rattle.pearl_meaning.specs.ProgramRuns.{setup_of as tables_of}
 use Rattle.pearl_script.specs.declared.refusal.Refusal.{Refusal}
 use Rattle.pearl_script.specs.Lines.{lines_of, close_line}

@@ -5,7 +5,7 @@ use Rattle.std.proofs.lemmas.List.{length-take, take_all}
 use Rattle.pearl_io.specs.Outside.{Files, IsPiece, content}
 use Rattle.pearl_io.proofs.Pieces.{read_on as read_more}
 use Rattle.pearl_rules.specs.declared.setup.Setup.{Setup}
-use Rattle.pearl_engine.specs.Setups.{setup_of}
+use Rattle.pearl_instructions.specs.Setups.{setup_of}
 use Rattle.pearl_script.specs.declared.refusal.Refusal.TheVariants.{Read, TooLong}
 use Rattle.pearl_machine.specs.Seen.{Seen}
 use Rattle.pearl_journal.specs.Entries.{All}

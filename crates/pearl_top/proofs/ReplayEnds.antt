@@ -10,7 +10,7 @@ use Rattle.pearl_rules.specs.Runs.{unsettled}
 use Rattle.pearl_program.specs.PlainPrograms.{PlainProg}
 use Rattle.pearl_instructions.specs.declared.object.Object.{Object}
 use Rattle.pearl_faithful.specs.Faithful.{IsFaithfulTo}
-use Rattle.pearl_engine.specs.Setups.{setup_of}
+use Rattle.pearl_instructions.specs.Setups.{setup_of}
 use Rattle.pearl_meaning.specs.ProgramRuns.{setup_of as tables_of}
 use Rattle.pearl_machine.specs.Seen.{Seen, retold, Handles}
 use Rattle.pearl_machine.specs.Told.{IsCutOff}

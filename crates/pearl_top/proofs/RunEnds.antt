@@ -16,9 +16,9 @@ use Rattle.pearl_meaning.specs.Programs.{offer}
 use Rattle.pearl_meaning.specs.ProgramRuns.{source_run}
 use Rattle.pearl_instructions.specs.declared.object.Object.{Object}
 use Rattle.pearl_stack.specs.Frames.{Frame}
-use Rattle.pearl_engine.specs.Engines.{engine}
+use Rattle.pearl_instructions.specs.Engines.{engine}
 use Rattle.pearl_faithful.specs.Faithful.{IsFaithfulTo}
-use Rattle.pearl_engine.specs.Setups.{setup_of}
+use Rattle.pearl_instructions.specs.Setups.{setup_of}
 use Rattle.pearl_machine.specs.Seen.{Seen, Goes, Handles}
 use Rattle.pearl_top.specs.Replay.{start_of, started, Breaks}
 

@@ -10,8 +10,8 @@ use Rattle.pearl_program.specs.PlainPrograms.{PlainProg}
 use Rattle.pearl_meaning.specs.ProgramRuns.{source_run, setup_of as tables_of}
 use Rattle.pearl_instructions.specs.declared.object.Object.{Object}
 use Rattle.pearl_stack.specs.Frames.{Frame}
-use Rattle.pearl_engine.specs.Engines.{engine}
-use Rattle.pearl_engine.specs.Setups.{setup_of}
+use Rattle.pearl_instructions.specs.Engines.{engine}
+use Rattle.pearl_instructions.specs.Setups.{setup_of}
 use Rattle.pearl_script.specs.declared.refusal.Refusal.{Refusal}
 use Rattle.pearl_script.specs.Lines.{lines_of, report_line, close_line}
 use Rattle.pearl_script.specs.Refusals.{refusal_line}

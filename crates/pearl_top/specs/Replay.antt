@@ -7,8 +7,8 @@ use Rattle.pearl_rules.specs.Core.{Report}
 use Rattle.pearl_rules.specs.Runs.{Machine, machine_start}
 use Rattle.pearl_instructions.specs.declared.object.Object.{Object}
 use Rattle.pearl_stack.specs.Frames.{Frame}
-use Rattle.pearl_engine.specs.Engines.{engine}
-use Rattle.pearl_engine.specs.Setups.{setup_of}
+use Rattle.pearl_instructions.specs.Engines.{engine}
+use Rattle.pearl_instructions.specs.Setups.{setup_of}
 use Rattle.pearl_script.specs.Lines.{lines_of}
 use Rattle.pearl_script.specs.declared.refusal.Refusal.TheVariants.{Journal, Read, TooLong}
 use Rattle.pearl_top.specs.declared.failure.Failure.{Failure}

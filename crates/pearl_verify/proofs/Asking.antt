@@ -10,7 +10,8 @@ use Rattle.pearl_instructions.specs.declared.schedule.StartForm.TheVariants as f
 use Rattle.pearl_instructions.specs.declared.schedule.RepeatForm.{RepeatForm}
 use Rattle.pearl_instructions.specs.declared.schedule.RepeatForm.TheVariants as again
 use Rattle.pearl_instructions.specs.Offers.{start_kinds, repeat_kinds}
-use Rattle.pearl_instructions.specs.Operands.{Shape, Asked, Anything, meets, scheduled, priority_asked, v2}
+use Rattle.pearl_instructions.specs.Opcodes.{Asked, Anything, scheduled, priority_asked}
+use Rattle.pearl_instructions.specs.Operands.{Shape, meets, v2}
 
 and_more : (b : Bool) → b && true ≡ b
 and_more true = refl

@@ -4,7 +4,8 @@ ghost use Rattle.std.specs.Prelude.{◌≡◌, ◌≤◌, ◌++◌, [], ◌∷�
 ghost use Rattle.pearl_value.specs.declared.kind.Kind.{Kind};
 ghost use Rattle.pearl_instructions.specs.Objects.{items_at};
 ghost use Rattle.pearl_instructions.specs.Offers.{start_kinds, repeat_kinds, start_or_free, as_start};
-ghost use Rattle.pearl_instructions.specs.Operands.{Anything, SomeFixed, SomeReference, Exactly, asked, scheduled, priority_asked, arguments_asked, values_asked, v2};
+ghost use Rattle.pearl_instructions.specs.Opcodes.{Anything, SomeFixed, SomeReference, Exactly, scheduled, priority_asked};
+ghost use Rattle.pearl_instructions.specs.Operands.{asked, arguments_asked, values_asked, v2};
 ghost use Rattle.pearl_verify.specs.Formats.{format_row};
 
 use crate::formats::FormatRow;

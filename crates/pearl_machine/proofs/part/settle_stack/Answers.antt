@@ -1,6 +1,6 @@
 use Rattle.std.proofs.Common.{ap, ◌∙◌, arith}
 use Rattle.pearl_exchange.specs.Offers.{action_of}
-use Rattle.pearl_engine.specs.Engines.{stepped_by}
+use Rattle.pearl_instructions.specs.Engines.{stepped_by}
 use Rattle.pearl_machine.proofs.Owned.{room_own, fits_here}
 use Rattle.pearl_machine.proofs.part.settle_stack.Goals as goal
 

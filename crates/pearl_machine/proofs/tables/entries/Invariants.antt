@@ -1,5 +1,5 @@
 use Rattle.std.proofs.Common.{◌≡◌, map, take}
-use Rattle.pearl_engine.specs.Setups.{entry_of}
+use Rattle.pearl_instructions.specs.Setups.{entry_of}
 use Rattle.pearl_machine.proofs.tables.entries.Given as goal
 
 abbrev pub invariant-loop-task : goal.invariant-loop-task

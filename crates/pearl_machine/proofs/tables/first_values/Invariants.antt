@@ -1,6 +1,6 @@
 use Rattle.std.proofs.Common.{◌≡◌, take}
 use Rattle.std.specs.List.{flat_map}
-use Rattle.pearl_engine.specs.Setups.{first_cells}
+use Rattle.pearl_instructions.specs.Setups.{first_cells}
 use Rattle.pearl_machine.proofs.tables.first_values.Given as goal
 
 abbrev pub invariant-loop-leaf : goal.invariant-loop-leaf

@@ -1,5 +1,5 @@
 use Rattle.std.proofs.Common.{arith}
-use Rattle.pearl_instructions.specs.Operands.{SomeFixed}
+use Rattle.pearl_instructions.specs.Opcodes.{SomeFixed}
 use Rattle.pearl_verify.proofs.Asking.{times_more}
 use Rattle.pearl_verify.proofs.operands.are_fixed.Goals as goal
 

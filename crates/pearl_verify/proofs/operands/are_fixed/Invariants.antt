@@ -1,5 +1,6 @@
 use Rattle.std.proofs.Common.{◌≡◌, ◌≤◌, ◌-◌, drop, replicate}
-use Rattle.pearl_instructions.specs.Operands.{SomeFixed, v2}
+use Rattle.pearl_instructions.specs.Opcodes.{SomeFixed}
+use Rattle.pearl_instructions.specs.Operands.{v2}
 use Rattle.pearl_verify.proofs.operands.are_fixed.Given as goal
 
 abbrev pub invariant-loop-below : goal.invariant-loop-below

@@ -1,5 +1,5 @@
 use Rattle.std.proofs.Common.{sym, ◌∙◌}
-use Rattle.pearl_instructions.specs.Operands.{SomeFixed}
+use Rattle.pearl_instructions.specs.Opcodes.{SomeFixed}
 use Rattle.pearl_verify.proofs.Asking.{asked_some, asked_none}
 use Rattle.pearl_verify.proofs.operands.is_fixed_at.Goals as goal
 

@@ -2,9 +2,9 @@ use Rattle.std.proofs.Common.{refl, ap, ◌∙◌, sym, subst, slice_get, arith}
 use Rattle.pearl_rules.specs.declared.action.Answer.{Answer}
 use Rattle.pearl_rules.specs.Effect.{Hears, Ends}
 use Rattle.pearl_exchange.specs.Heard.{answer_of}
-use Rattle.pearl_engine.specs.Setups.{setup_of}
-use Rattle.pearl_engine.specs.Engines.{engine}
-use Rattle.pearl_engine.specs.Owners.{IsStackOf}
+use Rattle.pearl_instructions.specs.Setups.{setup_of}
+use Rattle.pearl_instructions.specs.Engines.{engine}
+use Rattle.pearl_instructions.specs.Owners.{IsStackOf}
 use Rattle.pearl_machine.specs.Parts.{HasMemories, stack_in}
 use Rattle.pearl_machine.specs.Ready.{IsReady}
 use Rattle.pearl_machine.proofs.ReadyLaws.{tasks_are}

@@ -1,5 +1,5 @@
 use Rattle.pearl_exchange.specs.Offers.{action_of}
-use Rattle.pearl_engine.specs.Setups.{setup_of}
+use Rattle.pearl_instructions.specs.Setups.{setup_of}
 use Rattle.pearl_machine.proofs.ReadyLaws.{first_own}
 use Rattle.pearl_machine.proofs.Entering.{ready_silent, ready_stepped}
 use Rattle.pearl_machine.proofs.Calls.{first_of, some_first, silent_call, offers_call}

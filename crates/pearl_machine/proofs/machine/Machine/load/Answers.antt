@@ -1,5 +1,5 @@
 use Rattle.std.proofs.Common.{length, ap, ◌∙◌}
-use Rattle.pearl_engine.specs.Setups.{setup_of}
+use Rattle.pearl_instructions.specs.Setups.{setup_of}
 use Rattle.pearl_kernel.specs.Kept.{Kept}
 use Rattle.pearl_machine.proofs.Loading.{starts, ready}
 use Rattle.pearl_machine.proofs.machine.Machine.load.Goals as goal

@@ -2,7 +2,7 @@ use Rattle.std.proofs.Common.{sym, ap, ◌∙◌, ◌+◌}
 use Rattle.pearl_rules.specs.Plans.{millisecond}
 use Rattle.pearl_rules.proofs.EffectLaws.{millisecond-length}
 use Rattle.pearl_machine.proofs.Moments.{millisecond-moment}
-use Rattle.pearl_engine.specs.Setups.{setup_of}
+use Rattle.pearl_instructions.specs.Setups.{setup_of}
 use Rattle.pearl_kernel.specs.Kept.{Kept}
 use Rattle.pearl_machine.proofs.Calls.{no_event, moment_call, changed_call, passes_call}
 use Rattle.pearl_machine.proofs.machine.Machine.millisecond.Goals as goal

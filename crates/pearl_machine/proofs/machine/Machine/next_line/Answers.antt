@@ -1,5 +1,5 @@
 use Rattle.std.proofs.Common.{arith}
-use Rattle.pearl_engine.specs.Setups.{setup_of}
+use Rattle.pearl_instructions.specs.Setups.{setup_of}
 use Rattle.pearl_machine.proofs.Acting.{ready_due, ready_taken, due_next}
 use Rattle.pearl_machine.proofs.Calls.{event_call, state_call, nothing_call}
 use Rattle.pearl_machine.proofs.machine.Machine.next_line.Goals as goal

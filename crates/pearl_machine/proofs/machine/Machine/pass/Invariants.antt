@@ -2,7 +2,7 @@ use Rattle.std.proofs.Common.{◌≡◌, ℕ, ◌+◌, ◌≤◌, List, [], ◌�
 use Rattle.pearl_rules.specs.Core.{Report}
 use Rattle.pearl_rules.specs.declared.entry.Entry.TheVariants.{Pass}
 use Rattle.pearl_rules.specs.Runs.{unsettled}
-use Rattle.pearl_engine.specs.Setups.{setup_of}
+use Rattle.pearl_instructions.specs.Setups.{setup_of}
 use Rattle.pearl_io.specs.Outside.{Takes}
 use Rattle.pearl_script.specs.Lines.{lines_of}
 use Rattle.pearl_machine.specs.Seen.{Handles}

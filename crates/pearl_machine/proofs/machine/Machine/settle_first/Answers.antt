@@ -1,7 +1,7 @@
 use Rattle.std.proofs.Common.{ap, refl}
 use Rattle.pearl_exchange.specs.Offers.{action_of}
-use Rattle.pearl_engine.specs.Engines.{stepped_by}
-use Rattle.pearl_engine.specs.Setups.{setup_of}
+use Rattle.pearl_instructions.specs.Engines.{stepped_by}
+use Rattle.pearl_instructions.specs.Setups.{setup_of}
 use Rattle.pearl_machine.proofs.ReadyLaws.{first_own, ready_offers}
 use Rattle.pearl_machine.proofs.Calls.{none_unsettled, settles_call}
 use Rattle.pearl_machine.proofs.machine.Machine.settle_first.Goals as goal

@@ -1,7 +1,7 @@
 use Rattle.std.proofs.Common.{◌≤◌, length, ap, sym, ◌∙◌, subst}
 use Rattle.std.proofs.lemmas.List.{length-map}
 use Rattle.pearl_rules.specs.declared.setup.Setup.{Setup}
-use Rattle.pearl_engine.specs.Setups.{entry_of}
+use Rattle.pearl_instructions.specs.Setups.{entry_of}
 use Rattle.pearl_machine.proofs.machine.Machine.setup.Goals as goal
 
 pub returns-clause-few : goal.returns-clause-few

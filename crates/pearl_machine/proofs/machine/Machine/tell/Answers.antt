@@ -1,6 +1,6 @@
 use Rattle.std.proofs.Common.{◌∷◌, [], ◌++◌, refl, ap, ◌∙◌, arith}
 use Rattle.std.proofs.lemmas.Result.{err_from_is_err_and}
-use Rattle.pearl_engine.specs.Setups.{setup_of}
+use Rattle.pearl_instructions.specs.Setups.{setup_of}
 use Rattle.pearl_script.specs.Lines.{report_line}
 use Rattle.pearl_machine.specs.Seen.{Seen}
 use Rattle.pearl_machine.proofs.Taken.{takes_nothing, takes_line, told_on, cut_here, retold_on}

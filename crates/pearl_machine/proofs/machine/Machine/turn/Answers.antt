@@ -1,4 +1,4 @@
-use Rattle.pearl_engine.specs.Setups.{setup_of}
+use Rattle.pearl_instructions.specs.Setups.{setup_of}
 use Rattle.pearl_machine.proofs.Acting.{ready_turned}
 use Rattle.pearl_machine.proofs.Calls.{turns_call, turned_call}
 use Rattle.pearl_machine.proofs.machine.Machine.turn.Goals as goal

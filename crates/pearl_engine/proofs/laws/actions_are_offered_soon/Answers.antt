@@ -1,5 +1,0 @@
-use Rattle.pearl_engine.proofs.Soon.{soon}
-use Rattle.pearl_engine.proofs.laws.actions_are_offered_soon.Goals as goal
-
-pub returns : goal.returns
-returns c = soon c.actions_are_offered_soon.ensures

@@ -1,5 +1,0 @@
-use Rattle.pearl_engine.proofs.Stands.{offers_there}
-use Rattle.pearl_engine.proofs.laws.offers_name_what_is_there.Goals as goal
-
-pub returns : goal.returns
-returns c = offers_there c.offers_name_what_is_there.ensures

@@ -1,5 +1,0 @@
-use Rattle.pearl_engine.proofs.Stands.{goes_on}
-use Rattle.pearl_engine.proofs.laws.stacks_stay_a_tasks.Goals as goal
-
-pub returns : goal.returns
-returns c = goes_on c.rows_lead_to_stacks.ensures c.stacks_are_a_tasks.ensures c.frames_stay.ensures
