@@ -3,7 +3,7 @@ use Rattle.std.proofs.Common.{◌≡◌, List, [], ◌∷◌, ◌++◌, map, ref
 use Rattle.std.specs.List.{flat_map}
 use Rattle.pearl_instructions.specs.declared.object.Leaf.{Leaf}
 use Rattle.pearl_meaning.specs.ProgramRuns as program
-use Rattle.pearl_engine.specs.Setups.{first_cells}
+use Rattle.pearl_instructions.specs.Setups.{first_cells}
 use Rattle.pearl_gen_expr.specs.Tables.{plain_leaf}
 use Rattle.pearl_faithful.specs.Laws.{SameTables}
 

@@ -14,7 +14,7 @@ use Rattle.pearl_rules.specs.Core.{cell_or_zero, value_at}
 use Rattle.pearl_instructions.specs.declared.object.Leaf.{Leaf}
 use Rattle.pearl_instructions.specs.Lawful.{IsLeaf}
 use Rattle.pearl_instructions.specs.Objects.{slot_kind}
-use Rattle.pearl_engine.specs.Setups.{first_cells}
+use Rattle.pearl_instructions.specs.Setups.{first_cells}
 
 pub all_joined : {A : Type 0} (P : A → Type 0) (xs ys : List A) → AllByRecursion P xs → AllByRecursion P ys → AllByRecursion P (xs ++ ys)
 all_joined P [] ys all more = more

@@ -4,7 +4,7 @@ ghost use Rattle.std.specs.Prelude.{◌≡◌, ◌++◌, IfOk, OnOk, map, replic
 ghost use Rattle.std.specs.List.{AllByRecursion, flat_map};
 ghost use Rattle.pearl_value.specs.Blanks.{blank_of, last_or};
 ghost use Rattle.pearl_instructions.specs.Lawful.{IsLeaf, IsObject};
-ghost use Rattle.pearl_engine.specs.Setups.{entry_of, first_cells, setup_of};
+ghost use Rattle.pearl_instructions.specs.Setups.{entry_of, first_cells, setup_of};
 
 use pearl_format::item::Item;
 use pearl_instructions::object::{Leaf, Object, Task};
