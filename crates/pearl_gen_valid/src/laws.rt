@@ -1,7 +1,7 @@
 // What a sound program becomes is valid, and offers what its tasks do. Each function's contract is one theorem; none does
 // anything.
 
-ghost use Rattle.pearl_gen_valid.specs.Laws.{GeneratedIsValid, GeneratedOffers, GeneratedArrives};
+ghost use Rattle.pearl_faithful.specs.Generated.{GeneratedIsValid, GeneratedOffers, GeneratedArrives};
 
 use pearl_gen_stmt::laws::{code_arrives, tasks_offer};
 

@@ -1,6 +1,6 @@
 // What holds of the program of a lawful module that breaks no static rule.
 
-ghost use Rattle.pearl_module.specs.Laws.{BodiesRenewRight, ProgramsAreSound};
+ghost use Rattle.pearl_top.specs.SoundPrograms.{BodiesRenewRight, ProgramsAreSound};
 
 /// What goes into the variables of tasks and procedures as first values suits them.
 pub fn bodies_renew_right()

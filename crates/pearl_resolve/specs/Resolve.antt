@@ -20,9 +20,9 @@ use Rattle.pearl_names.specs.Scopes.{as_stmts}
 use Rattle.pearl_names.specs.Tables.{Table}
 use Rattle.pearl_system.specs.declared.device.SpecifiedDevice.{SpecifiedDevice}
 use Rattle.pearl_program.specs.PlainPrograms.{PlainLeaf, PlainRoutine, PlainProcedure, PlainTask, PlainProg}
-pub use Rattle.pearl_data.specs.Presets.{presets, declared_presets, decl_presets}
-pub use Rattle.pearl_data.specs.Devices.{kind_or_short, device_of}
-pub use Rattle.pearl_data.specs.Formats.{free_code, wide_code, width_of, item_of, formats_in, formats_in_all, formats_in_branches, formats_in_otherwise, decl_formats}
+pub use Rattle.pearl_resolve_tables.specs.Presets.{presets, declared_presets, decl_presets}
+pub use Rattle.pearl_resolve_tables.specs.Devices.{kind_or_short, device_of}
+pub use Rattle.pearl_resolve_tables.specs.Formats.{free_code, wide_code, width_of, item_of, formats_in, formats_in_all, formats_in_branches, formats_in_otherwise, decl_formats}
 use Rattle.pearl_resolve.specs.Laying.{leaves_of_sense, left_behind, filled_leaves}
 use Rattle.pearl_resolve.specs.Numbers.{At, in_body, after_decl, first, numbers_of}
 use Rattle.pearl_resolve.specs.Expressions.{Numbered, Meant, meant}

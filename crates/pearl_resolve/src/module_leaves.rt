@@ -13,8 +13,8 @@ ghost use Rattle.pearl_resolve.specs.Resolve as spec;
 ghost use Rattle.pearl_resolve.specs.Statements.{slots_of_meant};
 
 use crate::numbered::NumberedTable;
-use pearl_data::leaves::add_leaves;
-use pearl_data::values::left_behind;
+use pearl_resolve_tables::leaves::add_leaves;
+use pearl_resolve_tables::values::left_behind;
 use pearl_names::meaning::Found;
 use pearl_names::scope::View;
 use pearl_program::table::Leaf;

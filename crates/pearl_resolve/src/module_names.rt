@@ -10,7 +10,7 @@ ghost use Rattle.pearl_resolve.specs.Numbers as spec;
 
 use crate::counts::leaves_of_sense;
 use crate::numbered::number_or_zero;
-use pearl_data::counts::sum;
+use pearl_resolve_tables::counts::sum;
 use pearl_names::scope::SortedName;
 use pearl_names::sense::Sense;
 use pearl_names::types::StructForm;

@@ -17,7 +17,7 @@ use crate::counter::loop_cells;
 use crate::counts::cells_of_sense;
 use crate::module_names::module_numbers;
 use crate::numbered::{NumberedTable, ScopeNumbers};
-use pearl_data::counts::sum;
+use pearl_resolve_tables::counts::sum;
 use pearl_names::sense::Sense;
 use pearl_names::table::SenseTable;
 use pearl_names::types::StructForm;

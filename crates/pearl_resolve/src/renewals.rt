@@ -12,9 +12,9 @@ ghost use Rattle.pearl_resolve.specs.Holding.{Becomes, values_renewals};
 ghost use Rattle.pearl_resolve.specs.Statements as spec;
 
 use crate::numbered::NumberedTable;
-use pearl_data::counts::sum;
-use pearl_data::leaves::add_first_values;
-use pearl_data::values::left_behind;
+use pearl_resolve_tables::counts::sum;
+use pearl_resolve_tables::leaves::add_first_values;
+use pearl_resolve_tables::values::left_behind;
 use pearl_names::meaning::Found;
 use pearl_names::scope::View;
 use pearl_program::statement::{Renewal, Stmt};

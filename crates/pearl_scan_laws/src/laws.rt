@@ -1,6 +1,6 @@
 // What GET uses, and what it reads of what PUT wrote.
 
-ghost use Rattle.pearl_scan_laws.specs.Laws.{ReadsWhatIsWritten, UsesNoMore};
+ghost use Rattle.pearl_scan.specs.Laws.{ReadsWhatIsWritten, UsesNoMore};
 
 /// What PUT writes by items that show all of their values (B, F and D of any width, T from a width of 12 on, X and
 /// SKIP), GET reads as the same values by the same items, and uses just that text, whatever stands behind it.

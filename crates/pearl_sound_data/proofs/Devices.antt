@@ -21,7 +21,7 @@ use Rattle.pearl_system.proofs.DeviceLaws.{devices_are_specified}
 use Rattle.pearl_system.proofs.Lists.{pairs_head, pairs_tail}
 use Rattle.pearl_value.specs.Devices as device_list
 use Rattle.pearl_value.specs.Devices.{sort_rank, own_number, HasKindOfValues, IsBefore, AreRising}
-use Rattle.pearl_data.specs.Devices.{kind_or_short, device_of}
+use Rattle.pearl_resolve_tables.specs.Devices.{kind_or_short, device_of}
 use Rattle.pearl_sound_data.proofs.Faults.{really, both, all_weaker}
 use Rattle.pearl_sound_data.proofs.Shapes.{IfThere, AreSet, all_set, basic_kind}
 

@@ -30,7 +30,7 @@ use Rattle.pearl_scope.specs.Rules.{slots_of_names, missing_of, s7}
 use Rattle.pearl_scope.proofs.Put.{fits_where_put}
 use Rattle.pearl_program.specs.PlainPrograms.{PlainLeaf}
 use Rattle.pearl_program.specs.FirstCells.{first_cells}
-use Rattle.pearl_data.specs.Laying.{value_of, or_blank, constant_in, values_of_leaf, slots, left_behind, filled_leaves}
+use Rattle.pearl_resolve_tables.specs.Laying.{value_of, or_blank, constant_in, values_of_leaf, slots, left_behind, filled_leaves}
 use Rattle.pearl_sound_data.specs.Constants.{IsConstant}
 use Rattle.pearl_resolve.specs.Expressions.{Numbered, meant}
 use Rattle.pearl_resolve.specs.Statements.{slots_of_meant}

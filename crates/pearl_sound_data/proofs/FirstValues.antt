@@ -23,7 +23,7 @@ use Rattle.pearl_names.proofs.ShapeSlots.{elements_some}
 use Rattle.pearl_scope.specs.Laws.{has_value}
 use Rattle.pearl_program.specs.PlainPrograms.{PlainLeaf}
 use Rattle.pearl_program.specs.SoundStatements.{AreFirst}
-use Rattle.pearl_data.specs.Laying.{negative_if, value_of, or_blank, constant_in, values_of_leaf, left_behind, filled_leaves}
+use Rattle.pearl_resolve_tables.specs.Laying.{negative_if, value_of, or_blank, constant_in, values_of_leaf, left_behind, filled_leaves}
 use Rattle.pearl_sound_data.specs.Constants.{IsInRange, IsConstant}
 use Rattle.pearl_sound_data.proofs.Faults.{all_dropped}
 

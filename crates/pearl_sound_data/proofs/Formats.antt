@@ -27,7 +27,7 @@ use Rattle.pearl_check.specs.Routines.{RoutineSort, Routine, decl_routines, decl
 use Rattle.pearl_check.specs.Rules.{s30, own_faults, statement_faults, routine_faults, statements_broken}
 use Rattle.pearl_check.specs.Statements.{s24, s26, s27, s31}
 use Rattle.pearl_check.specs.Views.{value_kind, target_kind}
-use Rattle.pearl_data.specs.Formats.{free_code, item_of, formats_in, formats_in_all, formats_in_branches, formats_in_otherwise, decl_formats}
+use Rattle.pearl_resolve_tables.specs.Formats.{free_code, item_of, formats_in, formats_in_all, formats_in_branches, formats_in_otherwise, decl_formats}
 use Rattle.pearl_sound_data.proofs.Faults.{left_none, right_none, no_fault, really, neither, both, split_all, all_append}
 
 free_width : (word : FreeCode) (width : ℕ) → HasWidth (free_code word) width

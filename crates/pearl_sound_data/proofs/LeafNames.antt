@@ -31,7 +31,7 @@ use Rattle.pearl_names.specs.Tables.{Sense, Variable, Control, OwnParameter, New
 use Rattle.pearl_check.specs.Sizes.{Declared, with_senses, declared_in, has_long_leaf, long_leaf_fault, passed, task_count, procedure_count, semaphore_count, slot_count, counted_sizes}
 use Rattle.pearl_program.specs.PlainPrograms.{PlainLeaf}
 use Rattle.pearl_program.specs.Sound.{IsLeaf}
-use Rattle.pearl_data.specs.Laying.{leaves_of_sense, left_behind, path_name, filled_leaves}
+use Rattle.pearl_resolve_tables.specs.Laying.{leaves_of_sense, left_behind, path_name, filled_leaves}
 use Rattle.pearl_resolve.specs.Expressions.{Numbered, Meant, number_at, meant_at, meant}
 use Rattle.pearl_resolve.specs.Statements.{slots_of_meant}
 use Rattle.pearl_resolve.specs.Resolve.{variable_leaves, names_leaves, declared_leaves, decl_leaves}

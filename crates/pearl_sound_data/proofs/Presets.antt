@@ -14,7 +14,7 @@ use Rattle.pearl_names.specs.Scopes.{scopes_in_decl, types_in}
 use Rattle.pearl_scope.specs.Parts.{item_parts, declared_parts, decl_parts, decls_parts}
 use Rattle.pearl_scope.specs.Rules.{unfit_presets, broken}
 use Rattle.pearl_value.specs.Counts.{IsPreset}
-use Rattle.pearl_data.specs.Presets.{presets, declared_presets, decl_presets}
+use Rattle.pearl_resolve_tables.specs.Presets.{presets, declared_presets, decl_presets}
 use Rattle.pearl_sound_data.proofs.Faults.{no_fault, neither, split_all, all_append}
 use Rattle.pearl_sound_data.proofs.Unbroken.{IsUnbroken, AreUnbroken, module_unbroken}
 

@@ -11,7 +11,7 @@ use Rattle.pearl_names.specs.declared.scope.View.TheVariants.{Within}
 use Rattle.pearl_names.specs.Layout.{Leaf, elements, leaf_slots, slots_of}
 use Rattle.pearl_scope.specs.Rules.{slots_of_names}
 use Rattle.pearl_program.specs.PlainStatements.{PlainStmts, NoStmts, MoreStmts}
-use Rattle.pearl_data.specs.Laying.{slots, left_behind, filled_leaves}
+use Rattle.pearl_resolve_tables.specs.Laying.{slots, left_behind, filled_leaves}
 use Rattle.pearl_resolve.specs.Expressions.{Numbered, Meant, meant, number_of}
 use Rattle.pearl_resolve.specs.Statements.{joined, names_renewals, renewals, slots_of_meant, variable_renewals}
 use Rattle.pearl_sound_data.specs.Laws.{HasLeaves}

@@ -27,7 +27,7 @@ use Rattle.pearl_names.specs.Shapes.{Shape, OfKind, OfFields, Fields, NoField, M
 use Rattle.pearl_names.specs.Layout.{Leaf, leaves_of, leaves_of_fields, is_sound_leaf}
 use Rattle.pearl_names.specs.Known.{Known, known_of, around}
 use Rattle.pearl_names.specs.Tables.{Sense, sound_form, sense_of, senses_of, senses_in, table_of, leaves_in}
-use Rattle.pearl_data.specs.Laying.{leaves_of_sense}
+use Rattle.pearl_resolve_tables.specs.Laying.{leaves_of_sense}
 use Rattle.pearl_sound_data.proofs.Faults.{both, all_append, all_taken}
 
 -- a property of what is there

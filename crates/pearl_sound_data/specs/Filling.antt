@@ -8,7 +8,7 @@ use Rattle.pearl_tree.specs.ShownLiterals.{ShownConst}
 use Rattle.pearl_scope.specs.Laws.{Becomes}
 use Rattle.pearl_program.specs.FirstCells.{first_cells}
 use Rattle.pearl_program.specs.PlainStatements.{PlainStmt, OfRenew, PlainStmts, NoStmts, MoreStmts}
-use Rattle.pearl_data.specs.Laying.{value_of, constant_in}
+use Rattle.pearl_resolve_tables.specs.Laying.{value_of, constant_in}
 
 -- what slots of these kinds hold at first
 abbrev pub filled : List Kind → List ShownConst → List Cell

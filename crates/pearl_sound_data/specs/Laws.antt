@@ -30,7 +30,7 @@ use Rattle.pearl_value.specs.Devices.{AreRising}
 use Rattle.pearl_value.specs.Counts.{IsPreset}
 use Rattle.pearl_format.specs.Items.{IsFormat}
 use Rattle.pearl_program.specs.Sound.{IsLeaf}
-use Rattle.pearl_data.specs.Laying.{leaves_of_sense, constant_in, left_behind, filled_leaves}
+use Rattle.pearl_resolve_tables.specs.Laying.{leaves_of_sense, constant_in, left_behind, filled_leaves}
 use Rattle.pearl_resolve.specs.Expressions.{Numbered, Meant, meant, number_of}
 use Rattle.pearl_resolve.specs.Statements.{names_renewals, variable_renewals}
 use Rattle.pearl_resolve.specs.Resolve.{names_leaves, resolve}

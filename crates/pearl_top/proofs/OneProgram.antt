@@ -20,7 +20,7 @@ use Rattle.pearl_program.specs.PlainPrograms.{PlainProg}
 use Rattle.pearl_resolve.specs.Resolve.{resolve}
 use Rattle.pearl_sound_sizes.proofs.Basics.{all_at, some_one}
 use Rattle.pearl_sound_sizes.proofs.ByNumber.{something, placed, numbers_whole, order_differs}
-use Rattle.pearl_module.specs.Programs.{IsProgramOf}
+use Rattle.pearl_top.specs.Programs.{IsProgramOf}
 use Rattle.pearl_meaning.specs.Programs.{offer}
 use Rattle.pearl_meaning.specs.ProgramRuns.{source_run, setup_of}
 use Rattle.pearl_script.specs.Lines.{lines_of}

@@ -2,7 +2,7 @@
 use Rattle.std.specs.Prelude.{◌≢◌, ◌⊎◌, ℕ, List, [], ◌∷◌, map}
 use Rattle.pearl_tree.specs.ShownModules.{shown_tree}
 use Rattle.pearl_program.specs.PlainPrograms.{PlainProg}
-use Rattle.pearl_module.specs.Programs.{IsProgramOf}
+use Rattle.pearl_top.specs.Programs.{IsProgramOf}
 use Rattle.pearl_script.specs.declared.refusal.Refusal.TheVariants as refusal
 use Rattle.pearl_script.specs.Refusals.{refusal_line}
 use Rattle.pearl_top.specs.declared.status.Status.{Status}

@@ -2,7 +2,7 @@ use Rattle.std.proofs.Common.{List, length, map, ap, ◌∙◌}
 use Rattle.std.specs.List.{flat_map}
 use Rattle.pearl_tree.specs.declared.tree.Decl.{Decl}
 use Rattle.pearl_tree.specs.ShownModules.{shown_decl, shown_tree}
-use Rattle.pearl_data.specs.Devices.{device_of}
+use Rattle.pearl_resolve_tables.specs.Devices.{device_of}
 use Rattle.pearl_program.specs.PlainPrograms.{plain_leaf, plain_procedure, plain_task}
 use Rattle.pearl_resolve.specs.Numbers.{first}
 use Rattle.pearl_resolve.specs.Resolve.{by_number, decl_leaves, numbered_of, procedures_in, tasks_in}

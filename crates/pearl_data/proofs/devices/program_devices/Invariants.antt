@@ -1,6 +1,0 @@
-use Rattle.std.proofs.Common.{◌≡◌, ◌++◌, map, drop}
-use Rattle.pearl_data.specs.Devices.{device_of}
-use Rattle.pearl_data.proofs.devices.program_devices.Given as goal
-
-abbrev pub invariant-loop-one : goal.invariant-loop-one
-invariant-loop-one l = l.made.items ++ map (device_of l.lengths) (drop l.one-index l.specified) ≡ map (device_of l.lengths) l.specified

@@ -1,2 +1,0 @@
-pub mod RightRenewals
-pub mod Whole

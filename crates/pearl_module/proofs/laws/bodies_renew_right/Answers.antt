@@ -1,5 +1,0 @@
-use Rattle.pearl_module.proofs.RightRenewals.{bodies_right}
-use Rattle.pearl_module.proofs.laws.bodies_renew_right.Goals as goal
-
-pub returns : goal.returns
-returns c = bodies_right

@@ -1,0 +1,10 @@
+use Rattle.std.proofs.Common.{◌≡◌, ◌++◌, map, drop}
+use Rattle.std.specs.List.{flat_map}
+use Rattle.pearl_tree.specs.ShownModules.{shown_decl}
+use Rattle.pearl_resolve_tables.specs.Formats.{decl_formats}
+use Rattle.pearl_resolve_tables.proofs.formats.module_formats.Given as goal
+
+abbrev pub invariant-loop-decl : goal.invariant-loop-decl
+invariant-loop-decl l =
+    l.made.items ++ flat_map decl_formats (map shown_decl (drop l.decl-index l.tree.declarations.items.items)) ≡
+    flat_map decl_formats (map shown_decl l.tree.declarations.items.items)

@@ -1,0 +1,57 @@
+-- Walks over the leaves of a variable: the name is made longer on the way down and cut off on the way up.
+use Rattle.std.specs.Prelude.{◌≡◌, ℕ, ℤ, List, [], ◌∷◌, ◌++◌, length, reverse, Option, Some, None}
+use Rattle.pearl_names.specs.declared.types.StructForm.{StructForm}
+use Rattle.pearl_names.specs.declared.types.TypeRef.{TypeRef}
+use Rattle.pearl_names.specs.declared.types.TypeRef.TheVariants.{Struct}
+use Rattle.pearl_names.specs.Forms.{StandsFor}
+use Rattle.pearl_names.specs.Layout.{Leaf, leaves_of, leaves_of_fields, elements}
+use Rattle.pearl_names.specs.Runs.{drop_fields}
+use Rattle.pearl_names.specs.Shapes.{Shape, OfFields, Fields}
+use Rattle.pearl_resolve_tables.specs.declared.walk.Frame.{Frame}
+use Rattle.pearl_resolve_tables.specs.declared.walk.Found.{Found}
+use Rattle.pearl_resolve_tables.specs.Laying.{path_name}
+
+-- so many elements of a type, behind these names, have these leaves
+pub record HasLeaves (forms : List StructForm) (part : TypeRef) (count : ℕ) (path : List (List ℕ)) (leaves : List Leaf) : Type 0 where
+  pub shape : Shape
+  pub bounds : List (ℤ × ℤ)
+  pub stands : StandsFor forms part shape
+  pub counted : count ≡ elements bounds
+  pub is : leaves ≡ leaves_of path bounds shape
+
+-- these leaves are left of a STRUCT behind these names
+pub record HasLeft (forms : List StructForm) (frame : Frame) (path : List (List ℕ)) (leaves : List Leaf) : Type 0 where
+  pub fields : Fields
+  pub bounds : List (ℤ × ℤ)
+  pub stands : StandsFor forms (Struct frame.number) (OfFields fields)
+  pub counted : frame.count ≡ elements bounds
+  pub is : leaves ≡ leaves_of_fields path bounds (drop_fields frame.next fields)
+
+-- a text begins with the name that these names lead to, which has so many bytes
+pub record Begins (base : List ℕ) (bytes : ℕ) (path : List (List ℕ)) (text : List ℕ) : Type 0 where
+  pub behind : List ℕ
+  pub is : text ≡ path_name base path ++ behind
+  pub long : bytes ≡ length (path_name base path)
+
+-- these leaves of a variable are left of some STRUCTs, each within the next, where the name has come so far
+abbrev pub LeftWithin : List StructForm → (base : List ℕ) → List Frame → (text : List ℕ) → List Leaf → Type 0
+LeftWithin forms base [] text leaves = leaves ≡ []
+LeftWithin forms base (frame ∷ outer) text leaves =
+    (path : List (List ℕ)) × (own : List Leaf) × (rest : List Leaf) × Begins base frame.bytes path text × HasLeft forms frame path own ×
+    LeftWithin forms base outer (path_name base path) rest × (leaves ≡ own ++ rest)
+
+-- the same, where the innermost STRUCT stands last
+abbrev pub AllLeft : List StructForm → (base : List ℕ) → List Frame → (text : List ℕ) → List Leaf → Type 0
+AllLeft forms base frames text leaves = LeftWithin forms base (reverse frames) text leaves
+
+-- a walk has come to this leaf
+pub record IsFound (base : List ℕ) (found : Found) (text : List ℕ) (leaf : Leaf) : Type 0 where
+  pub name : text ≡ path_name base leaf.path
+  pub kind : found.kind ≡ leaf.kind
+  pub count : found.count ≡ elements leaf.bounds
+
+-- it has come to the first of these leaves, and the others are left
+abbrev pub GoesOn : List StructForm → (base : List ℕ) → Option Found → List Frame → (text : List ℕ) → List Leaf → Type 0
+GoesOn forms base None frames text leaves = leaves ≡ []
+GoesOn forms base (Some found) frames text leaves =
+    (leaf : Leaf) × (rest : List Leaf) × IsFound base found text leaf × AllLeft forms base frames text rest × (leaves ≡ leaf ∷ rest)

@@ -1,5 +1,0 @@
-use Rattle.pearl_scan_laws.proofs.Within.{uses_no_more}
-use Rattle.pearl_scan_laws.proofs.laws.no_more_bytes_are_used_than_there_are.Goals as goal
-
-pub returns : goal.returns
-returns c = uses_no_more

@@ -1,5 +1,0 @@
-use Rattle.pearl_scan_laws.proofs.Back.{reads_what_is_written}
-use Rattle.pearl_scan_laws.proofs.laws.what_is_written_is_read_back.Goals as goal
-
-pub returns : goal.returns
-returns c = reads_what_is_written

@@ -1,2 +1,0 @@
--- what GET uses, and what it reads of what PUT wrote
-pub mod Laws
