@@ -1,7 +1,5 @@
-// Lists give back what was put into them.
+// Copies, and lists that give back what was put into them.
 
-use pearl_tree::name::Number;
-use pearl_tree::parts::Parts;
 use pearl_value::cell::{Cell, copy_of};
 use pearl_value::listing::Listing;
 use std::test::Fail;
@@ -17,16 +15,5 @@ fn a_list_gives_its_items_back(rt: HostRuntime) -> Result<(), Fail> {
     let list = Listing::new(Vec::from_array(rt.alloc(), [3u8, 1, 2])?);
     assert!(rt; list.as_slice() == &[3u8, 1, 2][..]);
     assert!(rt; list.into_vec().as_slice() == &[3u8, 1, 2][..]);
-    Ok(())
-}
-
-#[test]
-fn parts_show_their_items_in_order(rt: HostRuntime) -> Result<(), Fail> {
-    let one = Number { value: 1, place: 4 };
-    let two = Number { value: 2, place: 6 };
-    let parts = Parts::new(Vec::from_array(rt.alloc(), [one, two])?);
-    assert!(rt; parts.as_slice().len() == 2);
-    assert!(rt; parts.as_slice()[0].place == 4);
-    assert!(rt; parts.as_slice()[1].value == 2);
     Ok(())
 }

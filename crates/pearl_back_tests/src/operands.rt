@@ -20,6 +20,14 @@ pub enum Given {
     Span(i64),
 }
 
+/// Whether the value is this number of FIXED(31).
+pub fn is_number(cell: &Cell, number: i64) -> bool {
+    match cell {
+        Cell::Fixed { len, value } => *len == 31 && *value == number,
+        _ => false,
+    }
+}
+
 /// A number of the longest FIXED.
 fn longest(value: i64) -> Cell
     ensures { IsValueOf (Kind.Fixed 63) result }

@@ -1,6 +1,6 @@
 // For each rule of the validator an object that breaks it, and one at its edge.
 
-use crate::cases::{Line, Proc, Routine, Row, Stated, first_other};
+use crate::objects::{Line, Proc, Routine, Row, Stated, first_other};
 use pearl_instructions::instr::{Bounds, Reading};
 use pearl_value::kind::{CellKind, Kind};
 use pearl_value::operator::Dyad;
@@ -159,11 +159,13 @@ static ARGUMENTS: [Row; 4] = callers![
         1, [Line::Number, Line::Call(0), Line::End] => Some((1, 1, V4));
 ];
 
-static REFERENCES: [Row; 3] = tasks![
+static REFERENCES: [Row; 4] = tasks![
     &[FIXED], 2, [Line::RefCell(0), Line::Drop, Line::End], &[] => None;
     &[REFERENCE], 2, [Line::RefCell(0), Line::Drop, Line::End], &[] => Some((0, 0, V5));
     &[REFERENCE], 1, [Line::Get(Reading { device: 0, format: 0, first: 0 }), Line::End], &[]
         => Some((0, 0, V5));
+    &[REFERENCE], 2, [Line::Number, Line::LoadAt { first: 0, count: 1 }, Line::Drop, Line::End], &[]
+        => Some((0, 1, V5));
 ];
 
 // The shape before instruction 0 is empty, whatever is stated for it.
@@ -221,7 +223,7 @@ static LAST_INSTRUCTIONS: [Row; 2] = tasks![
     &[], 1, [Line::Turn], &[] => Some((0, 1, V9));
 ];
 
-static OPERANDS_AT_ENDS: [Row; 5] = callers![
+static OPERANDS_AT_ENDS: [Row; 7] = callers![
     &[], 1, [Line::Number, Line::End] => Some((0, 1, V10));
     &[], 1, [Line::Return] => Some((0, 0, V10));
     &[Proc { result: Some(Kind::Fixed(31)), code: routine!(&[], 1, [Line::Number, Line::Return]) }],
@@ -229,6 +231,14 @@ static OPERANDS_AT_ENDS: [Row; 5] = callers![
     &[Proc { result: Some(Kind::Fixed(15)), code: routine!(&[], 1, [Line::Number, Line::Return]) }],
         0, [Line::End] => Some((0, 1, V10));
     &[Proc { result: None, code: routine!(&[], 1, [Line::End]) }], 0, [Line::End] => Some((0, 0, V10));
+    &[
+        Proc {
+            result: Some(Kind::Fixed(31)),
+            code: routine!(&[], 2, [Line::Number, Line::Number, Line::Return])
+        },
+    ], 0, [Line::End] => Some((0, 2, V10));
+    &[Proc { result: Some(Kind::Fixed(31)), code: routine!(&[], 1, [Line::Return]) }], 0, [Line::End]
+        => Some((0, 0, V2));
 ];
 
 static DEPTHS: [Row; 3] = tasks![
@@ -255,7 +265,7 @@ static SEMAPHORES: [Row; 4] = tasks![
 
 const PAIR: Bounds = Bounds { low: 1, high: 2 };
 
-static SUBSCRIPTS: [Row; 4] = tasks![
+static SUBSCRIPTS: [Row; 7] = tasks![
     &[], 1, [Line::Number, Line::Index(&[Bounds { low: 1, high: 65536 }]), Line::Drop, Line::End], &[] => None;
     &[], 1, [Line::Number, Line::Index(&[Bounds { low: 0, high: 65536 }]), Line::Drop, Line::End], &[]
         => Some((0, 1, V12));
@@ -265,11 +275,16 @@ static SUBSCRIPTS: [Row; 4] = tasks![
     &[], 4,
         [Line::Number, Line::Number, Line::Number, Line::Number, Line::Index(&[PAIR, PAIR, PAIR, PAIR]),
         Line::Drop, Line::End], &[] => Some((0, 4, V12));
+    &[], 1, [Line::Index(&[]), Line::Drop, Line::End], &[] => Some((0, 0, V12));
+    &[], 1, [Line::Number, Line::Index(&[Bounds { low: 2, high: 2 }]), Line::Drop, Line::End], &[] => None;
+    &[], 1, [Line::Number, Line::Index(&[Bounds { low: 2, high: 1 }]), Line::Drop, Line::End], &[]
+        => Some((0, 1, V12));
 ];
 
-static FORMATS: [Row; 4] = tasks![
+static FORMATS: [Row; 5] = tasks![
     &[], 1, [Line::Number, Line::Put { device: 0, format: 0 }, Line::End], &[] => None;
     &[], 1, [Line::Bit, Line::Put { device: 0, format: 0 }, Line::End], &[] => Some((0, 1, V12));
+    &[], 1, [Line::RefSlot(0), Line::Put { device: 0, format: 0 }, Line::End], &[] => Some((0, 1, V12));
     &[], 0, [Line::Put { device: 0, format: 2 }, Line::End], &[] => None;
     &[], 0, [Line::Put { device: 0, format: 3 }, Line::End], &[] => Some((0, 0, V12));
 ];

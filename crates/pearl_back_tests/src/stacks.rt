@@ -3,6 +3,7 @@
 ghost use Rattle.std.specs.Prelude.{◌≡◌, IsSome, Some, option_map};
 ghost use Rattle.pearl_stack.specs.Frames.{frame_at, sizes};
 
+use crate::operands::is_number;
 use pearl_stack::stack::{Frame, Loaded, Parked};
 use pearl_value::cell::{Cell, Place};
 use pearl_value::kind::Kind;
@@ -25,13 +26,6 @@ macro_rules! frames {
 
 fn number(value: i64) -> Cell {
     Cell::Fixed { len: 31, value }
-}
-
-fn is_number(cell: &Cell, number: i64) -> bool {
-    match cell {
-        Cell::Fixed { len, value } => *len == 31 && *value == number,
-        _ => false,
-    }
 }
 
 fn has_cells(stack: &Loaded, f: u32, frame: &Frame, wanted: &[i64]) -> bool

@@ -1,7 +1,7 @@
 // Modules worked out by hand, each with its sizes, tasks, procedures and slots, or with the first rule that it breaks, at its
 // mark: cycles of calls, sizes and weights, and rules of all sorts beside each other.
 
-use crate::cases::{expect, places_of, source_of, tree_of};
+use crate::cases::{STOP, expect, places_of, tree_of};
 use pearl_check::check;
 use pearl_check::fault::CheckFault;
 use std::alloc::{AllocError, Global};
@@ -36,9 +36,9 @@ fn modules() -> &'static [(&'static str, &'static str)] {
     ]
 }
 
-// What there is of a module with no marks, and the place of its fault, if it has one.
-fn checked(alloc: Global, source: &[u8], text: &mut String) -> Result<Option<u32>, AllocError> {
-    let Some(tree) = tree_of(alloc, source) else {
+// What there is of a module, and the place of its fault, if it has one.
+fn checked(alloc: Global, case: &[u8], text: &mut String) -> Result<Option<u32>, AllocError> {
+    let Some(tree) = tree_of(alloc, case) else {
         text.push_str("no tree")?;
         return Ok(None);
     };
@@ -58,10 +58,9 @@ fn checked(alloc: Global, source: &[u8], text: &mut String) -> Result<Option<u32
 // The sizes or the rule, with its place in front where that isn't at the last mark.
 fn shown(alloc: Global, case: &str) -> Result<String, AllocError> {
     let marked = format!(in alloc; "MODULE;PROBLEM;{case}MODEND")?;
-    let source = source_of(alloc, marked.as_bytes())?;
-    let places = places_of(alloc, marked.as_bytes())?;
+    let places = places_of(alloc, marked.as_bytes(), STOP)?;
     let mut found = String::new(alloc);
-    let place = checked(alloc, source.as_slice(), &mut found)?;
+    let place = checked(alloc, marked.as_bytes(), &mut found)?;
     match place {
         Some(place) if places.as_slice().last() != Some(&place) => {
             format!(in alloc; "{place}:{found}")

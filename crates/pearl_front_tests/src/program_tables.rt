@@ -1,13 +1,13 @@
 // The calls that make tables of a program, each by itself.
 
+use crate::cases::tree_of;
 use crate::program_text::{put_devices, put_formats, put_leaves, put_semaphores};
-use crate::source::tree_of;
+use pearl_names::table::table_of;
 use pearl_resolve_tables::devices::program_devices;
 use pearl_resolve_tables::formats::module_formats;
 use pearl_resolve_tables::leaves::add_leaves;
 use pearl_resolve_tables::presets::module_presets;
 use pearl_resolve_tables::values::left_behind;
-use pearl_names::table::table_of;
 use pearl_system::system;
 use pearl_tree::declaration::{Declared, Item};
 use pearl_tree::tree::{Decl, Tree};
@@ -27,7 +27,7 @@ fn first_item(tree: &Tree) -> Option<&Item> {
 
 // The leaves of the first name of a module, how many slots they take, and how many constants are left behind two slots.
 fn leaves_of(alloc: Global, source: &[u8]) -> Option<String> {
-    let tree = tree_of(alloc, source).ok()??;
+    let tree = tree_of(alloc, source)?;
     let table = table_of(alloc, &tree).ok()?;
     let sense = table.senses_in(0).first()?;
     let constants = first_item(&tree)?.init.as_slice();
@@ -41,7 +41,7 @@ fn leaves_of(alloc: Global, source: &[u8]) -> Option<String> {
 }
 
 fn presets_of(alloc: Global, source: &[u8]) -> Option<String> {
-    let tree = tree_of(alloc, source).ok()??;
+    let tree = tree_of(alloc, source)?;
     let presets = module_presets(alloc, &tree).ok()?;
     let mut text = String::new(alloc);
     put_semaphores(&mut text, presets.as_slice()).ok()?;
@@ -49,7 +49,7 @@ fn presets_of(alloc: Global, source: &[u8]) -> Option<String> {
 }
 
 fn formats_of(alloc: Global, source: &[u8]) -> Option<String> {
-    let tree = tree_of(alloc, source).ok()??;
+    let tree = tree_of(alloc, source)?;
     let formats = module_formats(alloc, &tree).ok()?;
     let mut text = String::new(alloc);
     put_formats(&mut text, formats.as_slice()).ok()?;
@@ -57,7 +57,7 @@ fn formats_of(alloc: Global, source: &[u8]) -> Option<String> {
 }
 
 fn devices_of(alloc: Global, source: &[u8]) -> Option<String> {
-    let tree = tree_of(alloc, source).ok()??;
+    let tree = tree_of(alloc, source)?;
     let table = table_of(alloc, &tree).ok()?;
     let (specified, _) = system(alloc, &tree).ok()?;
     let devices = program_devices(alloc, table.lengths(), specified.as_slice()).ok()?;

@@ -1,9 +1,13 @@
 // Small modules with what their programs say, or with the first rule that they break, worked out by hand.
 
+use crate::cases::tree_of;
 use crate::program_text::text_of;
-use crate::source::tree_of;
+use pearl_calls::numbering::Numbering;
+use pearl_check::accept::accept;
 use pearl_check::fault::CheckFault;
-use pearl_top::program::program_of;
+use pearl_program::program::Program;
+use pearl_resolve::program::resolve;
+use pearl_tree::tree::Tree;
 use std::alloc::{AllocError, Global};
 use std::test::Fail;
 
@@ -49,13 +53,35 @@ fn broken_modules() -> &'static [(&'static str, &'static str)] {
     ]
 }
 
+fn numbers_of(alloc: Global, numbering: &Numbering) -> Result<Vec<u32>, AllocError> {
+    let mut numbers = Vec::new(alloc);
+    for number in numbering.numbers() {
+        numbers.push(u32::try_from(*number).map_err(|_| AllocError)?)?;
+    }
+    Ok(numbers)
+}
+
+// The program of a module, or the first rule that it breaks.
+fn resolved(alloc: Global, tree: &Tree) -> Result<Program, CheckFault> {
+    let accepted = accept(alloc, tree)?;
+    let numbers = numbers_of(alloc, &accepted.numbering)?;
+    let program = resolve(
+        alloc,
+        accepted.table,
+        accepted.devices.as_slice(),
+        numbers.as_slice(),
+        tree,
+    )?;
+    Ok(program)
+}
+
 // What the program of a source says, or the rule that it breaks, with its place.
 fn told(alloc: Global, source: &str) -> Result<String, AllocError> {
-    let Some(tree) = tree_of(alloc, source.as_bytes())? else {
+    let Some(tree) = tree_of(alloc, source.as_bytes()) else {
         return String::from_str(alloc, "no tree");
     };
-    match program_of(alloc, &tree) {
-        Ok(program) => text_of(alloc, program.parts()),
+    match resolved(alloc, &tree) {
+        Ok(program) => text_of(alloc, &program),
         Err(CheckFault::Refused(fault)) => format!(in alloc; "S{} at {}", fault.rule, fault.place),
         Err(CheckFault::NoMemory) => Err(AllocError),
     }

@@ -1,6 +1,6 @@
 // Statements of small modules, worked out by hand: the rules on statements that are broken at their marks.
 
-use crate::cases::{expect, places_of, source_of, tree_of};
+use crate::cases::{STOP, expect, places_of, show_faults, tree_of};
 use pearl_check::rules::statement_faults;
 use pearl_names::table::table_of;
 use pearl_tree::fault::RuleFault;
@@ -73,34 +73,18 @@ fn faults_of(alloc: Global, tree: &Tree) -> Result<Vec<RuleFault>, AllocError> {
     statement_faults(alloc, &table, tree)
 }
 
-// Shows broken rules, each with a blank behind it. One that isn't told at its mark has its place in front.
-fn show(into: &mut String, faults: &[RuleFault], places: &[u32]) -> Result<(), AllocError> {
-    let mut marks = places.iter();
-    for fault in faults {
-        if marks.next() != Some(&fault.place) {
-            write!(into, "{}:", fault.place)?;
-        }
-        write!(into, "S{} ", fault.rule)?;
-    }
-    if marks.next().is_some() {
-        into.push_str("a mark too many ")?;
-    }
-    Ok(())
-}
-
 // The broken rules of a module, each with a blank behind it, or what it has in place of them. A rule that isn't told at its
 // mark has its place in front.
 fn shown(alloc: Global, case: &str) -> Result<String, AllocError> {
     let mut text = String::new(alloc);
     let case = format!(in alloc; "MODULE;PROBLEM;{case}MODEND")?;
-    let source = source_of(alloc, case.as_bytes())?;
-    let places = places_of(alloc, case.as_bytes())?;
-    let Some(tree) = tree_of(alloc, source.as_slice()) else {
+    let places = places_of(alloc, case.as_bytes(), STOP)?;
+    let Some(tree) = tree_of(alloc, case.as_bytes()) else {
         text.push_str("no tree")?;
         return Ok(text);
     };
     let faults = faults_of(alloc, &tree)?;
-    show(&mut text, faults.as_slice(), places.as_slice())?;
+    show_faults(&mut text, faults.as_slice(), places.as_slice())?;
     Ok(text)
 }
 

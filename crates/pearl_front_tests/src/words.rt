@@ -1,9 +1,12 @@
-// Rows of the tables, by hand.
+// Rows of the tables of words and operators by hand, and a list of parts.
 
 use pearl_tree::family::*;
+use pearl_tree::name::Number;
 use pearl_tree::opcode::*;
 use pearl_tree::operator::{OPS, find_op};
+use pearl_tree::parts::Parts;
 use pearl_tree::word::{WordRow, find_word, words};
+use std::test::Fail;
 
 // Texts with the codes of the words that they are.
 fn spellings() -> &'static [(&'static [u8], Option<u8>)] {
@@ -79,4 +82,15 @@ fn operators_have_rows_for_their_families(rt: HostRuntime) {
             "row {number}"
         );
     }
+}
+
+#[test]
+fn parts_show_their_items_in_order(rt: HostRuntime) -> Result<(), Fail> {
+    let one = Number { value: 1, place: 4 };
+    let two = Number { value: 2, place: 6 };
+    let parts = Parts::new(Vec::from_array(rt.alloc(), [one, two])?);
+    assert!(rt; parts.as_slice().len() == 2);
+    assert!(rt; parts.as_slice()[0].place == 4);
+    assert!(rt; parts.as_slice()[1].value == 2);
+    Ok(())
 }

@@ -4,3 +4,6 @@ pub mod BitLaws
 pub mod Pieces
 pub mod Steps
 pub mod Completing
+pub mod Written
+pub mod Back
+pub mod Within

@@ -4,5 +4,5 @@ pub mod Gaps
 pub mod Digits
 -- what an answer of a scan tells
 pub mod Answers
--- what the laws of GET's scan say
+-- what GET uses, and what it reads, also of what PUT wrote
 pub mod Laws

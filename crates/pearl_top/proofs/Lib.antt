@@ -1,3 +1,5 @@
+pub mod RightRenewals
+pub mod SoundPrograms
 pub mod TakenLaws
 pub mod SourceLaws
 pub mod CheckLaws

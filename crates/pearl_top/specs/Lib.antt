@@ -1,3 +1,7 @@
+-- which program a module means
+pub mod Programs
+-- that the program of a module is sound
+pub mod SoundPrograms
 -- the exit status of each way in which a call ends
 pub mod Status
 -- which words are a command

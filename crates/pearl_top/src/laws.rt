@@ -1,6 +1,18 @@
-// The definitions determine what a call brings about, and printing a printed text changes nothing.
+// The program of a module is sound, the definitions determine what a call brings about, and printing a printed text
+// changes nothing.
 
 ghost use Rattle.pearl_top.specs.Laws.{HasOneMeaning, HasOneTranscript, HasOneOutcome, PrintsItsText};
+ghost use Rattle.pearl_top.specs.SoundPrograms.{BodiesRenewRight, ProgramsAreSound};
+
+/// What goes into the variables of tasks and procedures as first values suits them.
+pub fn bodies_renew_right()
+    ensures { BodiesRenewRight }
+{}
+
+/// The program of a lawful module that breaks no static rule is sound.
+pub fn programs_are_sound()
+    ensures { ProgramsAreSound }
+{}
 
 /// A source means one program.
 pub fn one_meaning()

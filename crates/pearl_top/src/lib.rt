@@ -8,6 +8,7 @@ mod failure;
 pub mod laws;
 mod limits;
 mod print;
+pub mod program;
 mod read;
 mod refuse;
 mod replay;

@@ -1,5 +1,4 @@
 // The program of a module that breaks no rule.
-#![tactic(auto)]
 
 ghost use Rattle.std.specs.Prelude.{◌≡◌, List, [], IfOk, IfErr};
 ghost use Rattle.pearl_calls.specs.Numbers.{AreNumbers};
@@ -11,8 +10,6 @@ ghost use Rattle.pearl_tree.specs.Lawful.{IsLawful};
 ghost use Rattle.pearl_tree.specs.Modules.{Spells};
 ghost use Rattle.pearl_tree.specs.ShownModules.{shown_tree};
 ghost use Rattle.pearl_top.specs.Programs.{IsProgramOf};
-
-pub mod laws;
 
 use pearl_calls::numbering::Numbering;
 use pearl_check::accept::accept;

@@ -5,8 +5,13 @@ use crate::source::{Made, made_of};
 use std::alloc::{AllocError, Global};
 use std::test::Fail;
 
+// A table with a case in each line: the parts of a module, and the code of its routines.
+macro_rules! codes {
+    ($($parts:literal => $code:literal;)*) => { &[$(($parts, $code)),*] };
+}
+
 fn modules() -> &'static [(&'static str, &'static str)] {
-    table![
+    codes![
         "PROBLEM;DCL x FIXED,v(2:4) FIXED,i FIXED;t:TASK MAIN;x:=v(i)+1;END;"
             => "read 2;index 2:4;readat 1;FIXED31:1;Add;conv FIXED31;write 0;end;|";
         "PROBLEM;t:TASK MAIN;DCL x FIXED,v(2:4) FIXED INIT(8),i FIXED INIT(3);v(i):=x;END;"

@@ -1,4 +1,4 @@
-// Tests of the top call.
+// Tests over whole sources: what the top call answers, and the code that programs become.
 #![tactic(auto)]
 
 // A table with a case in each line: a source, and what is expected.
@@ -16,15 +16,25 @@ mod case;
 #[cfg(test)]
 mod check;
 #[cfg(test)]
+mod codes;
+#[cfg(test)]
 mod ends;
 #[cfg(test)]
+mod instruction_text;
+#[cfg(test)]
 mod mark;
+#[cfg(test)]
+mod nesting;
+#[cfg(test)]
+mod objects;
 #[cfg(test)]
 mod pieces;
 #[cfg(test)]
 mod print;
 #[cfg(test)]
 mod run;
+#[cfg(test)]
+mod source;
 #[cfg(test)]
 mod tasks;
 #[cfg(test)]
