@@ -3,7 +3,7 @@
 ghost use Rattle.std.specs.Prelude.{◌≡◌, ◌+◌, ◌<◌, ◌≤◌, ℕ, length, IfOk, IfSome};
 ghost use Rattle.std.specs.List.{AllByRecursion};
 ghost use Rattle.pearl_format.specs.Items.{IsFormat};
-ghost use Rattle.pearl_rules.specs.Tables.{IsDevice, AreRising};
+ghost use Rattle.pearl_value.specs.Devices.{IsDevice, AreRising};
 ghost use Rattle.pearl_rules.specs.declared.action.Action.TheVariants.{Take};
 ghost use Rattle.pearl_instructions.specs.Lawful.{IsLeaf, IsProcedure, IsTask, IsObject};
 ghost use Rattle.pearl_instructions.specs.Objects.{slot_kind};

@@ -1,5 +1,0 @@
-use Rattle.pearl_core_laws.proofs.Incoming.{send_tells}
-use Rattle.pearl_core_laws.proofs.devices.sends_tell_their_value.Goals as goal
-
-pub returns : goal.returns
-returns c = send_tells

@@ -1,5 +1,0 @@
-use Rattle.pearl_core_laws.proofs.Incoming.{take_waits}
-use Rattle.pearl_core_laws.proofs.devices.takes_wait_for_a_value.Goals as goal
-
-pub returns : goal.returns
-returns c = take_waits

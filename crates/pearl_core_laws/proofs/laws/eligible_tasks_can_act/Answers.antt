@@ -1,5 +1,0 @@
-use Rattle.pearl_core_laws.proofs.Standing.{eligible_acts}
-use Rattle.pearl_core_laws.proofs.laws.eligible_tasks_can_act.Goals as goal
-
-pub returns : goal.returns
-returns c = eligible_acts

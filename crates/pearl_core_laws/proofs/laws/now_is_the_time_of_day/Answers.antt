@@ -1,5 +1,0 @@
-use Rattle.pearl_core_laws.proofs.Incoming.{now_answers}
-use Rattle.pearl_core_laws.proofs.laws.now_is_the_time_of_day.Goals as goal
-
-pub returns : goal.returns
-returns c = now_answers

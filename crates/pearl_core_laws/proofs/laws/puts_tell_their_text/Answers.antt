@@ -1,5 +1,0 @@
-use Rattle.pearl_core_laws.proofs.Doing.{put_tells}
-use Rattle.pearl_core_laws.proofs.laws.puts_tell_their_text.Goals as goal
-
-pub returns : goal.returns
-returns c = put_tells

@@ -1,5 +1,0 @@
-use Rattle.pearl_core_laws.proofs.Alike.{passes_turn}
-use Rattle.pearl_core_laws.proofs.runs.passes_are_ticks_and_runs.Goals as goal
-
-pub returns : goal.returns
-returns c = passes_turn
