@@ -1,6 +1,5 @@
 -- What starts, plans that serve, interrupts and milliseconds keep: a property of cores that each small step keeps is kept by all of them,
 -- and by every action where ends keep it too.
-use Rattle.std.proofs.lemmas.Option.{none-some}
 use Rattle.std.proofs.Common.{◌≡◌, ℕ, zero, suc, ◌+◌, Bool, true, false, nat_lt, if◌then◌else◌, IfSome, List, [], ◌∷◌, ◌++◌, ◌-◌, Option, Some, None, Result, Ok, Err, length, length-set, drop, nat_le, slice_set, refl, sym, ap, subst, ◌∙◌}
 use Rattle.pearl_value.specs.declared.cell.Cell.{Cell}
 use Rattle.pearl_value.specs.declared.kind.Kind.{Kind}
@@ -209,14 +208,6 @@ module _ (Urgent : ℕ → Type 0) (Lawful : Plan → Type 0) (Going : Mode → 
       (row : TaskRow) → row_of core t ≡ Some row → Goes Lawful Going row.mode plan
   continuation-is core t plan is p row at =
       subst (λ o. IfSome o (Goes Lawful Going row.mode)) (sym (ap continuation_in at) ∙ is) (closed.going core t row at p)
-
-  -- it has one only where it is a task
-  continuation-there : (core : Core) (t : ℕ) (plan : Plan) → continuation_of core t ≡ Some plan → P core → Lawful plan
-  continuation-there core t plan is p = by_row (row_of core t) refl
-    where
-      by_row : (row : Option TaskRow) → row_of core t ≡ row → Lawful plan
-      by_row None at = absurd (none-some plan (sym (ap continuation_in at) ∙ is))
-      by_row (Some row) at = (continuation-is core t plan is p row at).0
 
   activation-is : (core : Core) (t : ℕ) → P core → IfSome (activation_of core t) (Starts Urgent Lawful)
   activation-is core t p = by_row (row_of core t) refl

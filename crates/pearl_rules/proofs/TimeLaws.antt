@@ -61,11 +61,13 @@ module _ (setup : Setup) where
   good_begun : (core : Core) (plan : Plan) → HasTimes setup core → IsGood plan → IsGood (begun core plan)
   good_begun core plan has good =
       let after = good.0.after in
-      let moment = has.moment in
-      (with_series setup plan (begun core plan).series good.0, record {
-        has = λ none. tt;
-        near = (omega (arith, after, moment), good.0.period);
-      })
+      let moment = has.moment in (
+        with_series setup plan (begun core plan).series good.0,
+        record {
+          has = λ none. refl;
+          near = (omega (arith, after, moment), good.0.period);
+        },
+      )
 
   -- a plan that is made now
   good_planned : (core : Core) (when : Start) (how : Repeat) → IsStart setup when → IsRepeat how → HasTimes setup core →
@@ -78,9 +80,9 @@ module _ (setup : Setup) where
       moment = has.moment
 
       begins : (when : Start) → interrupt_of when ≡ None → IsSome (first_series core when how)
-      begins start.Free none = tt
-      begins (start.At time) none = tt
-      begins (start.After time) none = tt
+      begins start.Free none = refl
+      begins (start.At time) none = refl
+      begins (start.After time) none = refl
       begins (start.When device) none = absurd (none-some device (sym none))
       begins (start.WhenAfter device time) none = absurd (none-some device (sym none))
 
@@ -193,7 +195,7 @@ module _ (setup : Setup) where
       by_row (Some before) is =
           let new : TaskRow = record before { mode = marked_mode true before.mode } in
           let marks : with_mark core own true ≡ with_row core own new =
-              ap (λ o. on_row o core (λ r. with_row core own (record r { mode = marked_mode true (mode_of_row o) }))) is in
+          ap (λ o. on_row o core (λ r. with_row core own (record r { mode = marked_mode true (mode_of_row o) }))) is in
           let there = set-same core.tasks own before new is in
           let same : new ≡ row = same_Some new row (sym there ∙ sym (ap (λ c. row_of c own) marks) ∙ at) in
           subst (λ r. IsActive r.mode) same (marked before.mode (sym (ap is_active_row is) ∙ active))
