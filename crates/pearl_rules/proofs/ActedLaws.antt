@@ -63,7 +63,8 @@ module _ (acted : Option ℕ) where
       either IsLast (nat_le (length (bytes_at core device ++ text)) terminal_room)
       (with_channel core device (Bytes (bytes_at core device ++ text))) (note core (event.Lost device)) is is
 
-  last_joined : (core : Core) (device : ℕ) (kind : Kind) (pending : List Cell) (value : Result Cell Trap) → IsLast core →
+  last_joined : (core : Core) (device : ℕ) (kind : Kind) (pending : List Cell) (value : Result Cell Trap) →
+      IsLast core →
       IsLast (joined core device kind pending value)
   last_joined core device kind pending (Err trap) is = is
   last_joined core device kind pending (Ok x) is = is
@@ -76,7 +77,8 @@ module _ (acted : Option ℕ) where
     where
       by_channel : (channel : Option Channel) → IsLast (with_value_by channel core device x)
       by_channel (Some (Values kind pending)) =
-          either IsLast (nat_lt (length pending) input_room) (joined core device kind pending (converted x kind)) (note core (event.Lost device))
+          either IsLast (nat_lt (length pending) input_room) (joined core device kind pending (converted x kind))
+          (note core (event.Lost device))
           (last_joined core device kind pending (converted x kind) is) is
       by_channel (Some (Switch enabled)) = is
       by_channel (Some (Bytes pending)) = is
@@ -86,16 +88,20 @@ module _ (acted : Option ℕ) where
   last_arrived core other is = is
 
 -- one that is a task among as many tasks
-last_among : (core other : Core) → other.last ≡ core.last → length other.tasks ≡ length core.tasks → HasLast core → HasLast other
+last_among : (core other : Core) → other.last ≡ core.last → length other.tasks ≡ length core.tasks → HasLast core →
+    HasLast other
 last_among core other last size has =
-    subst (λ n. IfSome other.last (λ t. t < n)) (sym size) (subst (λ o. IfSome o (λ t. t < length core.tasks)) (sym last) has)
+    subst (λ n. IfSome other.last (λ t. t < n)) (sym size)
+    (subst (λ o. IfSome o (λ t. t < length core.tasks)) (sym last) has)
 
 -- every action
-pub effect-last : (core : Core) (own : ℕ) (action : Action) → own < length core.tasks → HasLast (effect core own action).core
+pub effect-last : (core : Core) (own : ℕ) (action : Action) → own < length core.tasks →
+    HasLast (effect core own action).core
 effect-last core own asked there =
     let acted : Core = record core { last = Some own } in
     last_among acted (effect core own asked).core
-    (effect-kept AnyPriority AnyPlan (IsLast (Some own)) (last_closed (Some own)) (last_at_ends (Some own)) core own asked (any_brings core asked)
+    (effect-kept AnyPriority AnyPlan (IsLast (Some own)) (last_closed (Some own))
+    (last_at_ends (Some own)) core own asked (any_brings core asked)
     (last_values (Some own) acted asked refl) refl) (effect-length core own asked) there
 
 -- every turn, every millisecond and whatever comes in
@@ -105,7 +111,8 @@ turned-last core offers t has = by_test (can_turn core offers t) refl
     eligible : can_turn core offers t ≡ true → is_eligible core offers t ≡ true
     eligible is = (and_parts (is_eligible core offers t) (is_as_urgent core (pick core offers) t) is).0
 
-    by_row : (row : Option TaskRow) → row_of core t ≡ row → is_ready_row row (is_possible core (offers t)) ≡ true → t < length core.tasks
+    by_row : (row : Option TaskRow) → row_of core t ≡ row → is_ready_row row (is_possible core (offers t)) ≡ true →
+        t < length core.tasks
     by_row None at ready = absurd (false≢true ready)
     by_row (Some row) at ready = slice_get_within core.tasks t row at
 
@@ -115,7 +122,8 @@ turned-last core offers t has = by_test (can_turn core offers t) refl
 
 pub millisecond-last : (core : Core) → HasLast core → HasLast (millisecond core)
 millisecond-last core has =
-    last_among core (millisecond core) (millisecond-kept AnyPriority AnyPlan (IsLast core.last) (last_closed core.last) core refl)
+    last_among core (millisecond core) (millisecond-kept AnyPriority AnyPlan (IsLast core.last)
+    (last_closed core.last) core refl)
     (millisecond-length core) has
 
 pub arrived-last : (core : Core) (come : Entry) → HasLast core → HasLast (arrived core come)

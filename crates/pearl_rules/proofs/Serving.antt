@@ -42,23 +42,27 @@ Starts Urgent Lawful activation = Urgent activation.priority × Lawful activatio
 abbrev pub Goes : (Lawful : Plan → Type 0) (Going : Mode → Type 0) → Mode → Plan → Type 0
 Goes Lawful Going mode plan = Lawful plan × Going mode
 
--- Each small step keeps the property P: one more event, another mode, another plan. The plans of a core with P are of these sorts, and
--- so are the modes of the tasks that have a plan to go on; every active task may have one.
-pub record ClosedFor (Urgent : ℕ → Type 0) (Lawful : Plan → Type 0) (Going : Mode → Type 0) (P : Core → Type 0) : Type 0 where
+-- Each small step keeps the property P: one more event, another mode, another plan. The plans of a core with P are of
+-- these sorts, and so are the modes of the tasks that have a plan to go on; every active task may have one.
+pub record ClosedFor (Urgent : ℕ → Type 0) (Lawful : Plan → Type 0) (Going : Mode → Type 0)
+    (P : Core → Type 0) : Type 0 where
   pub told : (core : Core) (e : Event) → P core → P (note core e)
-  pub stands : (core : Core) (t : ℕ) (row : TaskRow) (mode : Mode) → row_of core t ≡ Some row → Stays Urgent row.mode mode → P core →
+  pub stands : (core : Core) (t : ℕ) (row : TaskRow) (mode : Mode) → row_of core t ≡ Some row →
+      Stays Urgent row.mode mode → P core →
       P (with_row core t (record row { mode = mode }))
   pub goes_on : (core : Core) (t : ℕ) (row : TaskRow) (plan : Option Plan) → row_of core t ≡ Some row →
       IfSome plan (Goes Lawful Going row.mode) → P core → P (with_row core t (record row { continuation = plan }))
-  pub starts : (core : Core) (t : ℕ) (row : TaskRow) (plan : Activation) → row_of core t ≡ Some row → Starts Urgent Lawful plan → P core →
+  pub starts : (core : Core) (t : ℕ) (row : TaskRow) (plan : Activation) → row_of core t ≡ Some row →
+      Starts Urgent Lawful plan → P core →
       P (with_row core t (record row { activation = Some plan }))
-  pub going : (core : Core) (t : ℕ) (row : TaskRow) → row_of core t ≡ Some row → P core → IfSome row.continuation (Goes Lawful Going row.mode)
-  pub starting : (core : Core) (t : ℕ) (row : TaskRow) → row_of core t ≡ Some row → P core → IfSome row.activation (Starts Urgent Lawful)
+  pub going : (core : Core) (t : ℕ) (row : TaskRow) → row_of core t ≡ Some row → P core →
+      IfSome row.continuation (Goes Lawful Going row.mode)
+  pub starting : (core : Core) (t : ℕ) (row : TaskRow) → row_of core t ≡ Some row → P core →
+      IfSome row.activation (Starts Urgent Lawful)
   pub begins : (core : Core) (plan : Plan) → P core → Lawful plan → Lawful (begun core plan)
   pub active : (mode : Mode) → is_active_mode mode ≡ true → Going mode
 
--- The same where nothing is asked of the modes, and where what plans are to be doesn't depend on the core: each small step keeps P one more
--- event, another mode, another plan. The plans of a core with P are of these sorts.
+-- The same where nothing is asked of the modes, and where what plans are to be doesn't depend on the core.
 pub record Closed (Urgent : ℕ → Type 0) (Lawful : Plan → Type 0) (P : Core → Type 0) : Type 0 where
   pub told : (core : Core) (e : Event) → P core → P (note core e)
   pub stands : (core : Core) (t : ℕ) (row : TaskRow) (mode : Mode) → row_of core t ≡ Some row → Stays Urgent row.mode mode → P core →
@@ -173,11 +177,13 @@ pub each-kept : (P : Core → Type 0) (change : Core → ℕ → Core) → ((cor
 each-kept P change kept zero core p = p
 each-kept P change kept (suc n) core p = kept (each_task change n core) n (each-kept P change kept n core p)
 
-module _ (Urgent : ℕ → Type 0) (Lawful : Plan → Type 0) (Going : Mode → Type 0) (P : Core → Type 0) (closed : ClosedFor Urgent Lawful Going P) where
+module _ (Urgent : ℕ → Type 0) (Lawful : Plan → Type 0) (Going : Mode → Type 0) (P : Core → Type 0)
+    (closed : ClosedFor Urgent Lawful Going P) where
   -- ROWS
 
   -- another mode
-  mode-keeps : (core : Core) (t : ℕ) (mode : Mode) → ((row : TaskRow) → row_of core t ≡ Some row → Stays Urgent row.mode mode) → P core →
+  mode-keeps : (core : Core) (t : ℕ) (mode : Mode) →
+      ((row : TaskRow) → row_of core t ≡ Some row → Stays Urgent row.mode mode) → P core →
       P (with_mode core t mode)
   mode-keeps core t mode stays p = by_row (row_of core t) refl
     where
@@ -187,7 +193,8 @@ module _ (Urgent : ℕ → Type 0) (Lawful : Plan → Type 0) (Going : Mode → 
 
   -- another plan to go on
   continuation-keeps : (core : Core) (t : ℕ) (plan : Option Plan) →
-      ((row : TaskRow) → row_of core t ≡ Some row → IfSome plan (Goes Lawful Going row.mode)) → P core → P (with_continuation core t plan)
+      ((row : TaskRow) → row_of core t ≡ Some row → IfSome plan (Goes Lawful Going row.mode)) → P core →
+      P (with_continuation core t plan)
   continuation-keeps core t plan goes p = by_row (row_of core t) refl
     where
       by_row : (row : Option TaskRow) → row_of core t ≡ row → P (on_row row core (λ r. with_row core t (record r { continuation = plan })))
@@ -195,7 +202,8 @@ module _ (Urgent : ℕ → Type 0) (Lawful : Plan → Type 0) (Going : Mode → 
       by_row (Some row) at = closed.goes_on core t row plan at (goes row at) p
 
   -- another plan to be started
-  activation-keeps : (core : Core) (t : ℕ) (plan : Activation) → ((row : TaskRow) → row_of core t ≡ Some row → Starts Urgent Lawful plan) → P core →
+  activation-keeps : (core : Core) (t : ℕ) (plan : Activation) →
+      ((row : TaskRow) → row_of core t ≡ Some row → Starts Urgent Lawful plan) → P core →
       P (with_activation core t (Some plan))
   activation-keeps core t plan lawful p = by_row (row_of core t) refl
     where
@@ -207,7 +215,8 @@ module _ (Urgent : ℕ → Type 0) (Lawful : Plan → Type 0) (Going : Mode → 
   continuation-is : (core : Core) (t : ℕ) (plan : Plan) → continuation_of core t ≡ Some plan → P core →
       (row : TaskRow) → row_of core t ≡ Some row → Goes Lawful Going row.mode plan
   continuation-is core t plan is p row at =
-      subst (λ o. IfSome o (Goes Lawful Going row.mode)) (sym (ap continuation_in at) ∙ is) (closed.going core t row at p)
+      subst (λ o. IfSome o (Goes Lawful Going row.mode)) (sym (ap continuation_in at) ∙ is)
+      (closed.going core t row at p)
 
   activation-is : (core : Core) (t : ℕ) → P core → IfSome (activation_of core t) (Starts Urgent Lawful)
   activation-is core t p = by_row (row_of core t) refl
@@ -218,7 +227,8 @@ module _ (Urgent : ℕ → Type 0) (Lawful : Plan → Type 0) (Going : Mode → 
 
   -- STARTS AND SUSPENDED TASKS
 
-  pub started-keeps : (core : Core) (t priority : ℕ) → ((row : TaskRow) → row_of core t ≡ Some row → Urgent priority) → P core →
+  pub started-keeps : (core : Core) (t priority : ℕ) →
+      ((row : TaskRow) → row_of core t ≡ Some row → Urgent priority) → P core →
       P (started core t priority)
   started-keeps core t priority urgent p = by_mode (mode_of core t) refl
     where
@@ -241,7 +251,8 @@ module _ (Urgent : ℕ → Type 0) (Lawful : Plan → Type 0) (Going : Mode → 
   -- PLANS THAT SERVE
 
   continued-keeps : (core : Core) (t : ℕ) → P core → P (continued core t)
-  continued-keeps core t p = continuation-keeps (with_mark core t false) t None (λ row at. tt) (mark-keeps core t false p)
+  continued-keeps core t p = continuation-keeps (with_mark core t false) t None (λ row at. tt)
+      (mark-keeps core t false p)
 
   serve_continuation-keeps : (core : Core) (t : ℕ) → P core → P (serve_continuation core t)
   serve_continuation-keeps core t p =
@@ -253,14 +264,17 @@ module _ (Urgent : ℕ → Type 0) (Lawful : Plan → Type 0) (Going : Mode → 
       by_plan : (plan : Option Activation) → IfSome plan (Starts Urgent Lawful) → P (serve_activation_by plan core t)
       by_plan None lawful = p
       by_plan (Some plan) lawful =
-          either P (serves_if core (Some plan.plan)) (started core t plan.priority) core (started-keeps core t plan.priority (λ row at. lawful.0) p) p
+          either P (serves_if core (Some plan.plan)) (started core t plan.priority) core
+          (started-keeps core t plan.priority (λ row at. lawful.0) p) p
 
   pub plan_continuation-keeps : (core : Core) (t : ℕ) (plan : Plan) →
-      ((row : TaskRow) → row_of core t ≡ Some row → Goes Lawful Going row.mode plan) → P core → P (plan_continuation core t plan)
+      ((row : TaskRow) → row_of core t ≡ Some row → Goes Lawful Going row.mode plan) → P core →
+      P (plan_continuation core t plan)
   plan_continuation-keeps core t plan goes p =
       serve_continuation-keeps (with_continuation core t (Some plan)) t (continuation-keeps core t (Some plan) goes p)
 
-  pub plan_activation-keeps : (core : Core) (t : ℕ) (plan : Activation) → ((row : TaskRow) → row_of core t ≡ Some row → Starts Urgent Lawful plan) →
+  pub plan_activation-keeps : (core : Core) (t : ℕ) (plan : Activation) →
+      ((row : TaskRow) → row_of core t ≡ Some row → Starts Urgent Lawful plan) →
       P core → P (plan_activation core t plan)
   plan_activation-keeps core t plan lawful p =
       serve_activation-keeps (with_activation core t (Some plan)) t (activation-keeps core t plan lawful p)
@@ -271,7 +285,8 @@ module _ (Urgent : ℕ → Type 0) (Lawful : Plan → Type 0) (Going : Mode → 
   served-keeps core t p = serve_activation-keeps (serve_continuation core t) t (serve_continuation-keeps core t p)
 
   pub millisecond-keeps : (core : Core) → P (record core { moment = core.moment + 1 }) → P (millisecond core)
-  millisecond-keeps core p = each-kept P served served-keeps (length core.tasks) (record core { moment = core.moment + 1 }) p
+  millisecond-keeps core p = each-kept P served served-keeps (length core.tasks)
+      (record core { moment = core.moment + 1 }) p
 
   continuation_began-keeps : (interrupt : ℕ) (core : Core) (t : ℕ) → P core → P (continuation_began interrupt core t)
   continuation_began-keeps interrupt core t p = by_plan (continuation_of core t) refl
@@ -281,28 +296,33 @@ module _ (Urgent : ℕ → Type 0) (Lawful : Plan → Type 0) (Going : Mode → 
       by_plan (Some plan) is =
           either P (waits_for interrupt plan.when) (plan_continuation core t (begun core plan)) core
           (plan_continuation-keeps core t (begun core plan)
-          (λ row at. let goes = continuation-is core t plan is p row at in (closed.begins core plan p goes.0, goes.1)) p) p
+          (λ row at. let goes = continuation-is core t plan is p row at in
+          (closed.begins core plan p goes.0, goes.1)) p) p
 
-  activation_began-keeps : (interrupt : ℕ) (core : Core) (t : ℕ) → P core → P (begin_activation interrupt (activation_of core t) core t)
+  activation_began-keeps : (interrupt : ℕ) (core : Core) (t : ℕ) → P core →
+      P (begin_activation interrupt (activation_of core t) core t)
   activation_began-keeps interrupt core t p = by_plan (activation_of core t) (activation-is core t p)
     where
       by_plan : (plan : Option Activation) → IfSome plan (Starts Urgent Lawful) → P (begin_activation interrupt plan core t)
       by_plan None lawful = p
       by_plan (Some plan) lawful =
-          either P (waits_for interrupt plan.plan.when) (plan_activation core t (record plan { plan = begun core plan.plan })) core
+          either P (waits_for interrupt plan.plan.when)
+          (plan_activation core t (record plan { plan = begun core plan.plan })) core
           (plan_activation-keeps core t (record plan { plan = begun core plan.plan })
           (λ row at. (lawful.0, closed.begins core plan.plan p lawful.1)) p) p
 
   reached-keeps : (interrupt : ℕ) (core : Core) (t : ℕ) → P core → P (reached interrupt core t)
   reached-keeps interrupt core t p =
-      activation_began-keeps interrupt (continuation_began interrupt core t) t (continuation_began-keeps interrupt core t p)
+      activation_began-keeps interrupt (continuation_began interrupt core t) t
+      (continuation_began-keeps interrupt core t p)
 
   pub occurred-keeps : (core : Core) (interrupt : ℕ) → P core → P (occurred core interrupt)
   occurred-keeps core interrupt p = each-kept P (reached interrupt) (reached-keeps interrupt) (length core.tasks) core p
 
   pub interrupted-keeps : (core : Core) (device : ℕ) → P core → P (interrupted core device)
   interrupted-keeps core device p =
-      either P (is_enabled core device) (occurred core device) (note core (event.Masked device)) (occurred-keeps core device p)
+      either P (is_enabled core device) (occurred core device) (note core (event.Masked device))
+      (occurred-keeps core device p)
       (closed.told core (event.Masked device) p)
 
   -- ACTIONS ON PLANS
@@ -312,13 +332,17 @@ module _ (Urgent : ℕ → Type 0) (Lawful : Plan → Type 0) (Going : Mode → 
       P (activated core t start repeat priority)
   activated-keeps core t start repeat priority urgent lawful p =
       either P (is_at_once start repeat) (started core t priority)
-      (plan_activation core t (record { plan = planned core start repeat; priority = priority })) (started-keeps core t priority urgent p)
-      (plan_activation-keeps core t (record { plan = planned core start repeat; priority = priority }) (λ row at. (urgent row at, lawful)) p)
+      (plan_activation core t (record { plan = planned core start repeat; priority = priority }))
+      (started-keeps core t priority urgent p)
+      (plan_activation-keeps core t (record { plan = planned core start repeat; priority = priority })
+      (λ row at. (urgent row at, lawful)) p)
 
-  pub continues-keeps : (core : Core) (t : ℕ) (start : Start) → Lawful (planned core start Once) → P core → P (continues core t start)
+  pub continues-keeps : (core : Core) (t : ℕ) (start : Start) → Lawful (planned core start Once) → P core →
+      P (continues core t start)
   continues-keeps core t start lawful p =
       either P (is_at_once start Once) (with_mark core t false)
-      (if is_active core t then plan_continuation core t (planned core start Once) else core) (mark-keeps core t false p)
+      (if is_active core t then plan_continuation core t (planned core start Once) else core)
+      (mark-keeps core t false p)
       (by_test (is_active core t) refl)
     where
       by_test : (active : Bool) → is_active core t ≡ active →
@@ -331,7 +355,8 @@ module _ (Urgent : ℕ → Type 0) (Lawful : Plan → Type 0) (Going : Mode → 
   abbrev pub MayResume : Core → (own : ℕ) → Type 0
   MayResume core own = (row : TaskRow) → row_of (with_mark core own true) own ≡ Some row → Going row.mode
 
-  pub resuming-keeps : (core : Core) (own : ℕ) (start : Start) → Lawful (planned core start Once) → MayResume core own → P core →
+  pub resuming-keeps : (core : Core) (own : ℕ) (start : Start) → Lawful (planned core start Once) →
+      MayResume core own → P core →
       P (resuming core own start)
   resuming-keeps core own start lawful may p =
       plan_continuation-keeps (with_mark core own true) own (planned core start Once) (λ row at. (lawful, may row at))
@@ -368,21 +393,25 @@ module _ (Urgent : ℕ → Type 0) (Lawful : Plan → Type 0) (Going : Mode → 
 
     -- ACTIONS
 
-    releasing-keeps : (core : Core) (own : ℕ) (semaphores : List ℕ) (can_raise : Bool) → all_below_most core.counts semaphores ≡ can_raise →
+    releasing-keeps : (core : Core) (own : ℕ) (semaphores : List ℕ) (can_raise : Bool) →
+        all_below_most core.counts semaphores ≡ can_raise →
         (all_below_most core.counts semaphores ≡ true → P (record core { counts = raised core.counts semaphores })) → P core →
         P (releasing core own semaphores can_raise).core
     releasing-keeps core own semaphores true e raises p = raises e
     releasing-keeps core own semaphores false e raises p = ending-keeps core own (event.Trap own SemaLimit) p
 
-    trying-keeps : (core : Core) (semaphore : ℕ) (is_free : Bool) → P (record core { counts = lowered core.counts (semaphore ∷ []) }) → P core →
+    trying-keeps : (core : Core) (semaphore : ℕ) (is_free : Bool) →
+        P (record core { counts = lowered core.counts (semaphore ∷ []) }) → P core →
         P (trying core semaphore is_free).core
     trying-keeps core semaphore true lowers p = lowers
     trying-keeps core semaphore false lowers p = p
 
-    getting-keeps : (core : Core) (own device : ℕ) (scanned : Scanned) → ((used : ℕ) → P (without_bytes core device used)) → P core →
+    getting-keeps : (core : Core) (own device : ℕ) (scanned : Scanned) →
+        ((used : ℕ) → P (without_bytes core device used)) → P core →
         P (getting core own device scanned).core
     getting-keeps core own device Short drops p = ending-keeps core own (event.End own) p
-    getting-keeps core own device (Bad used) drops p = ending-keeps (without_bytes core device used) own (event.Trap own Format) (drops used)
+    getting-keeps core own device (Bad used) drops p = ending-keeps (without_bytes core device used) own
+        (event.Trap own Format) (drops used)
     getting-keeps core own device (Got used values) drops p = drops used
 
     taking-keeps : (core : Core) (own device : ℕ) (values : List Cell) → P (without_value core device) → P core →
@@ -400,7 +429,8 @@ module _ (Urgent : ℕ → Type 0) (Lawful : Plan → Type 0) (Going : Mode → 
         acted : Core
         acted = record core { last = Some own }
 
-        by_action : (asked : Action) → BringsTo Urgent Lawful P core asked → KeepsValues P acted asked → P (effect_of acted own asked).core
+        by_action : (asked : Action) → BringsTo Urgent Lawful P core asked → KeepsValues P acted asked →
+            P (effect_of acted own asked).core
         by_action (action.Read slot) brings values = p
         by_action (action.Write slot value) brings values = values
         by_action action.Turn brings values = p
@@ -433,12 +463,14 @@ module _ (Urgent : ℕ → Type 0) (Lawful : Plan → Type 0) (Going : Mode → 
 
     -- a device's channel
     channel-keeps : (core : Core) (device : ℕ) (channel : Channel) → P core → P (with_channel core device channel)
-    channel-keeps core device channel p = is_free core (with_channel core device channel) (only_channel core device channel) p
+    channel-keeps core device channel p = is_free core (with_channel core device channel)
+        (only_channel core device channel) p
 
     pub bytes-keeps : (core : Core) (device : ℕ) (text : List ℕ) → P core → P (with_bytes core device text)
     bytes-keeps core device text p =
         either P (nat_le (length (bytes_at core device ++ text)) terminal_room) (with_channel core device (Bytes (bytes_at core device ++ text)))
-        (note core (event.Lost device)) (channel-keeps core device (Bytes (bytes_at core device ++ text)) p) (closed.told core (event.Lost device) p)
+        (note core (event.Lost device)) (channel-keeps core device (Bytes (bytes_at core device ++ text)) p)
+        (closed.told core (event.Lost device) p)
 
     joined-keeps : (core : Core) (device : ℕ) (kind : Kind) (pending : List Cell) (value : Result Cell Trap) → P core →
         P (joined core device kind pending value)
@@ -458,7 +490,8 @@ module _ (Urgent : ℕ → Type 0) (Lawful : Plan → Type 0) (Going : Mode → 
         by_channel None = p
 
     -- an entry of a journal; one that sets the clock is asked for
-    pub arrived-keeps : (core : Core) (come : Entry) → ((time : ℕ) → come ≡ entry.Clock time → P (record core { clock = time })) → P core →
+    pub arrived-keeps : (core : Core) (come : Entry) →
+        ((time : ℕ) → come ≡ entry.Clock time → P (record core { clock = time })) → P core →
         P (arrived core come)
     arrived-keeps core (entry.Clock time) clock p = clock time refl
     arrived-keeps core (entry.Run picks) clock p = p
@@ -483,7 +516,8 @@ module _ (Urgent : ℕ → Type 0) (Lawful : Plan → Type 0) (Going : Mode → 
         is_free core _ (only_counts core (lowered core.counts (s ∷ [])) (lowered-length core.counts (s ∷ []))) p
     free_values core (action.Enable device) p = channel-keeps is_free core device (Switch true) p
     free_values core (action.Disable device) p = channel-keeps is_free core device (Switch false) p
-    free_values core (action.Get device format kinds) p = λ used. channel-keeps is_free core device (Bytes (drop used (bytes_at core device))) p
+    free_values core (action.Get device format kinds) p = λ used. channel-keeps is_free core device
+        (Bytes (drop used (bytes_at core device))) p
     free_values core (action.Take device) p = by_channel (channel_of core device)
       where
         by_channel : (channel : Option Channel) → P (without_value_by channel core device)
@@ -532,7 +566,8 @@ module _ (Urgent : ℕ → Type 0) (Lawful : Plan → Type 0) where
   whatever_mode mode (Some plan) goes = goes.0
 
   -- what an action brings
-  brings_to : (P : Core → Type 0) (core : Core) (asked : Action) → Brings Urgent Lawful core asked → BringsTo Urgent Lawful P core asked
+  brings_to : (P : Core → Type 0) (core : Core) (asked : Action) → Brings Urgent Lawful core asked →
+      BringsTo Urgent Lawful P core asked
   brings_to P core (action.Activate t start repeat priority) brings = (brings.0, λ now p. brings.1 now)
   brings_to P core (action.Continue t start) brings = λ now p. brings now
   brings_to P core (action.Resume start) brings = λ now p. brings now
@@ -565,19 +600,25 @@ module _ (Urgent : ℕ → Type 0) (Lawful : Plan → Type 0) where
         P (activated core t start repeat priority)
     activated-kept = activated-keeps Urgent Lawful AnyMode P closed_for
 
-    pub continues-kept : (core : Core) (t : ℕ) (start : Start) → Lawful (planned core start Once) → P core → P (continues core t start)
+    pub continues-kept : (core : Core) (t : ℕ) (start : Start) → Lawful (planned core start Once) → P core →
+        P (continues core t start)
     continues-kept = continues-keeps Urgent Lawful AnyMode P closed_for
 
-    pub resuming-kept : (core : Core) (own : ℕ) (start : Start) → Lawful (planned core start Once) → P core → P (resuming core own start)
-    resuming-kept core own start lawful p = resuming-keeps Urgent Lawful AnyMode P closed_for core own start lawful (λ row at. tt) p
+    pub resuming-kept : (core : Core) (own : ℕ) (start : Start) → Lawful (planned core start Once) → P core →
+        P (resuming core own start)
+    resuming-kept core own start lawful p = resuming-keeps Urgent Lawful AnyMode P closed_for core own start lawful
+        (λ row at. tt) p
 
     -- every action of a task, which then is the one that acted last
-    pub effect-kept : (at_ends : ClosedAtEnds P) (core : Core) (own : ℕ) (asked : Action) → Brings Urgent Lawful core asked →
-        KeepsValues P (record core { last = Some own }) asked → P (record core { last = Some own }) → P (effect core own asked).core
+    pub effect-kept : (at_ends : ClosedAtEnds P) (core : Core) (own : ℕ) (asked : Action) →
+        Brings Urgent Lawful core asked →
+        KeepsValues P (record core { last = Some own }) asked → P (record core { last = Some own }) →
+        P (effect core own asked).core
     effect-kept at_ends core own asked brings values p = effect-keeps Urgent Lawful AnyMode P closed_for at_ends core own asked
         (brings_to P core asked brings) (λ row at. tt) values p
 
-    pub bytes-kept : (is_free : IsFree P) (core : Core) (device : ℕ) (text : List ℕ) → P core → P (with_bytes core device text)
+    pub bytes-kept : (is_free : IsFree P) (core : Core) (device : ℕ) (text : List ℕ) → P core →
+        P (with_bytes core device text)
     bytes-kept = bytes-keeps Urgent Lawful AnyMode P closed_for
 
     pub value-kept : (is_free : IsFree P) (core : Core) (device : ℕ) (x : Cell) → P core → P (with_value core device x)

@@ -51,7 +51,8 @@ active_goes row timed plan is = by_mode row.mode refl
 still_dormant : (before mode : Mode) → Stays AnyPriority before mode → mode ≡ Dormant → before ≡ Dormant
 still_dormant Dormant mode stays is = refl
 still_dormant (Active own before) Dormant stays is = absurd stays
-still_dormant (Active own before) (Active priority suspended) stays is = absurd (dormant_not (Active priority suspended) is refl)
+still_dormant (Active own before) (Active priority suspended) stays is = absurd
+    (dormant_not (Active priority suspended) is refl)
 
 module _ (setup : Setup) where
   -- a lawful plan with such moments
@@ -107,7 +108,8 @@ module _ (setup : Setup) where
     rows = all_set IsTimedRow core.tasks has.rows t row timed;
   }
 
-  moved : (core other : Core) → other.moment ≤ 2 ^ 40 → other.tasks ≡ core.tasks → other.clock ≡ core.clock → HasTimes setup core →
+  moved : (core other : Core) → other.moment ≤ 2 ^ 40 → other.tasks ≡ core.tasks → other.clock ≡ core.clock →
+      HasTimes setup core →
       HasTimes setup other
   moved core other near tasks clock has = record {
     moment = near;
@@ -115,7 +117,8 @@ module _ (setup : Setup) where
     rows = subst (λ rows. AllByRecursion IsTimedRow rows) (sym tasks) has.rows;
   }
 
-  with_plan : (row : TaskRow) (plan : Option Plan) → IfSome plan (Goes IsGood IsActive row.mode) → IsPlannedRow setup row → IsTimedRow row →
+  with_plan : (row : TaskRow) (plan : Option Plan) → IfSome plan (Goes IsGood IsActive row.mode) →
+      IsPlannedRow setup row → IsTimedRow row →
       IsPlannedRow setup (record row { continuation = plan }) × IsTimedRow (record row { continuation = plan })
   with_plan row None goes lawful timed = ((tt, lawful.1), record { dormant = λ is. refl; goes_on = tt; starts = timed.starts })
   with_plan row (Some plan) goes lawful timed = (
@@ -123,7 +126,8 @@ module _ (setup : Setup) where
     record { dormant = λ is. absurd (dormant_not row.mode is goes.1); goes_on = goes.0.1; starts = timed.starts },
   )
 
-  both_goes : (row : TaskRow) (plan : Option Plan) → row.continuation ≡ plan → IfSome plan (IsPlan setup) → IfSome plan IsTimed →
+  both_goes : (row : TaskRow) (plan : Option Plan) → row.continuation ≡ plan → IfSome plan (IsPlan setup) →
+      IfSome plan IsTimed →
       IsTimedRow row → IfSome plan (Goes IsGood IsActive row.mode)
   both_goes row None is lawful near timed = tt
   both_goes row (Some plan) is lawful near timed = ((lawful, near), active_goes row timed plan is)
@@ -162,7 +166,8 @@ module _ (setup : Setup) where
   times_at_ends : ClosedAtEnds (HasTimes setup)
   times_at_ends = record {
     ends = λ core t row at has.
-        row_set core t (record row { mode = Dormant; continuation = None }) (tt, (plans_at setup core t row at has.lawful).1)
+        row_set core t (record row { mode = Dormant; continuation = None })
+        (tt, (plans_at setup core t row at has.lawful).1)
         (record { dormant = λ is. refl; goes_on = tt; starts = (row_at core t row at has).starts }) has;
     prevents = λ core t row at has.
         row_set core t (record row { continuation = None; activation = None }) (tt, tt)
@@ -173,10 +178,12 @@ module _ (setup : Setup) where
   times_free core other only has =
       moved core other (subst (λ m. m ≤ 2 ^ 40) (sym only.moment) has.moment) only.tasks only.clock has
 
-  times_brings : (core : Core) (asked : Action) → Fits setup asked → BringsTo AnyPriority IsGood (HasTimes setup) core asked
+  times_brings : (core : Core) (asked : Action) → Fits setup asked →
+      BringsTo AnyPriority IsGood (HasTimes setup) core asked
   times_brings core (action.Activate t when how priority) fits =
       (λ row at. tt, λ now has. good_planned now when how fits.1 fits.2 has)
-  times_brings core (action.Continue t when) fits = λ now has. good_planned now when Once (once_starts setup when fits.1) tt has
+  times_brings core (action.Continue t when) fits = λ now has. good_planned now when Once
+      (once_starts setup when fits.1) tt has
   times_brings core (action.Resume when) fits =
       λ now has. good_planned now when Once (once_starts setup when (later_once setup when fits)) tt has
   times_brings core other fits = tt
@@ -209,22 +216,28 @@ pub opening-times : (setup : Setup) → HasTimes setup (opening setup)
 opening-times setup = record { moment = omega arith; lawful = opening-plans setup; rows = no_rows setup setup.tasks }
 
 -- every action of an active task, every turn, every millisecond and whatever comes in
-pub effect-times : (setup : Setup) (core : Core) (own : ℕ) (action : Action) → is_active core own ≡ true → HasTimes setup core →
+pub effect-times : (setup : Setup) (core : Core) (own : ℕ) (action : Action) → is_active core own ≡ true →
+    HasTimes setup core →
     Fits setup action → HasTimes setup (effect core own action).core
 effect-times setup core own asked active has fits =
-    effect-stays AnyPriority (IsGood setup) IsActive (HasTimes setup) (times_closed setup) (times_free setup) (times_at_ends setup) core own asked
+    effect-stays AnyPriority (IsGood setup) IsActive (HasTimes setup) (times_closed setup) (times_free setup)
+    (times_at_ends setup) core own asked
     (times_brings setup core asked fits) (active_resumes setup (record core { last = Some own }) own active) has
 
-pub turned-times : (setup : Setup) (core : Core) (offers : Offered) (t : ℕ) → HasTimes setup core → HasTimes setup (turned core offers t)
+pub turned-times : (setup : Setup) (core : Core) (offers : Offered) (t : ℕ) → HasTimes setup core →
+    HasTimes setup (turned core offers t)
 turned-times setup core offers t has = moved setup core (turned core offers t)
     (subst (λ m. m ≤ 2 ^ 40) (sym (ap (λ c. c.moment) (turned-is core offers t))) has.moment)
     (ap (λ c. c.tasks) (turned-is core offers t)) (ap (λ c. c.clock) (turned-is core offers t)) has
 
-pub millisecond-times : (setup : Setup) (core : Core) → core.moment + 1 ≤ 2 ^ 40 → HasTimes setup core → HasTimes setup (millisecond core)
+pub millisecond-times : (setup : Setup) (core : Core) → core.moment + 1 ≤ 2 ^ 40 → HasTimes setup core →
+    HasTimes setup (millisecond core)
 millisecond-times setup core near has =
-    millisecond-keeps AnyPriority (IsGood setup) IsActive (HasTimes setup) (times_closed setup) core (moved setup core _ near refl refl has)
+    millisecond-keeps AnyPriority (IsGood setup) IsActive (HasTimes setup) (times_closed setup) core
+    (moved setup core _ near refl refl has)
 
-pub arrived-times : (setup : Setup) (core : Core) (come : Entry) → HasTimes setup core → IsFitting setup come → HasTimes setup (arrived core come)
+pub arrived-times : (setup : Setup) (core : Core) (come : Entry) → HasTimes setup core → IsFitting setup come →
+    HasTimes setup (arrived core come)
 arrived-times setup core come has fits =
     arrived-keeps AnyPriority (IsGood setup) IsActive (HasTimes setup) (times_closed setup) (times_free setup) core come
     (λ time same. record {

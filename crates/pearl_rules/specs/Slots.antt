@@ -187,7 +187,8 @@ IsEnd end.Never = Unit {0}
 IsEnd (end.Until time) = time < 86400000
 IsEnd (end.During time) = time ≤ 2 ^ 40
 
--- The interrupt of a plan is there, its lengths of time are at most 2^40 milliseconds, and its end is one; without a period it has none.
+-- The interrupt of a plan is there, its lengths of time are at most 2^40 milliseconds, and its end is one; without a
+-- period it has none.
 pub record IsPlan (setup : Setup) (plan : Plan) : Type 0 where
   pub when : IfSome plan.when (λ interrupt. IsInterrupt (slice_get setup.devices interrupt))
   pub after : plan.after ≤ 2 ^ 40
@@ -203,7 +204,8 @@ pub record HasPlans (setup : Setup) (core : Core) : Type 0 where
   pub plans : AllByRecursion (IsPlannedRow setup) core.tasks
   pub clock : core.clock < 86400000
 
--- A plan that waits for no interrupt has a series. A first moment is at most 2^42, and a period at most 2^40 milliseconds.
+-- A plan that waits for no interrupt has a series. A first moment is at most 2^42, and a period at most 2^40
+-- milliseconds.
 pub record IsTimed (plan : Plan) : Type 0 where
   pub has : plan.when ≡ None → IsSome plan.series
   pub near : IfSome plan.series (λ series. (series.first ≤ 2 ^ 42) × (series.period ≤ 2 ^ 40))

@@ -201,10 +201,13 @@ pub fn plans_stay_lawful()
 /// above 2^42, nor its period above 2^40 milliseconds.
 pub fn plans_have_their_series()
     ensures opens { (setup : Setup) → HasTimes setup (opening setup) }
-    ensures acts { (setup : Setup) (core : Core) (own : ℕ) (action : Action) → IsTrue (is_active core own) → HasTimes setup core →
+    ensures acts { (setup : Setup) (core : Core) (own : ℕ) (action : Action) → IsTrue (is_active core own) →
+        HasTimes setup core →
         Fits setup action → HasTimes setup (effect core own action).core }
-    ensures turns { (setup : Setup) (core : Core) (offers : Offered) (t : ℕ) → HasTimes setup core → HasTimes setup (turned core offers t) }
-    ensures passes { (setup : Setup) (core : Core) → core.moment + 1 ≤ 2 ^ 40 → HasTimes setup core → HasTimes setup (millisecond core) }
+    ensures turns { (setup : Setup) (core : Core) (offers : Offered) (t : ℕ) → HasTimes setup core →
+        HasTimes setup (turned core offers t) }
+    ensures passes { (setup : Setup) (core : Core) → core.moment + 1 ≤ 2 ^ 40 → HasTimes setup core →
+        HasTimes setup (millisecond core) }
     ensures arrives { (setup : Setup) (core : Core) (entry : Entry) → HasTimes setup core → IsFitting setup entry →
         HasTimes setup (arrived core entry) }
 {}
@@ -212,7 +215,8 @@ pub fn plans_have_their_series()
 /// Whoever acted last is a task, or nobody acted yet.
 pub fn tasks_alone_act()
     ensures opens { (setup : Setup) → HasLast (opening setup) }
-    ensures acts { (core : Core) (own : ℕ) (action : Action) → own < length core.tasks → HasLast (effect core own action).core }
+    ensures acts { (core : Core) (own : ℕ) (action : Action) → own < length core.tasks →
+        HasLast (effect core own action).core }
     ensures turns { (core : Core) (offers : Offered) (t : ℕ) → HasLast core → HasLast (turned core offers t) }
     ensures passes { (core : Core) → HasLast core → HasLast (millisecond core) }
     ensures arrives { (core : Core) (entry : Entry) → HasLast core → HasLast (arrived core entry) }
