@@ -2,7 +2,8 @@
 
 ghost use Rattle.std.specs.Prelude.{◌≡◌, ◌+◌, ◌^◌, ◌<◌, ◌≤◌, [], Some, length};
 ghost use Rattle.pearl_rules.specs.Plans.{time_at, next_at, milliseconds, interrupt_of, after_of, period_of, end_of};
-ghost use Rattle.pearl_rules.specs.Plans.{written, last_moment, series_from, begun, first_moment, planned, started, with_mark};
+ghost use Rattle.pearl_rules.specs.Plans.{written, last_moment, series_from, begun};
+ghost use Rattle.pearl_rules.specs.Plans.{first_moment, planned, started, with_mark};
 ghost use Rattle.pearl_rules.specs.Plans.{with_continuation, with_activation, continued, serves_if, serve_continuation};
 ghost use Rattle.pearl_rules.specs.Plans.{serve_activation, plan_continuation, plan_activation, served, millisecond};
 ghost use Rattle.pearl_rules.specs.Plans.{waits_for, continuation_began, begin_activation, activation_of, reached, occurred};

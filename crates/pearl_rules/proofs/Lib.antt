@@ -9,6 +9,8 @@ pub mod EndsLaws
 pub mod TaskLaws
 pub mod CountLaws
 pub mod UrgencyLaws
+pub mod TimeLaws
+pub mod ActedLaws
 pub mod KeptLaws
 pub mod Simulation
 pub mod Settling

@@ -20,7 +20,7 @@ use Rattle.pearl_rules.specs.declared.row.Mode.TheVariants.{Dormant, Active}
 use Rattle.pearl_rules.specs.declared.row.Plan.{Plan}
 use Rattle.pearl_rules.specs.declared.row.Activation.{Activation}
 use Rattle.pearl_rules.specs.declared.row.TaskRow.{TaskRow}
-use Rattle.pearl_rules.specs.Core.{Core, Channel, Switch, Bytes, Values, Outward, note, row_of, with_row, mode_of_row, mode_of, is_active}
+use Rattle.pearl_rules.specs.Core.{Core, Channel, Switch, Bytes, Values, Outward, note, row_of, with_row, mode_of_row, mode_of, is_active_mode, is_active_row, is_active}
 use Rattle.pearl_rules.specs.Counts.{count_at, all_below_most, lowered, raised}
 use Rattle.pearl_rules.specs.Plans.{on_row, with_mode, with_continuation, with_activation, continuation_in, continuation_of, activation_in, activation_of, started_by, started, marked_mode, with_mark, planned, begun, waits_for, serves_if, continued, serve_continuation, serve_activation_by, serve_activation, plan_continuation, plan_activation, each_task, served, millisecond, begin_continuation, begin_activation, continuation_began, reached, occurred}
 use Rattle.pearl_rules.specs.Devices.{channel_of, with_channel, is_enabled, interrupted, items_of, bytes_at, terminal_room, with_bytes, without_bytes, values_at, input_room, joined, with_value_by, with_value, without_value_by, without_value, arrived}
@@ -38,7 +38,31 @@ Stays Urgent (Active own before) (Active priority suspended) = own ≡ priority
 abbrev pub Starts : (Urgent : ℕ → Type 0) (Lawful : Plan → Type 0) → Activation → Type 0
 Starts Urgent Lawful activation = Urgent activation.priority × Lawful activation.plan
 
--- Each small step keeps the property P: one more event, another mode, another plan. The plans of a core with P are of these sorts.
+-- a plan to go on, of a task in this mode, of these sorts
+abbrev pub Goes : (Lawful : Plan → Type 0) (Going : Mode → Type 0) → Mode → Plan → Type 0
+Goes Lawful Going mode plan = Lawful plan × Going mode
+
+-- Each small step keeps the property P: one more event, another mode, another plan. The plans of a core with P are of
+-- these sorts, and so are the modes of the tasks that have a plan to go on; every active task may have one.
+pub record ClosedFor (Urgent : ℕ → Type 0) (Lawful : Plan → Type 0) (Going : Mode → Type 0)
+    (P : Core → Type 0) : Type 0 where
+  pub told : (core : Core) (e : Event) → P core → P (note core e)
+  pub stands : (core : Core) (t : ℕ) (row : TaskRow) (mode : Mode) → row_of core t ≡ Some row →
+      Stays Urgent row.mode mode → P core →
+      P (with_row core t (record row { mode = mode }))
+  pub goes_on : (core : Core) (t : ℕ) (row : TaskRow) (plan : Option Plan) → row_of core t ≡ Some row →
+      IfSome plan (Goes Lawful Going row.mode) → P core → P (with_row core t (record row { continuation = plan }))
+  pub starts : (core : Core) (t : ℕ) (row : TaskRow) (plan : Activation) → row_of core t ≡ Some row →
+      Starts Urgent Lawful plan → P core →
+      P (with_row core t (record row { activation = Some plan }))
+  pub going : (core : Core) (t : ℕ) (row : TaskRow) → row_of core t ≡ Some row → P core →
+      IfSome row.continuation (Goes Lawful Going row.mode)
+  pub starting : (core : Core) (t : ℕ) (row : TaskRow) → row_of core t ≡ Some row → P core →
+      IfSome row.activation (Starts Urgent Lawful)
+  pub begins : (core : Core) (plan : Plan) → P core → Lawful plan → Lawful (begun core plan)
+  pub active : (mode : Mode) → is_active_mode mode ≡ true → Going mode
+
+-- The same where nothing is asked of the modes, and where what plans are to be doesn't depend on the core.
 pub record Closed (Urgent : ℕ → Type 0) (Lawful : Plan → Type 0) (P : Core → Type 0) : Type 0 where
   pub told : (core : Core) (e : Event) → P core → P (note core e)
   pub stands : (core : Core) (t : ℕ) (row : TaskRow) (mode : Mode) → row_of core t ≡ Some row → Stays Urgent row.mode mode → P core →
@@ -80,6 +104,15 @@ Brings Urgent Lawful core (action.Activate t start repeat priority) =
 Brings Urgent Lawful core (action.Continue t start) = (now : Core) → Lawful (planned now start Once)
 Brings Urgent Lawful core (action.Resume start) = (now : Core) → Lawful (planned now start Once)
 Brings Urgent Lawful core other = Unit {0}
+
+-- the same, where what plans are to be depends on the core that has P
+abbrev pub BringsTo : (Urgent : ℕ → Type 0) (Lawful : Plan → Type 0) (P : Core → Type 0) → Core → Action → Type 0
+BringsTo Urgent Lawful P core (action.Activate t start repeat priority) =
+    ((row : TaskRow) → row_of core t ≡ Some row → Urgent (priority_or_declared core t priority))
+    × ((now : Core) → P now → Lawful (planned now start repeat))
+BringsTo Urgent Lawful P core (action.Continue t start) = (now : Core) → P now → Lawful (planned now start Once)
+BringsTo Urgent Lawful P core (action.Resume start) = (now : Core) → P now → Lawful (planned now start Once)
+BringsTo Urgent Lawful P core other = Unit {0}
 
 -- what an action does to values, counts and channels keeps P, in this core
 abbrev pub KeepsValues : (P : Core → Type 0) → Core → Action → Type 0
@@ -144,42 +177,46 @@ pub each-kept : (P : Core → Type 0) (change : Core → ℕ → Core) → ((cor
 each-kept P change kept zero core p = p
 each-kept P change kept (suc n) core p = kept (each_task change n core) n (each-kept P change kept n core p)
 
-module _ (Urgent : ℕ → Type 0) (Lawful : Plan → Type 0) (P : Core → Type 0) (closed : Closed Urgent Lawful P) where
+module _ (Urgent : ℕ → Type 0) (Lawful : Plan → Type 0) (Going : Mode → Type 0) (P : Core → Type 0)
+    (closed : ClosedFor Urgent Lawful Going P) where
   -- ROWS
 
   -- another mode
-  mode-kept : (core : Core) (t : ℕ) (mode : Mode) → ((row : TaskRow) → row_of core t ≡ Some row → Stays Urgent row.mode mode) → P core →
+  mode-keeps : (core : Core) (t : ℕ) (mode : Mode) →
+      ((row : TaskRow) → row_of core t ≡ Some row → Stays Urgent row.mode mode) → P core →
       P (with_mode core t mode)
-  mode-kept core t mode stays p = by_row (row_of core t) refl
+  mode-keeps core t mode stays p = by_row (row_of core t) refl
     where
       by_row : (row : Option TaskRow) → row_of core t ≡ row → P (on_row row core (λ r. with_row core t (record r { mode = mode })))
       by_row None at = p
       by_row (Some row) at = closed.stands core t row mode at (stays row at) p
 
   -- another plan to go on
-  continuation-kept : (core : Core) (t : ℕ) (plan : Option Plan) → IfSome plan Lawful → P core → P (with_continuation core t plan)
-  continuation-kept core t plan lawful p = by_row (row_of core t) refl
+  continuation-keeps : (core : Core) (t : ℕ) (plan : Option Plan) →
+      ((row : TaskRow) → row_of core t ≡ Some row → IfSome plan (Goes Lawful Going row.mode)) → P core →
+      P (with_continuation core t plan)
+  continuation-keeps core t plan goes p = by_row (row_of core t) refl
     where
       by_row : (row : Option TaskRow) → row_of core t ≡ row → P (on_row row core (λ r. with_row core t (record r { continuation = plan })))
       by_row None at = p
-      by_row (Some row) at = closed.goes_on core t row plan at lawful p
+      by_row (Some row) at = closed.goes_on core t row plan at (goes row at) p
 
   -- another plan to be started
-  activation-kept : (core : Core) (t : ℕ) (plan : Activation) → ((row : TaskRow) → row_of core t ≡ Some row → Starts Urgent Lawful plan) → P core →
+  activation-keeps : (core : Core) (t : ℕ) (plan : Activation) →
+      ((row : TaskRow) → row_of core t ≡ Some row → Starts Urgent Lawful plan) → P core →
       P (with_activation core t (Some plan))
-  activation-kept core t plan lawful p = by_row (row_of core t) refl
+  activation-keeps core t plan lawful p = by_row (row_of core t) refl
     where
       by_row : (row : Option TaskRow) → row_of core t ≡ row → P (on_row row core (λ r. with_row core t (record r { activation = Some plan })))
       by_row None at = p
       by_row (Some row) at = closed.starts core t row plan at (lawful row at) p
 
   -- the plans that a task has
-  continuation-is : (core : Core) (t : ℕ) → P core → IfSome (continuation_of core t) Lawful
-  continuation-is core t p = by_row (row_of core t) refl
-    where
-      by_row : (row : Option TaskRow) → row_of core t ≡ row → IfSome (continuation_in row) Lawful
-      by_row None at = tt
-      by_row (Some row) at = closed.going core t row at p
+  continuation-is : (core : Core) (t : ℕ) (plan : Plan) → continuation_of core t ≡ Some plan → P core →
+      (row : TaskRow) → row_of core t ≡ Some row → Goes Lawful Going row.mode plan
+  continuation-is core t plan is p row at =
+      subst (λ o. IfSome o (Goes Lawful Going row.mode)) (sym (ap continuation_in at) ∙ is)
+      (closed.going core t row at p)
 
   activation-is : (core : Core) (t : ℕ) → P core → IfSome (activation_of core t) (Starts Urgent Lawful)
   activation-is core t p = by_row (row_of core t) refl
@@ -190,20 +227,21 @@ module _ (Urgent : ℕ → Type 0) (Lawful : Plan → Type 0) (P : Core → Type
 
   -- STARTS AND SUSPENDED TASKS
 
-  pub started-kept : (core : Core) (t priority : ℕ) → ((row : TaskRow) → row_of core t ≡ Some row → Urgent priority) → P core →
+  pub started-keeps : (core : Core) (t priority : ℕ) →
+      ((row : TaskRow) → row_of core t ≡ Some row → Urgent priority) → P core →
       P (started core t priority)
-  started-kept core t priority urgent p = by_mode (mode_of core t) refl
+  started-keeps core t priority urgent p = by_mode (mode_of core t) refl
     where
       by_mode : (mode : Mode) → mode_of core t ≡ mode → P (started_by mode core t priority)
       by_mode Dormant dormant =
           closed.told (with_mode core t (Active priority false)) (event.Start t priority)
-          (mode-kept core t (Active priority false)
+          (mode-keeps core t (Active priority false)
           (λ row at. subst (λ m. Stays Urgent m (Active priority false)) (sym dormant ∙ ap mode_of_row at) (urgent row at)) p)
       by_mode (Active own suspended) active = closed.told core (event.Overrun t) p
 
-  pub mark-kept : (core : Core) (t : ℕ) (suspended : Bool) → P core → P (with_mark core t suspended)
-  mark-kept core t suspended p =
-      mode-kept core t (marked_mode suspended (mode_of core t))
+  pub mark-keeps : (core : Core) (t : ℕ) (suspended : Bool) → P core → P (with_mark core t suspended)
+  mark-keeps core t suspended p =
+      mode-keeps core t (marked_mode suspended (mode_of core t))
       (λ row at. subst (λ m. Stays Urgent row.mode (marked_mode suspended m)) (sym (ap mode_of_row at)) (marked row.mode)) p
     where
       marked : (mode : Mode) → Stays Urgent mode (marked_mode suspended mode)
@@ -212,154 +250,187 @@ module _ (Urgent : ℕ → Type 0) (Lawful : Plan → Type 0) (P : Core → Type
 
   -- PLANS THAT SERVE
 
-  continued-kept : (core : Core) (t : ℕ) → P core → P (continued core t)
-  continued-kept core t p = continuation-kept (with_mark core t false) t None tt (mark-kept core t false p)
+  continued-keeps : (core : Core) (t : ℕ) → P core → P (continued core t)
+  continued-keeps core t p = continuation-keeps (with_mark core t false) t None (λ row at. tt)
+      (mark-keeps core t false p)
 
-  serve_continuation-kept : (core : Core) (t : ℕ) → P core → P (serve_continuation core t)
-  serve_continuation-kept core t p =
-      either P (serves_if core (continuation_of core t)) (continued core t) core (continued-kept core t p) p
+  serve_continuation-keeps : (core : Core) (t : ℕ) → P core → P (serve_continuation core t)
+  serve_continuation-keeps core t p =
+      either P (serves_if core (continuation_of core t)) (continued core t) core (continued-keeps core t p) p
 
-  serve_activation-kept : (core : Core) (t : ℕ) → P core → P (serve_activation core t)
-  serve_activation-kept core t p = by_plan (activation_of core t) (activation-is core t p)
+  serve_activation-keeps : (core : Core) (t : ℕ) → P core → P (serve_activation core t)
+  serve_activation-keeps core t p = by_plan (activation_of core t) (activation-is core t p)
     where
       by_plan : (plan : Option Activation) → IfSome plan (Starts Urgent Lawful) → P (serve_activation_by plan core t)
       by_plan None lawful = p
       by_plan (Some plan) lawful =
-          either P (serves_if core (Some plan.plan)) (started core t plan.priority) core (started-kept core t plan.priority (λ row at. lawful.0) p) p
+          either P (serves_if core (Some plan.plan)) (started core t plan.priority) core
+          (started-keeps core t plan.priority (λ row at. lawful.0) p) p
 
-  pub plan_continuation-kept : (core : Core) (t : ℕ) (plan : Plan) → Lawful plan → P core → P (plan_continuation core t plan)
-  plan_continuation-kept core t plan lawful p =
-      serve_continuation-kept (with_continuation core t (Some plan)) t (continuation-kept core t (Some plan) lawful p)
+  pub plan_continuation-keeps : (core : Core) (t : ℕ) (plan : Plan) →
+      ((row : TaskRow) → row_of core t ≡ Some row → Goes Lawful Going row.mode plan) → P core →
+      P (plan_continuation core t plan)
+  plan_continuation-keeps core t plan goes p =
+      serve_continuation-keeps (with_continuation core t (Some plan)) t (continuation-keeps core t (Some plan) goes p)
 
-  pub plan_activation-kept : (core : Core) (t : ℕ) (plan : Activation) → ((row : TaskRow) → row_of core t ≡ Some row → Starts Urgent Lawful plan) →
+  pub plan_activation-keeps : (core : Core) (t : ℕ) (plan : Activation) →
+      ((row : TaskRow) → row_of core t ≡ Some row → Starts Urgent Lawful plan) →
       P core → P (plan_activation core t plan)
-  plan_activation-kept core t plan lawful p =
-      serve_activation-kept (with_activation core t (Some plan)) t (activation-kept core t plan lawful p)
+  plan_activation-keeps core t plan lawful p =
+      serve_activation-keeps (with_activation core t (Some plan)) t (activation-keeps core t plan lawful p)
 
   -- MILLISECONDS AND INTERRUPTS
 
-  pub served-kept : (core : Core) (t : ℕ) → P core → P (served core t)
-  served-kept core t p = serve_activation-kept (serve_continuation core t) t (serve_continuation-kept core t p)
+  pub served-keeps : (core : Core) (t : ℕ) → P core → P (served core t)
+  served-keeps core t p = serve_activation-keeps (serve_continuation core t) t (serve_continuation-keeps core t p)
 
-  pub millisecond-kept : (core : Core) → P (record core { moment = core.moment + 1 }) → P (millisecond core)
-  millisecond-kept core p = each-kept P served served-kept (length core.tasks) (record core { moment = core.moment + 1 }) p
+  pub millisecond-keeps : (core : Core) → P (record core { moment = core.moment + 1 }) → P (millisecond core)
+  millisecond-keeps core p = each-kept P served served-keeps (length core.tasks)
+      (record core { moment = core.moment + 1 }) p
 
-  continuation_began-kept : (interrupt : ℕ) (core : Core) (t : ℕ) → P core → P (continuation_began interrupt core t)
-  continuation_began-kept interrupt core t p = by_plan (continuation_of core t) (continuation-is core t p)
+  continuation_began-keeps : (interrupt : ℕ) (core : Core) (t : ℕ) → P core → P (continuation_began interrupt core t)
+  continuation_began-keeps interrupt core t p = by_plan (continuation_of core t) refl
     where
-      by_plan : (plan : Option Plan) → IfSome plan Lawful → P (begin_continuation interrupt plan core t)
-      by_plan None lawful = p
-      by_plan (Some plan) lawful =
+      by_plan : (plan : Option Plan) → continuation_of core t ≡ plan → P (begin_continuation interrupt plan core t)
+      by_plan None is = p
+      by_plan (Some plan) is =
           either P (waits_for interrupt plan.when) (plan_continuation core t (begun core plan)) core
-          (plan_continuation-kept core t (begun core plan) (closed.begins core plan lawful) p) p
+          (plan_continuation-keeps core t (begun core plan)
+          (λ row at. let goes = continuation-is core t plan is p row at in
+          (closed.begins core plan p goes.0, goes.1)) p) p
 
-  activation_began-kept : (interrupt : ℕ) (core : Core) (t : ℕ) → P core → P (begin_activation interrupt (activation_of core t) core t)
-  activation_began-kept interrupt core t p = by_plan (activation_of core t) (activation-is core t p)
+  activation_began-keeps : (interrupt : ℕ) (core : Core) (t : ℕ) → P core →
+      P (begin_activation interrupt (activation_of core t) core t)
+  activation_began-keeps interrupt core t p = by_plan (activation_of core t) (activation-is core t p)
     where
       by_plan : (plan : Option Activation) → IfSome plan (Starts Urgent Lawful) → P (begin_activation interrupt plan core t)
       by_plan None lawful = p
       by_plan (Some plan) lawful =
-          either P (waits_for interrupt plan.plan.when) (plan_activation core t (record plan { plan = begun core plan.plan })) core
-          (plan_activation-kept core t (record plan { plan = begun core plan.plan })
-          (λ row at. (lawful.0, closed.begins core plan.plan lawful.1)) p) p
+          either P (waits_for interrupt plan.plan.when)
+          (plan_activation core t (record plan { plan = begun core plan.plan })) core
+          (plan_activation-keeps core t (record plan { plan = begun core plan.plan })
+          (λ row at. (lawful.0, closed.begins core plan.plan p lawful.1)) p) p
 
-  reached-kept : (interrupt : ℕ) (core : Core) (t : ℕ) → P core → P (reached interrupt core t)
-  reached-kept interrupt core t p =
-      activation_began-kept interrupt (continuation_began interrupt core t) t (continuation_began-kept interrupt core t p)
+  reached-keeps : (interrupt : ℕ) (core : Core) (t : ℕ) → P core → P (reached interrupt core t)
+  reached-keeps interrupt core t p =
+      activation_began-keeps interrupt (continuation_began interrupt core t) t
+      (continuation_began-keeps interrupt core t p)
 
-  pub occurred-kept : (core : Core) (interrupt : ℕ) → P core → P (occurred core interrupt)
-  occurred-kept core interrupt p = each-kept P (reached interrupt) (reached-kept interrupt) (length core.tasks) core p
+  pub occurred-keeps : (core : Core) (interrupt : ℕ) → P core → P (occurred core interrupt)
+  occurred-keeps core interrupt p = each-kept P (reached interrupt) (reached-keeps interrupt) (length core.tasks) core p
 
-  pub interrupted-kept : (core : Core) (device : ℕ) → P core → P (interrupted core device)
-  interrupted-kept core device p =
-      either P (is_enabled core device) (occurred core device) (note core (event.Masked device)) (occurred-kept core device p)
+  pub interrupted-keeps : (core : Core) (device : ℕ) → P core → P (interrupted core device)
+  interrupted-keeps core device p =
+      either P (is_enabled core device) (occurred core device) (note core (event.Masked device))
+      (occurred-keeps core device p)
       (closed.told core (event.Masked device) p)
 
   -- ACTIONS ON PLANS
 
-  pub activated-kept : (core : Core) (t : ℕ) (start : Start) (repeat : Repeat) (priority : ℕ) →
+  pub activated-keeps : (core : Core) (t : ℕ) (start : Start) (repeat : Repeat) (priority : ℕ) →
       ((row : TaskRow) → row_of core t ≡ Some row → Urgent priority) → Lawful (planned core start repeat) → P core →
       P (activated core t start repeat priority)
-  activated-kept core t start repeat priority urgent lawful p =
+  activated-keeps core t start repeat priority urgent lawful p =
       either P (is_at_once start repeat) (started core t priority)
-      (plan_activation core t (record { plan = planned core start repeat; priority = priority })) (started-kept core t priority urgent p)
-      (plan_activation-kept core t (record { plan = planned core start repeat; priority = priority }) (λ row at. (urgent row at, lawful)) p)
+      (plan_activation core t (record { plan = planned core start repeat; priority = priority }))
+      (started-keeps core t priority urgent p)
+      (plan_activation-keeps core t (record { plan = planned core start repeat; priority = priority })
+      (λ row at. (urgent row at, lawful)) p)
 
-  pub continues-kept : (core : Core) (t : ℕ) (start : Start) → Lawful (planned core start Once) → P core → P (continues core t start)
-  continues-kept core t start lawful p =
+  pub continues-keeps : (core : Core) (t : ℕ) (start : Start) → Lawful (planned core start Once) → P core →
+      P (continues core t start)
+  continues-keeps core t start lawful p =
       either P (is_at_once start Once) (with_mark core t false)
-      (if is_active core t then plan_continuation core t (planned core start Once) else core) (mark-kept core t false p)
-      (either P (is_active core t) (plan_continuation core t (planned core start Once)) core
-      (plan_continuation-kept core t (planned core start Once) lawful p) p)
+      (if is_active core t then plan_continuation core t (planned core start Once) else core)
+      (mark-keeps core t false p)
+      (by_test (is_active core t) refl)
+    where
+      by_test : (active : Bool) → is_active core t ≡ active →
+          P (if active then plan_continuation core t (planned core start Once) else core)
+      by_test true is = plan_continuation-keeps core t (planned core start Once)
+          (λ row at. (lawful, closed.active row.mode (sym (ap is_active_row at) ∙ is))) p
+      by_test false is = p
 
-  pub resuming-kept : (core : Core) (own : ℕ) (start : Start) → Lawful (planned core start Once) → P core →
+  -- a task that suspends itself is then one that may have a plan to go on
+  abbrev pub MayResume : Core → (own : ℕ) → Type 0
+  MayResume core own = (row : TaskRow) → row_of (with_mark core own true) own ≡ Some row → Going row.mode
+
+  pub resuming-keeps : (core : Core) (own : ℕ) (start : Start) → Lawful (planned core start Once) →
+      MayResume core own → P core →
       P (resuming core own start)
-  resuming-kept core own start lawful p =
-      plan_continuation-kept (with_mark core own true) own (planned core start Once) lawful (mark-kept core own true p)
+  resuming-keeps core own start lawful may p =
+      plan_continuation-keeps (with_mark core own true) own (planned core start Once) (λ row at. (lawful, may row at))
+      (mark-keeps core own true p)
 
   module _ (at_ends : ClosedAtEnds P) where
     -- ENDS
 
-    finished-kept : (core : Core) (t : ℕ) → P core → P (finished core t)
-    finished-kept core t p = by_row (row_of core t) refl
+    finished-keeps : (core : Core) (t : ℕ) → P core → P (finished core t)
+    finished-keeps core t p = by_row (row_of core t) refl
       where
         by_row : (row : Option TaskRow) → row_of core t ≡ row →
             P (on_row row core (λ r. with_row core t (record r { mode = Dormant; continuation = None })))
         by_row None at = p
         by_row (Some row) at = at_ends.ends core t row at p
 
-    prevented-kept : (core : Core) (t : ℕ) → P core → P (prevented core t)
-    prevented-kept core t p = by_row (row_of core t) refl
+    prevented-keeps : (core : Core) (t : ℕ) → P core → P (prevented core t)
+    prevented-keeps core t p = by_row (row_of core t) refl
       where
         by_row : (row : Option TaskRow) → row_of core t ≡ row →
             P (on_row row core (λ r. with_row core t (record r { continuation = None; activation = None })))
         by_row None at = p
         by_row (Some row) at = at_ends.prevents core t row at p
 
-    ending-kept : (core : Core) (own : ℕ) (e : Event) → P core → P (ending core own e).core
-    ending-kept core own e p = closed.told (finished core own) e (finished-kept core own p)
+    ending-keeps : (core : Core) (own : ℕ) (e : Event) → P core → P (ending core own e).core
+    ending-keeps core own e p = closed.told (finished core own) e (finished-keeps core own p)
 
-    stopping-kept : (core : Core) (own t : ℕ) → P core → P (stopping core own t).core
-    stopping-kept core own t p = by_mode (mode_of core t)
+    stopping-keeps : (core : Core) (own t : ℕ) → P core → P (stopping core own t).core
+    stopping-keeps core own t p = by_mode (mode_of core t)
       where
         by_mode : (mode : Mode) → P (stopped_by mode core t)
         by_mode Dormant = p
-        by_mode (Active priority suspended) = closed.told (finished core t) (event.Stop t) (finished-kept core t p)
+        by_mode (Active priority suspended) = closed.told (finished core t) (event.Stop t) (finished-keeps core t p)
 
     -- ACTIONS
 
-    releasing-kept : (core : Core) (own : ℕ) (semaphores : List ℕ) (can_raise : Bool) → all_below_most core.counts semaphores ≡ can_raise →
+    releasing-keeps : (core : Core) (own : ℕ) (semaphores : List ℕ) (can_raise : Bool) →
+        all_below_most core.counts semaphores ≡ can_raise →
         (all_below_most core.counts semaphores ≡ true → P (record core { counts = raised core.counts semaphores })) → P core →
         P (releasing core own semaphores can_raise).core
-    releasing-kept core own semaphores true e raises p = raises e
-    releasing-kept core own semaphores false e raises p = ending-kept core own (event.Trap own SemaLimit) p
+    releasing-keeps core own semaphores true e raises p = raises e
+    releasing-keeps core own semaphores false e raises p = ending-keeps core own (event.Trap own SemaLimit) p
 
-    trying-kept : (core : Core) (semaphore : ℕ) (is_free : Bool) → P (record core { counts = lowered core.counts (semaphore ∷ []) }) → P core →
+    trying-keeps : (core : Core) (semaphore : ℕ) (is_free : Bool) →
+        P (record core { counts = lowered core.counts (semaphore ∷ []) }) → P core →
         P (trying core semaphore is_free).core
-    trying-kept core semaphore true lowers p = lowers
-    trying-kept core semaphore false lowers p = p
+    trying-keeps core semaphore true lowers p = lowers
+    trying-keeps core semaphore false lowers p = p
 
-    getting-kept : (core : Core) (own device : ℕ) (scanned : Scanned) → ((used : ℕ) → P (without_bytes core device used)) → P core →
+    getting-keeps : (core : Core) (own device : ℕ) (scanned : Scanned) →
+        ((used : ℕ) → P (without_bytes core device used)) → P core →
         P (getting core own device scanned).core
-    getting-kept core own device Short drops p = ending-kept core own (event.End own) p
-    getting-kept core own device (Bad used) drops p = ending-kept (without_bytes core device used) own (event.Trap own Format) (drops used)
-    getting-kept core own device (Got used values) drops p = drops used
+    getting-keeps core own device Short drops p = ending-keeps core own (event.End own) p
+    getting-keeps core own device (Bad used) drops p = ending-keeps (without_bytes core device used) own
+        (event.Trap own Format) (drops used)
+    getting-keeps core own device (Got used values) drops p = drops used
 
-    taking-kept : (core : Core) (own device : ℕ) (values : List Cell) → P (without_value core device) → P core →
+    taking-keeps : (core : Core) (own device : ℕ) (values : List Cell) → P (without_value core device) → P core →
         P (taking core own device values).core
-    taking-kept core own device [] drops p = ending-kept core own (event.End own) p
-    taking-kept core own device (x ∷ later) drops p = drops
+    taking-keeps core own device [] drops p = ending-keeps core own (event.End own) p
+    taking-keeps core own device (x ∷ later) drops p = drops
 
     -- every action of a task, which then is the one that acted last
-    pub effect-kept : (core : Core) (own : ℕ) (asked : Action) → Brings Urgent Lawful core asked →
+    pub effect-keeps : (core : Core) (own : ℕ) (asked : Action) → BringsTo Urgent Lawful P core asked →
+        MayResume (record core { last = Some own }) own →
         KeepsValues P (record core { last = Some own }) asked → P (record core { last = Some own }) → P (effect core own asked).core
     unfolding effect
-    effect-kept core own asked brings values p = by_action asked brings values
+    effect-keeps core own asked brings may values p = by_action asked brings values
       where
         acted : Core
         acted = record core { last = Some own }
 
-        by_action : (asked : Action) → Brings Urgent Lawful core asked → KeepsValues P acted asked → P (effect_of acted own asked).core
+        by_action : (asked : Action) → BringsTo Urgent Lawful P core asked → KeepsValues P acted asked →
+            P (effect_of acted own asked).core
         by_action (action.Read slot) brings values = p
         by_action (action.Write slot value) brings values = values
         by_action action.Turn brings values = p
@@ -367,68 +438,71 @@ module _ (Urgent : ℕ → Type 0) (Lawful : Plan → Type 0) (P : Core → Type
         by_action action.Now brings values = p
         by_action (action.Request list) brings values = values
         by_action (action.Release list) brings values =
-            releasing-kept acted own list.items (all_below_most core.counts list.items) refl values p
-        by_action (action.Try s) brings values = trying-kept acted s (nat_lt 0 (count_at core.counts s)) values p
+            releasing-keeps acted own list.items (all_below_most core.counts list.items) refl values p
+        by_action (action.Try s) brings values = trying-keeps acted s (nat_lt 0 (count_at core.counts s)) values p
         by_action (action.Activate t start repeat priority) brings values =
-            activated-kept acted t start repeat (priority_or_declared core t priority) brings.0 (brings.1 acted) p
-        by_action (action.Continue t start) brings values = continues-kept acted t start (brings acted) p
-        by_action (action.Resume start) brings values = resuming-kept acted own start (brings acted) p
-        by_action (action.Suspend t) brings values = mark-kept acted t true p
-        by_action (action.Terminate t) brings values = stopping-kept acted own t p
-        by_action (action.Prevent t) brings values = prevented-kept acted t p
+            activated-keeps acted t start repeat (priority_or_declared core t priority) brings.0 (brings.1 acted p) p
+        by_action (action.Continue t start) brings values = continues-keeps acted t start (brings acted p) p
+        by_action (action.Resume start) brings values = resuming-keeps acted own start (brings acted p) may p
+        by_action (action.Suspend t) brings values = mark-keeps acted t true p
+        by_action (action.Terminate t) brings values = stopping-keeps acted own t p
+        by_action (action.Prevent t) brings values = prevented-keeps acted t p
         by_action (action.Enable device) brings values = values
         by_action (action.Disable device) brings values = values
-        by_action (action.Trigger device) brings values = interrupted-kept acted device p
+        by_action (action.Trigger device) brings values = interrupted-keeps acted device p
         by_action (action.Put device text) brings values = closed.told acted (event.Out device text) p
         by_action (action.Get device format kinds) brings values =
-            getting-kept acted own device (scan (items_of core format) kinds.items (bytes_at core device)) values p
-        by_action (action.Take device) brings values = taking-kept acted own device (values_at core device) values p
+            getting-keeps acted own device (scan (items_of core format) kinds.items (bytes_at core device)) values p
+        by_action (action.Take device) brings values = taking-keeps acted own device (values_at core device) values p
         by_action (action.Send device value) brings values = closed.told acted (event.Send device value) p
-        by_action action.End brings values = ending-kept acted own (event.End own) p
-        by_action (action.Trap trap) brings values = ending-kept acted own (event.Trap own trap) p
+        by_action action.End brings values = ending-keeps acted own (event.End own) p
+        by_action (action.Trap trap) brings values = ending-keeps acted own (event.Trap own trap) p
 
   module _ (is_free : IsFree P) where
     -- WHAT COMES IN
 
     -- a device's channel
-    channel-kept : (core : Core) (device : ℕ) (channel : Channel) → P core → P (with_channel core device channel)
-    channel-kept core device channel p = is_free core (with_channel core device channel) (only_channel core device channel) p
+    channel-keeps : (core : Core) (device : ℕ) (channel : Channel) → P core → P (with_channel core device channel)
+    channel-keeps core device channel p = is_free core (with_channel core device channel)
+        (only_channel core device channel) p
 
-    pub bytes-kept : (core : Core) (device : ℕ) (text : List ℕ) → P core → P (with_bytes core device text)
-    bytes-kept core device text p =
+    pub bytes-keeps : (core : Core) (device : ℕ) (text : List ℕ) → P core → P (with_bytes core device text)
+    bytes-keeps core device text p =
         either P (nat_le (length (bytes_at core device ++ text)) terminal_room) (with_channel core device (Bytes (bytes_at core device ++ text)))
-        (note core (event.Lost device)) (channel-kept core device (Bytes (bytes_at core device ++ text)) p) (closed.told core (event.Lost device) p)
+        (note core (event.Lost device)) (channel-keeps core device (Bytes (bytes_at core device ++ text)) p)
+        (closed.told core (event.Lost device) p)
 
-    joined-kept : (core : Core) (device : ℕ) (kind : Kind) (pending : List Cell) (value : Result Cell Trap) → P core →
+    joined-keeps : (core : Core) (device : ℕ) (kind : Kind) (pending : List Cell) (value : Result Cell Trap) → P core →
         P (joined core device kind pending value)
-    joined-kept core device kind pending (Err trap) p = p
-    joined-kept core device kind pending (Ok x) p = channel-kept core device (Values kind (pending ++ x ∷ [])) p
+    joined-keeps core device kind pending (Err trap) p = p
+    joined-keeps core device kind pending (Ok x) p = channel-keeps core device (Values kind (pending ++ x ∷ [])) p
 
-    pub value-kept : (core : Core) (device : ℕ) (x : Cell) → P core → P (with_value core device x)
-    value-kept core device x p = by_channel (channel_of core device)
+    pub value-keeps : (core : Core) (device : ℕ) (x : Cell) → P core → P (with_value core device x)
+    value-keeps core device x p = by_channel (channel_of core device)
       where
         by_channel : (channel : Option Channel) → P (with_value_by channel core device x)
         by_channel (Some (Values kind pending)) =
             either P (nat_lt (length pending) input_room) (joined core device kind pending (converted x kind)) (note core (event.Lost device))
-            (joined-kept core device kind pending (converted x kind) p) (closed.told core (event.Lost device) p)
+            (joined-keeps core device kind pending (converted x kind) p) (closed.told core (event.Lost device) p)
         by_channel (Some (Switch enabled)) = p
         by_channel (Some (Bytes pending)) = p
         by_channel (Some Outward) = p
         by_channel None = p
 
     -- an entry of a journal; one that sets the clock is asked for
-    pub arrived-kept : (core : Core) (come : Entry) → ((time : ℕ) → come ≡ entry.Clock time → P (record core { clock = time })) → P core →
+    pub arrived-keeps : (core : Core) (come : Entry) →
+        ((time : ℕ) → come ≡ entry.Clock time → P (record core { clock = time })) → P core →
         P (arrived core come)
-    arrived-kept core (entry.Clock time) clock p = clock time refl
-    arrived-kept core (entry.Run picks) clock p = p
-    arrived-kept core (entry.Tick milliseconds) clock p = p
-    arrived-kept core (entry.Pass times picks) clock p = p
-    arrived-kept core (entry.Irpt device) clock p = interrupted-kept core device p
-    arrived-kept core (entry.Chars device text) clock p = bytes-kept core device text.items p
-    arrived-kept core (entry.Line device text) clock p = bytes-kept core device (text.items ++ 10 ∷ []) p
-    arrived-kept core (entry.Value device x) clock p = value-kept core device x p
-    arrived-kept core (entry.Turn task) clock p = p
-    arrived-kept core entry.State clock p = p
+    arrived-keeps core (entry.Clock time) clock p = clock time refl
+    arrived-keeps core (entry.Run picks) clock p = p
+    arrived-keeps core (entry.Tick milliseconds) clock p = p
+    arrived-keeps core (entry.Pass times picks) clock p = p
+    arrived-keeps core (entry.Irpt device) clock p = interrupted-keeps core device p
+    arrived-keeps core (entry.Chars device text) clock p = bytes-keeps core device text.items p
+    arrived-keeps core (entry.Line device text) clock p = bytes-keeps core device (text.items ++ 10 ∷ []) p
+    arrived-keeps core (entry.Value device x) clock p = value-keeps core device x p
+    arrived-keeps core (entry.Turn task) clock p = p
+    arrived-keeps core entry.State clock p = p
 
   module _ (is_free : IsFree P) (at_ends : ClosedAtEnds P) where
     -- what an action does to values
@@ -440,13 +514,14 @@ module _ (Urgent : ℕ → Type 0) (Lawful : Plan → Type 0) (P : Core → Type
         λ below. is_free core _ (only_counts core (raised core.counts list.items) (raised-length core.counts list.items)) p
     free_values core (action.Try s) p =
         is_free core _ (only_counts core (lowered core.counts (s ∷ [])) (lowered-length core.counts (s ∷ []))) p
-    free_values core (action.Enable device) p = channel-kept is_free core device (Switch true) p
-    free_values core (action.Disable device) p = channel-kept is_free core device (Switch false) p
-    free_values core (action.Get device format kinds) p = λ used. channel-kept is_free core device (Bytes (drop used (bytes_at core device))) p
+    free_values core (action.Enable device) p = channel-keeps is_free core device (Switch true) p
+    free_values core (action.Disable device) p = channel-keeps is_free core device (Switch false) p
+    free_values core (action.Get device format kinds) p = λ used. channel-keeps is_free core device
+        (Bytes (drop used (bytes_at core device))) p
     free_values core (action.Take device) p = by_channel (channel_of core device)
       where
         by_channel : (channel : Option Channel) → P (without_value_by channel core device)
-        by_channel (Some (Values kind pending)) = channel-kept is_free core device (Values kind (drop 1 pending)) p
+        by_channel (Some (Values kind pending)) = channel-keeps is_free core device (Values kind (drop 1 pending)) p
         by_channel (Some (Switch enabled)) = p
         by_channel (Some (Bytes pending)) = p
         by_channel (Some Outward) = p
@@ -468,8 +543,93 @@ module _ (Urgent : ℕ → Type 0) (Lawful : Plan → Type 0) (P : Core → Type
     free_values core (action.Trap trap) p = tt
 
     -- an action keeps what doesn't speak of values, nor of who acted last
-    pub effect-free : (core : Core) (own : ℕ) (asked : Action) → Brings Urgent Lawful core asked → P core → P (effect core own asked).core
-    effect-free core own asked brings p =
+    pub effect-stays : (core : Core) (own : ℕ) (asked : Action) → BringsTo Urgent Lawful P core asked →
+        MayResume (record core { last = Some own }) own → P core → P (effect core own asked).core
+    effect-stays core own asked brings may p =
         let acted : Core = record core { last = Some own } in
         let last : P acted = is_free core acted (only_last core (Some own)) p in
-        effect-kept at_ends core own asked brings (free_values acted asked last) last
+        effect-keeps at_ends core own asked brings may (free_values acted asked last) last
+
+-- WHERE NOTHING IS ASKED OF THE MODES
+
+abbrev AnyMode : Mode → Type 0
+AnyMode mode = Unit {0}
+
+module _ (Urgent : ℕ → Type 0) (Lawful : Plan → Type 0) where
+  -- a plan to go on of a task in any mode
+  in_any_mode : (mode : Mode) (plan : Option Plan) → IfSome plan Lawful → IfSome plan (Goes Lawful AnyMode mode)
+  in_any_mode mode None lawful = tt
+  in_any_mode mode (Some plan) lawful = (lawful, tt)
+
+  whatever_mode : (mode : Mode) (plan : Option Plan) → IfSome plan (Goes Lawful AnyMode mode) → IfSome plan Lawful
+  whatever_mode mode None goes = tt
+  whatever_mode mode (Some plan) goes = goes.0
+
+  -- what an action brings
+  brings_to : (P : Core → Type 0) (core : Core) (asked : Action) → Brings Urgent Lawful core asked →
+      BringsTo Urgent Lawful P core asked
+  brings_to P core (action.Activate t start repeat priority) brings = (brings.0, λ now p. brings.1 now)
+  brings_to P core (action.Continue t start) brings = λ now p. brings now
+  brings_to P core (action.Resume start) brings = λ now p. brings now
+  brings_to P core other brings = tt
+
+  module _ (P : Core → Type 0) (closed : Closed Urgent Lawful P) where
+    closed_for : ClosedFor Urgent Lawful AnyMode P
+    closed_for = record {
+      told = closed.told;
+      stands = closed.stands;
+      goes_on = λ core t row plan at goes p. closed.goes_on core t row plan at (whatever_mode row.mode plan goes) p;
+      starts = closed.starts;
+      going = λ core t row at p. in_any_mode row.mode row.continuation (closed.going core t row at p);
+      starting = closed.starting;
+      begins = λ core plan p lawful. closed.begins core plan lawful;
+      active = λ mode is. tt;
+    }
+
+    pub mark-kept : (core : Core) (t : ℕ) (suspended : Bool) → P core → P (with_mark core t suspended)
+    mark-kept = mark-keeps Urgent Lawful AnyMode P closed_for
+
+    pub millisecond-kept : (core : Core) → P (record core { moment = core.moment + 1 }) → P (millisecond core)
+    millisecond-kept = millisecond-keeps Urgent Lawful AnyMode P closed_for
+
+    pub interrupted-kept : (core : Core) (device : ℕ) → P core → P (interrupted core device)
+    interrupted-kept = interrupted-keeps Urgent Lawful AnyMode P closed_for
+
+    pub activated-kept : (core : Core) (t : ℕ) (start : Start) (repeat : Repeat) (priority : ℕ) →
+        ((row : TaskRow) → row_of core t ≡ Some row → Urgent priority) → Lawful (planned core start repeat) → P core →
+        P (activated core t start repeat priority)
+    activated-kept = activated-keeps Urgent Lawful AnyMode P closed_for
+
+    pub continues-kept : (core : Core) (t : ℕ) (start : Start) → Lawful (planned core start Once) → P core →
+        P (continues core t start)
+    continues-kept = continues-keeps Urgent Lawful AnyMode P closed_for
+
+    pub resuming-kept : (core : Core) (own : ℕ) (start : Start) → Lawful (planned core start Once) → P core →
+        P (resuming core own start)
+    resuming-kept core own start lawful p = resuming-keeps Urgent Lawful AnyMode P closed_for core own start lawful
+        (λ row at. tt) p
+
+    -- every action of a task, which then is the one that acted last
+    pub effect-kept : (at_ends : ClosedAtEnds P) (core : Core) (own : ℕ) (asked : Action) →
+        Brings Urgent Lawful core asked →
+        KeepsValues P (record core { last = Some own }) asked → P (record core { last = Some own }) →
+        P (effect core own asked).core
+    effect-kept at_ends core own asked brings values p = effect-keeps Urgent Lawful AnyMode P closed_for at_ends core own asked
+        (brings_to P core asked brings) (λ row at. tt) values p
+
+    pub bytes-kept : (is_free : IsFree P) (core : Core) (device : ℕ) (text : List ℕ) → P core →
+        P (with_bytes core device text)
+    bytes-kept = bytes-keeps Urgent Lawful AnyMode P closed_for
+
+    pub value-kept : (is_free : IsFree P) (core : Core) (device : ℕ) (x : Cell) → P core → P (with_value core device x)
+    value-kept = value-keeps Urgent Lawful AnyMode P closed_for
+
+    pub arrived-kept : (is_free : IsFree P) (core : Core) (come : Entry) →
+        ((time : ℕ) → come ≡ entry.Clock time → P (record core { clock = time })) → P core → P (arrived core come)
+    arrived-kept = arrived-keeps Urgent Lawful AnyMode P closed_for
+
+    -- an action keeps what doesn't speak of values, nor of who acted last
+    pub effect-free : (is_free : IsFree P) (at_ends : ClosedAtEnds P) (core : Core) (own : ℕ) (asked : Action) →
+        Brings Urgent Lawful core asked → P core → P (effect core own asked).core
+    effect-free is_free at_ends core own asked brings p = effect-stays Urgent Lawful AnyMode P closed_for is_free at_ends core own asked
+        (brings_to P core asked brings) (λ row at. tt) p

@@ -85,24 +85,30 @@ module _ (before : List (ℕ × Report)) where
   last_moment-told core first (end.Until time) = refl
   last_moment-told core first (end.During time) = refl
 
-  series-told : (core : Core) (first : ℕ) (plan : Plan) → series_from (later core) first plan ≡ series_from core first plan
+  series-told : (core : Core) (first : ℕ) (plan : Plan) →
+      series_from (later core) first plan ≡ series_from core first plan
   series-told core first plan =
-      ap (λ last. let s : Series = record { first = first; period = plan.period; last = last } in s) (last_moment-told core first plan.end)
+      ap (λ last. let s : Series = record { first = first; period = plan.period; last = last } in s)
+      (last_moment-told core first plan.end)
 
   first_series-told : (core : Core) (start : Start) (repeat : Repeat) → first_series (later core) start repeat ≡ first_series core start repeat
   first_series-told core Free repeat = ap Some (series-told core (first_moment core Free) (written Free repeat))
-  first_series-told core (At time) repeat = ap Some (series-told core (first_moment core (At time)) (written (At time) repeat))
-  first_series-told core (After time) repeat = ap Some (series-told core (first_moment core (After time)) (written (After time) repeat))
+  first_series-told core (At time) repeat = ap Some
+      (series-told core (first_moment core (At time)) (written (At time) repeat))
+  first_series-told core (After time) repeat = ap Some
+      (series-told core (first_moment core (After time)) (written (After time) repeat))
   first_series-told core (When interrupt) repeat = refl
   first_series-told core (WhenAfter interrupt time) repeat = refl
 
   planned-told : (core : Core) (start : Start) (repeat : Repeat) → planned (later core) start repeat ≡ planned core start repeat
   planned-told core start repeat =
-      ap (λ series. let p : Plan = record (written start repeat) { series = series } in p) (first_series-told core start repeat)
+      ap (λ series. let p : Plan = record (written start repeat) { series = series } in p)
+      (first_series-told core start repeat)
 
   begun-told : (core : Core) (plan : Plan) → begun (later core) plan ≡ begun core plan
   begun-told core plan =
-      ap (λ series. let p : Plan = record plan { series = Some series } in p) (series-told core (core.moment + plan.after) plan)
+      ap (λ series. let p : Plan = record plan { series = Some series } in p)
+      (series-told core (core.moment + plan.after) plan)
 
   serves-told : (core : Core) (plan : Option Plan) → serves_if (later core) plan ≡ serves_if core plan
   serves-told core None = refl
@@ -167,7 +173,8 @@ module _ (before : List (ℕ × Report)) where
       by_plan : (plan : Option Activation) → begin_activation interrupt plan (later core) t ≡ later (begin_activation interrupt plan core t)
       by_plan None = refl
       by_plan (Some plan) =
-          either-told (waits_for interrupt plan.plan.when) (plan_activation core t (record plan { plan = begun core plan.plan })) core
+          either-told (waits_for interrupt plan.plan.when)
+          (plan_activation core t (record plan { plan = begun core plan.plan })) core
           (plan_activation (later core) t (record plan { plan = begun (later core) plan.plan })) (later core)
           (ap (λ p. plan_activation (later core) t (record plan { plan = p })) (begun-told core plan.plan)
           ∙ plan_activation-told core t (record plan { plan = begun core plan.plan })) refl

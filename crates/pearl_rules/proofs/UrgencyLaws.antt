@@ -157,14 +157,14 @@ lawful_starts setup None is = tt
 lawful_starts setup (Some plan) is = (tt, is)
 
 -- a start without a repetition
-once_starts : (setup : Setup) (when : Start) → IsOnce setup when → IsStart setup when
+pub once_starts : (setup : Setup) (when : Start) → IsOnce setup when → IsStart setup when
 once_starts setup start.Free is = is
 once_starts setup (start.At time) is = is
 once_starts setup (start.After time) is = is
 once_starts setup (start.When interrupt) is = is
 once_starts setup (start.WhenAfter interrupt time) is = absurd is
 
-later_once : (setup : Setup) (when : Start) → IsLater setup when → IsOnce setup when
+pub later_once : (setup : Setup) (when : Start) → IsLater setup when → IsOnce setup when
 later_once setup start.Free is = absurd is
 later_once setup (start.At time) is = is
 later_once setup (start.After time) is = is
@@ -182,7 +182,8 @@ period_some (pos n) is = let low = is.0 in omega (arith, ints, low)
 period_some (negsuc n) is = let low = is.0 in absurd (omega (arith, ints, low))
 
 -- a plan as it is written is lawful
-lawful_written : (setup : Setup) (when : Start) (how : Repeat) → IsStart setup when → IsRepeat how → IsPlan setup (written when how)
+lawful_written : (setup : Setup) (when : Start) (how : Repeat) → IsStart setup when → IsRepeat how →
+    IsPlan setup (written when how)
 lawful_written setup when how is repeats = record {
   when = interrupt when is;
   after = after when is;
@@ -225,27 +226,32 @@ lawful_written setup when how is repeats = record {
     once (repeat.During time during) is none = let some = period_some time is.0 in absurd (omega (arith, some, none))
 
 module _ (setup : Setup) where
-  plans_at : (core : Core) (t : ℕ) (row : TaskRow) → row_of core t ≡ Some row → HasPlans setup core → IsPlannedRow setup row
+  pub plans_at : (core : Core) (t : ℕ) (row : TaskRow) → row_of core t ≡ Some row → HasPlans setup core →
+      IsPlannedRow setup row
   plans_at core t row at has = each_at (IsPlannedRow setup) core.tasks has.plans t row at
 
   -- another row with lawful plans
-  plans_set : (core : Core) (t : ℕ) (row : TaskRow) → IsPlannedRow setup row → HasPlans setup core → HasPlans setup (with_row core t row)
+  pub plans_set : (core : Core) (t : ℕ) (row : TaskRow) → IsPlannedRow setup row → HasPlans setup core →
+      HasPlans setup (with_row core t row)
   plans_set core t row is has = record { plans = all_set (IsPlannedRow setup) core.tasks has.plans t row is; clock = has.clock }
 
   -- nothing told is a plan
-  plans_moved : (core other : Core) → other.tasks ≡ core.tasks → other.clock ≡ core.clock → HasPlans setup core → HasPlans setup other
+  pub plans_moved : (core other : Core) → other.tasks ≡ core.tasks → other.clock ≡ core.clock → HasPlans setup core →
+      HasPlans setup other
   plans_moved core other tasks clock has = record {
     plans = subst (λ rows. AllByRecursion (IsPlannedRow setup) rows) (sym tasks) has.plans;
     clock = subst (λ time. time < 86400000) (sym clock) has.clock;
   }
 
   -- a series is no part of that
-  with_series : (plan : Plan) (series : Option Series) → IsPlan setup plan → IsPlan setup (record plan { series = series })
+  pub with_series : (plan : Plan) (series : Option Series) → IsPlan setup plan →
+      IsPlan setup (record plan { series = series })
   with_series plan series is =
       record { when = is.when; after = is.after; period = is.period; end = is.end; once = is.once }
 
   -- a plan that is made now
-  lawful_planned : (core : Core) (when : Start) (how : Repeat) → IsStart setup when → IsRepeat how → IsPlan setup (planned core when how)
+  pub lawful_planned : (core : Core) (when : Start) (how : Repeat) → IsStart setup when → IsRepeat how →
+      IsPlan setup (planned core when how)
   lawful_planned core when how is repeats =
       with_series (written when how) (first_series core when how) (lawful_written setup when how is repeats)
 
@@ -271,9 +277,12 @@ module _ (setup : Setup) where
   plans_free core other only has = plans_moved core other only.tasks only.clock has
 
   plans_brings : (core : Core) (asked : Action) → Fits setup asked → Brings AnyPriority (IsPlan setup) core asked
-  plans_brings core (action.Activate t start repeat priority) fits = (λ row at. tt, λ now. lawful_planned now start repeat fits.1 fits.2)
-  plans_brings core (action.Continue t start) fits = λ now. lawful_planned now start Once (once_starts setup start fits.1) tt
-  plans_brings core (action.Resume start) fits = λ now. lawful_planned now start Once (once_starts setup start (later_once setup start fits)) tt
+  plans_brings core (action.Activate t start repeat priority) fits =
+      (λ row at. tt, λ now. lawful_planned now start repeat fits.1 fits.2)
+  plans_brings core (action.Continue t start) fits = λ now. lawful_planned now start Once
+      (once_starts setup start fits.1) tt
+  plans_brings core (action.Resume start) fits = λ now. lawful_planned now start Once
+      (once_starts setup start (later_once setup start fits)) tt
   plans_brings core (action.Read slot) fits = tt
   plans_brings core (action.Write slot value) fits = tt
   plans_brings core action.Turn fits = tt
@@ -318,7 +327,8 @@ millisecond-plans setup core has =
     millisecond-kept AnyPriority (IsPlan setup) (HasPlans setup) (plans_closed setup) core (plans_moved setup core _ refl refl has)
 
 -- the time of day that an entry sets is one
-clock_fits : (setup : Setup) (come : Entry) → IsFitting setup come → (time : ℕ) → come ≡ entry.Clock time → time < 86400000
+pub clock_fits : (setup : Setup) (come : Entry) → IsFitting setup come → (time : ℕ) → come ≡ entry.Clock time →
+    time < 86400000
 clock_fits setup come fits time same = (subst (IsFitting setup) same fits).1
 
 pub arrived-plans : (setup : Setup) (core : Core) (come : Entry) → HasPlans setup core → IsFitting setup come → HasPlans setup (arrived core come)

@@ -184,7 +184,8 @@ IsEnd end.Never = Unit {0}
 IsEnd (end.Until time) = time < 86400000
 IsEnd (end.During time) = time ≤ 2 ^ 40
 
--- The interrupt of a plan is there, its lengths of time are at most 2^40 milliseconds, and its end is one; without a period it has none.
+-- The interrupt of a plan is there, its lengths of time are at most 2^40 milliseconds, and its end is one; without a
+-- period it has none.
 pub record IsPlan (setup : Setup) (plan : Plan) : Type 0 where
   pub when : IfSome plan.when (λ interrupt. IsInterrupt (slice_get setup.devices interrupt))
   pub after : plan.after ≤ 2 ^ 40
@@ -199,3 +200,25 @@ IsPlannedRow setup row = IfSome row.continuation (IsPlan setup) × IfSome row.ac
 pub record HasPlans (setup : Setup) (core : Core) : Type 0 where
   pub plans : AllByRecursion (IsPlannedRow setup) core.tasks
   pub clock : core.clock < 86400000
+
+-- A plan that waits for no interrupt has a series. A first moment is at most 2^42, and a period at most 2^40
+-- milliseconds.
+pub record IsTimed (plan : Plan) : Type 0 where
+  pub has : plan.when ≡ None → IsSome plan.series
+  pub near : IfSome plan.series (λ series. (series.first ≤ 2 ^ 42) × (series.period ≤ 2 ^ 40))
+
+-- a dormant task has no plan to go on, and the plans of a task are such
+pub record IsTimedRow (row : TaskRow) : Type 0 where
+  pub dormant : row.mode ≡ Dormant → row.continuation ≡ None
+  pub goes_on : IfSome row.continuation IsTimed
+  pub starts : IfSome row.activation (λ activation. IsTimed activation.plan)
+
+-- so it is of each task, up to the last moment that a run may come to
+pub record HasTimes (setup : Setup) (core : Core) : Type 0 where
+  pub moment : core.moment ≤ 2 ^ 40
+  pub lawful : HasPlans setup core
+  pub rows : AllByRecursion IsTimedRow core.tasks
+
+-- whoever acted last is a task
+abbrev pub HasLast : Core → Type 0
+HasLast core = IfSome core.last (λ t. t < length core.tasks)

@@ -27,7 +27,7 @@ ghost use Rattle.pearl_rules.specs.Effect.{Hears, Ends, answering, priority_or_d
 ghost use Rattle.pearl_value.specs.Devices.{IsDevice};
 ghost use Rattle.pearl_value.specs.Counts.{IsPreset};
 ghost use Rattle.pearl_rules.specs.Tables.{IsTaskEntry};
-ghost use Rattle.pearl_rules.specs.Slots.{Suits, Fits, HasKinds, HasCounts, HasUrgencies, HasPlans};
+ghost use Rattle.pearl_rules.specs.Slots.{Suits, Fits, HasKinds, HasCounts, HasUrgencies, HasPlans, HasTimes, HasLast};
 ghost use Rattle.pearl_rules.specs.Entries.{IsFitting, AreFitting};
 ghost use Rattle.pearl_rules.specs.Pick.{Offered, guard, is_eligible, pick, IsPicked, can_turn, turned, shown_of, states, showing};
 ghost use Rattle.pearl_rules.specs.Runs.{Acts, Turns, Tells, Passes, Arrives, Coming, next_mark, Supplier, Source, Engine, source_step, source_after, source_run, source_next, machine_run, marked};
@@ -197,6 +197,31 @@ pub fn plans_stay_lawful()
     ensures passes { (setup : Setup) (core : Core) → HasPlans setup core → HasPlans setup (millisecond core) }
     ensures arrives { (setup : Setup) (core : Core) (entry : Entry) → HasPlans setup core → IsFitting setup entry →
         HasPlans setup (arrived core entry) }
+{}
+
+/// A dormant task has no plan to go on. A plan that waits for no interrupt has a series, and no plan's first moment is
+/// above 2^42, nor its period above 2^40 milliseconds.
+pub fn plans_have_their_series()
+    ensures opens { (setup : Setup) → HasTimes setup (opening setup) }
+    ensures acts { (setup : Setup) (core : Core) (own : ℕ) (action : Action) → IsTrue (is_active core own) →
+        HasTimes setup core →
+        Fits setup action → HasTimes setup (effect core own action).core }
+    ensures turns { (setup : Setup) (core : Core) (offers : Offered) (t : ℕ) → HasTimes setup core →
+        HasTimes setup (turned core offers t) }
+    ensures passes { (setup : Setup) (core : Core) → core.moment + 1 ≤ 2 ^ 40 → HasTimes setup core →
+        HasTimes setup (millisecond core) }
+    ensures arrives { (setup : Setup) (core : Core) (entry : Entry) → HasTimes setup core → IsFitting setup entry →
+        HasTimes setup (arrived core entry) }
+{}
+
+/// Whoever acted last is a task, or nobody acted yet.
+pub fn tasks_alone_act()
+    ensures opens { (setup : Setup) → HasLast (opening setup) }
+    ensures acts { (core : Core) (own : ℕ) (action : Action) → own < length core.tasks →
+        HasLast (effect core own action).core }
+    ensures turns { (core : Core) (offers : Offered) (t : ℕ) → HasLast core → HasLast (turned core offers t) }
+    ensures passes { (core : Core) → HasLast core → HasLast (millisecond core) }
+    ensures arrives { (core : Core) (entry : Entry) → HasLast core → HasLast (arrived core entry) }
 {}
 
 /// Time passes by milliseconds alone.

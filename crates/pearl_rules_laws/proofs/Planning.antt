@@ -135,10 +135,13 @@ module _ (core : Core) (own : ℕ) (row : TaskRow) (at : row_of core own ≡ Som
 -- a plan that doesn't wait for an interrupt serves at its moments
 pub plan_serves : (core : Core) (start : Start) (repeat : Repeat) (u : ℕ) → (Waits start → ⊥) →
     IsTrue (fires_if (planned core start repeat).series u)
-    ↔ IsMoment (first_moment core start) (period_of repeat) (last_moment core (first_moment core start) (end_of repeat)) u
+    ↔ IsMoment (first_moment core start) (period_of repeat)
+    (last_moment core (first_moment core start) (end_of repeat)) u
 plan_serves core Free repeat u free = fires_as_said (series_from core (first_moment core Free) (written Free repeat)) u
-plan_serves core (At time) repeat u free = fires_as_said (series_from core (first_moment core (At time)) (written (At time) repeat)) u
-plan_serves core (After time) repeat u free = fires_as_said (series_from core (first_moment core (After time)) (written (After time) repeat)) u
+plan_serves core (At time) repeat u free = fires_as_said
+    (series_from core (first_moment core (At time)) (written (At time) repeat)) u
+plan_serves core (After time) repeat u free = fires_as_said
+    (series_from core (first_moment core (After time)) (written (After time) repeat)) u
 plan_serves core (When interrupt) repeat u free = absurd (free tt)
 plan_serves core (WhenAfter interrupt time) repeat u free = absurd (free tt)
 
@@ -169,14 +172,18 @@ at_this_time core time near small is =
     (plan_serves core (At time) Once core.moment (λ waits. waits)).1 ((0, omega (arith, up, later)), omega (arith, near))
 
 -- a plan at the time of day that it is begins now
-pub planned_at_this_time : (core : Core) (time : ℕ) (repeat : Repeat) → time < 86400000 → time_at core core.moment ≡ time →
+pub planned_at_this_time : (core : Core) (time : ℕ) (repeat : Repeat) → time < 86400000 →
+    time_at core core.moment ≡ time →
     planned core (At time) repeat ≡ planned core Free repeat
 planned_at_this_time core time repeat small is =
     let next = next_time core time core.moment small in
     let up = next.least core.moment (omega arith) is in
     let later = next.later in
     let now : first_moment core (At time) ≡ first_moment core Free = omega (arith, up, later) in
-    ap (λ first. let p : Plan = record (written Free repeat) { series = Some (series_from core first (written Free repeat)) } in p) now
+    ap (λ first. let p : Plan = record (written Free repeat) {
+      series = Some
+          (series_from core first (written Free repeat));
+    } in p) now
 
 -- INTERRUPTS
 
@@ -194,7 +201,8 @@ plan_waits interrupt when = (named when, λ is. ap (waits_for interrupt) is ∙ 
     named (Some other) is = ap Some (sym (eqb-true interrupt other is))
 
 -- and for which one as it is written
-pub written_waits : (interrupt : ℕ) (start : Start) → (interrupt_of start ≡ Some interrupt) ↔ IsWrittenWith interrupt start
+pub written_waits : (interrupt : ℕ) (start : Start) →
+    (interrupt_of start ≡ Some interrupt) ↔ IsWrittenWith interrupt start
 written_waits interrupt start = (from start, back)
   where
     from : (s : Start) → interrupt_of s ≡ Some interrupt → IsWrittenWith interrupt s

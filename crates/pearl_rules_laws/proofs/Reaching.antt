@@ -28,7 +28,8 @@ ends_later core first (end.Until time) near = omega arith
 ends_later core first (end.During time) near = omega arith
 
 -- one that begins at its interrupt serves then
-serves_now : (core : Core) (plan : Plan) → core.moment < 2 ^ 64 → plan.after ≡ 0 → serves_if core (Some (begun core plan)) ≡ true
+serves_now : (core : Core) (plan : Plan) → core.moment < 2 ^ 64 → plan.after ≡ 0 →
+    serves_if core (Some (begun core plan)) ≡ true
 serves_now core plan near none =
     let first : core.moment + plan.after ≡ core.moment = omega (arith, none) in
     let last = ends_later core core.moment plan.end near in
@@ -122,7 +123,8 @@ module _ (core : Core) (device t : ℕ) (row : TaskRow) (enabled : is_enabled co
       serves_after core device plan ≡ b
   serves_as plan waits b serves = ap₂ (λ x y. x && y) ((plan_waits device plan.when).1 waits) serves
 
-  serves_at_once : core.moment < 2 ^ 64 → (plan : Plan) → ServesAtOnce device plan → serves_after core device plan ≡ true
+  serves_at_once : core.moment < 2 ^ 64 → (plan : Plan) → ServesAtOnce device plan →
+      serves_after core device plan ≡ true
   serves_at_once near plan soon = serves_as plan soon.0 true (serves_now core plan near soon.1)
 
   -- an active task that goes on or doesn't, whether or not it is to be started

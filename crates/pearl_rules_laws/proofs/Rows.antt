@@ -272,12 +272,16 @@ module _ (now core : Core) (moment : now.moment ≡ core.moment) (clock : now.cl
   same_begun : (plan : Plan) → begun now plan ≡ begun core plan
   same_begun plan =
       ap (λ m. record plan { series = Some (series_from now (m + plan.after) plan) }) moment
-      ∙ ap (λ last. record plan { series = Some (record { first = core.moment + plan.after; period = plan.period; last = last }) })
+      ∙ ap (λ last. record plan {
+        series = Some
+            (record { first = core.moment + plan.after; period = plan.period; last = last });
+      })
       (same_last (core.moment + plan.after) plan.end)
 
   -- and the same serve
   same_after : (interrupt : ℕ) (plan : Plan) → serves_after now interrupt plan ≡ serves_after core interrupt plan
-  same_after interrupt plan = ap₂ (λ begins m. waits_for interrupt plan.when && fires_if begins.series m) (same_begun plan) moment
+  same_after interrupt plan = ap₂ (λ begins m. waits_for interrupt plan.when && fires_if begins.series m)
+      (same_begun plan) moment
 
   same_row_after : (interrupt : ℕ) (row : TaskRow) → reached_row now interrupt row ≡ reached_row core interrupt row
   same_row_after interrupt row = cc (goes row.continuation, starts row.activation, continues row.continuation, activates row.activation)
@@ -289,7 +293,8 @@ module _ (now core : Core) (moment : now.moment ≡ core.moment) (clock : now.cl
       continues : (plan : Option Plan) → continuation_after now interrupt plan ≡ continuation_after core interrupt plan
       continues None = refl
       continues (Some plan) =
-          ap₂ (λ b begins. if b then None else Some (if waits_for interrupt plan.when then begins else plan)) (same_after interrupt plan) (same_begun plan)
+          ap₂ (λ b begins. if b then None else Some (if waits_for interrupt plan.when then begins else plan))
+          (same_after interrupt plan) (same_begun plan)
 
       activates : (plan : Option Activation) → activation_after now interrupt plan ≡ activation_after core interrupt plan
       activates None = refl

@@ -29,7 +29,8 @@ ghost use Rattle.pearl_rules.specs.Devices.{channel_of, is_enabled, interrupted,
 ghost use Rattle.pearl_rules.specs.Effect.{Hears, answering, is_at_once, effect};
 ghost use Rattle.pearl_rules.specs.Laws.{ChangesTask, happened_at};
 ghost use Rattle.pearl_rules.specs.Pick.{Offered, guard, is_eligible, pick, shown_of, states};
-ghost use Rattle.pearl_rules.specs.Plans.{time_at, first_moment, period_of, end_of, last_moment, begin_series, planned, begun, serves_if, millisecond};
+ghost use Rattle.pearl_rules.specs.Plans.{time_at, first_moment, period_of, end_of, last_moment};
+ghost use Rattle.pearl_rules.specs.Plans.{begin_series, planned, begun, serves_if, millisecond};
 ghost use Rattle.pearl_rules.specs.Runs.{Acts, Turns, Tells, Supplier, Source, source_offers, source_next};
 ghost use Rattle.pearl_rules_laws.specs.Plans.{IsNextTime, IsMoment, Waits, ChangesRow, ChangesChannel, start_events, starts_now, new_activation, with_new_activation, with_new_continuation, served_row, served_events, reached_row, reached_events};
 ghost use Rattle.pearl_rules_laws.specs.Laws.{CanAct, ChangesSlot, MayWait, StandsAsDeclared};
@@ -226,7 +227,8 @@ pub fn plans_begin_and_end_as_written()
         × (last_moment core first (end_of (All (pos n))) ≡ 2 ^ 64 - 1) }
     ensures until { (core : Core) (first n time : ℕ) → time < 86400000 →
         IsNextTime core time first (last_moment core first (end_of (Until (pos n) time))) }
-    ensures during { (core : Core) (first n m : ℕ) → last_moment core first (end_of (During (pos n) (pos m))) ≡ first + m }
+    ensures during { (core : Core) (first n m : ℕ) →
+        last_moment core first (end_of (During (pos n) (pos m))) ≡ first + m }
 {}
 
 /// In a millisecond the plans of all tasks serve that fire then, in order of declaration, and nothing else happens: a task
