@@ -3,8 +3,8 @@
 ghost use Rattle.pearl_faithful.specs.Generated.{GeneratedIsValid, GeneratedOffers, GeneratedArrives};
 ghost use Rattle.pearl_faithful.specs.Laws.{SameTables, SameRuns, TasksStand, TasksOfferSoon, FaithfulPrograms, ObjectsFinish, ObjectsKeepKinds, ObjectsRun, ObjectsEndAlike};
 
-use pearl_instructions::runs;
 use pearl_gen_stmt::laws::{code_arrives, tasks_offer};
+use pearl_instructions::runs;
 
 /// What a sound program becomes is as each object is to be, and no rule of the validator fails in it, where it has no
 /// more formats than an object may have.

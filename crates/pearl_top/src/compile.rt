@@ -8,13 +8,12 @@ ghost use Rattle.pearl_top.specs.Ready.{IsReadyFor};
 
 use crate::failure::Failure;
 use crate::limits::SOURCE_LIMIT;
-use pearl_faithful::laws::faithful_programs;
-use pearl_faithful::laws::generated_is_valid;
+use crate::program::program_of;
+use pearl_faithful::laws::{faithful_programs, generated_is_valid};
 use pearl_generate::generate;
 use pearl_instructions::valid::Valid;
 use pearl_lex::lexer::tokens;
 use pearl_machine::Machine;
-use crate::program::program_of;
 use pearl_parse::parse::parse;
 use pearl_program::prog::Prog;
 use std::alloc::{AllocError as NoMemory, Global};
