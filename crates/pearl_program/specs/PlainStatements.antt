@@ -11,6 +11,7 @@ use Rattle.pearl_program.specs.declared.schedule.Start.TheVariants as start
 use Rattle.pearl_program.specs.declared.schedule.Once.{Once}
 use Rattle.pearl_program.specs.declared.schedule.Once.TheVariants as once
 use Rattle.pearl_program.specs.declared.statement.Counter.{Counter}
+use Rattle.pearl_program.specs.declared.statement.Branch.{Branch}
 use Rattle.pearl_program.specs.declared.statement.Stmt.{Stmt}
 use Rattle.pearl_program.specs.declared.statement.Stmt as stmt
 use Rattle.pearl_program.specs.declared.statement.Stmt.{Row_of-Stmt, end_of-Stmt, more_of-Stmt}
