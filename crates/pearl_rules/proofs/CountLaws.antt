@@ -300,21 +300,7 @@ module _ (setup : Setup) where
   counts_values core (action.Disable device) has fits = counts_moved core _ refl has
   counts_values core (action.Get device format kinds) has fits = λ used. counts_moved core _ refl has
   counts_values core (action.Take device) has fits = counts_moved core (without_value core device) (value_counts core device) has
-  counts_values core (action.Read slot) has fits = tt
-  counts_values core action.Turn has fits = tt
-  counts_values core action.Enter has fits = tt
-  counts_values core action.Now has fits = tt
-  counts_values core (action.Activate t start repeat priority) has fits = tt
-  counts_values core (action.Continue t start) has fits = tt
-  counts_values core (action.Resume start) has fits = tt
-  counts_values core (action.Suspend t) has fits = tt
-  counts_values core (action.Terminate t) has fits = tt
-  counts_values core (action.Prevent t) has fits = tt
-  counts_values core (action.Trigger device) has fits = tt
-  counts_values core (action.Put device text) has fits = tt
-  counts_values core (action.Send device value) has fits = tt
-  counts_values core action.End has fits = tt
-  counts_values core (action.Trap trap) has fits = tt
+  counts_values core other has fits = tt
 
   -- bytes that come in
   bytes_counts : (core : Core) (device : ℕ) (text : List ℕ) → HasCounts setup core → HasCounts setup (with_bytes core device text)

@@ -66,26 +66,7 @@ pub any_brings : (core : Core) (asked : Action) → Brings AnyPriority AnyPlan c
 any_brings core (action.Activate t start repeat priority) = (λ row at. tt, λ now. tt)
 any_brings core (action.Continue t start) = λ now. tt
 any_brings core (action.Resume start) = λ now. tt
-any_brings core (action.Read slot) = tt
-any_brings core (action.Write slot value) = tt
-any_brings core action.Turn = tt
-any_brings core action.Enter = tt
-any_brings core action.Now = tt
-any_brings core (action.Request list) = tt
-any_brings core (action.Release list) = tt
-any_brings core (action.Try s) = tt
-any_brings core (action.Suspend t) = tt
-any_brings core (action.Terminate t) = tt
-any_brings core (action.Prevent t) = tt
-any_brings core (action.Enable device) = tt
-any_brings core (action.Disable device) = tt
-any_brings core (action.Trigger device) = tt
-any_brings core (action.Put device text) = tt
-any_brings core (action.Get device format kinds) = tt
-any_brings core (action.Take device) = tt
-any_brings core (action.Send device value) = tt
-any_brings core action.End = tt
-any_brings core (action.Trap trap) = tt
+any_brings core other = tt
 
 -- another row with the same declared priority leaves the declared priorities
 declared-set : (rows : List TaskRow) (t : ℕ) (row changed : TaskRow) → slice_get rows t ≡ Some row → changed.declared ≡ row.declared →
@@ -492,21 +473,7 @@ module _ (setup : Setup) where
       channel_kinds core device (Switch false) (switch_suits (slice_get setup.devices device) false fits) kinds
   kinds_values core (action.Get device format are) kinds fits = λ used. without_bytes-kinds core device used fits.gives kinds
   kinds_values core (action.Take device) kinds fits = without_value-kinds core device kinds
-  kinds_values core (action.Read slot) kinds fits = tt
-  kinds_values core action.Turn kinds fits = tt
-  kinds_values core action.Enter kinds fits = tt
-  kinds_values core action.Now kinds fits = tt
-  kinds_values core (action.Activate t start repeat priority) kinds fits = tt
-  kinds_values core (action.Continue t start) kinds fits = tt
-  kinds_values core (action.Resume start) kinds fits = tt
-  kinds_values core (action.Suspend t) kinds fits = tt
-  kinds_values core (action.Terminate t) kinds fits = tt
-  kinds_values core (action.Prevent t) kinds fits = tt
-  kinds_values core (action.Trigger device) kinds fits = tt
-  kinds_values core (action.Put device text) kinds fits = tt
-  kinds_values core (action.Send device value) kinds fits = tt
-  kinds_values core action.End kinds fits = tt
-  kinds_values core (action.Trap trap) kinds fits = tt
+  kinds_values core other kinds fits = tt
 
 -- each slot and each input keeps its kind
 pub effect-kinds : (setup : Setup) (core : Core) (t : ℕ) (action : Action) → HasKinds setup core → Fits setup action → HasKinds setup (effect core t action).core

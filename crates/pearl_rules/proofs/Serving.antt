@@ -526,21 +526,7 @@ module _ (Urgent : ℕ → Type 0) (Lawful : Plan → Type 0) (Going : Mode → 
         by_channel (Some (Bytes pending)) = p
         by_channel (Some Outward) = p
         by_channel None = p
-    free_values core (action.Read slot) p = tt
-    free_values core action.Turn p = tt
-    free_values core action.Enter p = tt
-    free_values core action.Now p = tt
-    free_values core (action.Activate t start repeat priority) p = tt
-    free_values core (action.Continue t start) p = tt
-    free_values core (action.Resume start) p = tt
-    free_values core (action.Suspend t) p = tt
-    free_values core (action.Terminate t) p = tt
-    free_values core (action.Prevent t) p = tt
-    free_values core (action.Trigger device) p = tt
-    free_values core (action.Put device text) p = tt
-    free_values core (action.Send device value) p = tt
-    free_values core action.End p = tt
-    free_values core (action.Trap trap) p = tt
+    free_values core other p = tt
 
     -- an action keeps what doesn't speak of values, nor of who acted last
     pub effect-stays : (core : Core) (own : ℕ) (asked : Action) → BringsTo Urgent Lawful P core asked →

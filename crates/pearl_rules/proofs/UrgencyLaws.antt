@@ -88,26 +88,7 @@ urgent_brings : (setup : Setup) (core : Core) (asked : Action) → HasUrgencies 
 urgent_brings setup core (action.Activate t start repeat priority) has fits = (urgent_priority core has t priority fits.3, λ now. tt)
 urgent_brings setup core (action.Continue t start) has fits = λ now. tt
 urgent_brings setup core (action.Resume start) has fits = λ now. tt
-urgent_brings setup core (action.Read slot) has fits = tt
-urgent_brings setup core (action.Write slot value) has fits = tt
-urgent_brings setup core action.Turn has fits = tt
-urgent_brings setup core action.Enter has fits = tt
-urgent_brings setup core action.Now has fits = tt
-urgent_brings setup core (action.Request list) has fits = tt
-urgent_brings setup core (action.Release list) has fits = tt
-urgent_brings setup core (action.Try s) has fits = tt
-urgent_brings setup core (action.Suspend t) has fits = tt
-urgent_brings setup core (action.Terminate t) has fits = tt
-urgent_brings setup core (action.Prevent t) has fits = tt
-urgent_brings setup core (action.Enable device) has fits = tt
-urgent_brings setup core (action.Disable device) has fits = tt
-urgent_brings setup core (action.Trigger device) has fits = tt
-urgent_brings setup core (action.Put device text) has fits = tt
-urgent_brings setup core (action.Get device format kinds) has fits = tt
-urgent_brings setup core (action.Take device) has fits = tt
-urgent_brings setup core (action.Send device value) has fits = tt
-urgent_brings setup core action.End has fits = tt
-urgent_brings setup core (action.Trap trap) has fits = tt
+urgent_brings setup core other has fits = tt
 
 -- every action, every millisecond and whatever comes in
 pub effect-urgencies : (setup : Setup) (core : Core) (own : ℕ) (action : Action) → HasUrgencies core → Fits setup action → HasUrgencies (effect core own action).core
@@ -283,26 +264,7 @@ module _ (setup : Setup) where
       (once_starts setup start fits.1) tt
   plans_brings core (action.Resume start) fits = λ now. lawful_planned now start Once
       (once_starts setup start (later_once setup start fits)) tt
-  plans_brings core (action.Read slot) fits = tt
-  plans_brings core (action.Write slot value) fits = tt
-  plans_brings core action.Turn fits = tt
-  plans_brings core action.Enter fits = tt
-  plans_brings core action.Now fits = tt
-  plans_brings core (action.Request list) fits = tt
-  plans_brings core (action.Release list) fits = tt
-  plans_brings core (action.Try s) fits = tt
-  plans_brings core (action.Suspend t) fits = tt
-  plans_brings core (action.Terminate t) fits = tt
-  plans_brings core (action.Prevent t) fits = tt
-  plans_brings core (action.Enable device) fits = tt
-  plans_brings core (action.Disable device) fits = tt
-  plans_brings core (action.Trigger device) fits = tt
-  plans_brings core (action.Put device text) fits = tt
-  plans_brings core (action.Get device format kinds) fits = tt
-  plans_brings core (action.Take device) fits = tt
-  plans_brings core (action.Send device value) fits = tt
-  plans_brings core action.End fits = tt
-  plans_brings core (action.Trap trap) fits = tt
+  plans_brings core other fits = tt
 
   -- at the start there are no plans
   no_plans : (tasks : List TaskEntry) → AllByRecursion (IsPlannedRow setup) (map first_row tasks)
