@@ -5,6 +5,8 @@ mod out_sink;
 mod shelf;
 
 use out_sink::OutSink;
+use pearl_io::Failed;
+use pearl_top::status::Status;
 use pearl_top::top::pearl;
 use shelf::FileShelf;
 use std::process::ExitCode;
@@ -30,7 +32,13 @@ fn main(rt: HostRuntime) -> ExitCode {
         }
     }
     let mut shelf = FileShelf::new(&rt);
-    let mut sink = OutSink::new(&rt);
+    let Ok(mut sink) = OutSink::new(rt.alloc(), &rt) else {
+        return ExitCode::from(NO_MEMORY);
+    };
     let status = pearl(rt.alloc(), words.as_slice(), &mut shelf, &mut sink);
+    let status = match sink.flush() {
+        Ok(()) => status,
+        Err(Failed) => Status::WriteFault,
+    };
     ExitCode::from(status.code())
 }

@@ -1,6 +1,6 @@
 -- What happens leaves a lawful kernel: an action, an interrupt, milliseconds, a clock that is set.
 use Rattle.std.proofs.Common.{◌≡◌, ℕ, ◌+◌, ◌<◌, ◌≤◌, List, Option, Some, None, length, slice_get, slice_set}
-use Rattle.std.proofs.Common.{IfSome, MatchOption, zero, suc, [], ◌∷◌, sym, subst, ◌∙◌, length-set}
+use Rattle.std.proofs.Common.{IfSome, MatchOption, zero, suc, [], ◌∷◌, drop, sym, subst, ◌∙◌, length-set}
 use Rattle.std.specs.List.{AllByRecursion, AllZip}
 use Rattle.pearl_rules.specs.declared.action.Action.{Action}
 use Rattle.pearl_rules.specs.declared.action.Action.TheVariants as action
@@ -22,7 +22,7 @@ use Rattle.pearl_rules.specs.Entries.{IsFitting}
 use Rattle.pearl_rules.proofs.CountLaws.{effect-counts, millisecond-counts, arrived-counts}
 use Rattle.pearl_rules.proofs.EffectLaws.{effect-length, effect-kinds, millisecond-length, millisecond-kinds, arrived-length, arrived-kinds}
 use Rattle.pearl_rules.proofs.UrgencyLaws.{effect-urgencies, millisecond-urgencies, arrived-urgencies, effect-plans, millisecond-plans, arrived-plans}
-use Rattle.pearl_kernel.specs.Kept.{Kept, done, IsReportOf, IsLawful}
+use Rattle.pearl_kernel.specs.Kept.{Kept, done, taken, IsReportOf, IsToldNext, NamesWhatIsThere, IsLawful}
 use Rattle.pearl_rules.specs.Laws.{passed}
 use Rattle.pearl_kernel.specs.Timing.{IsQuiet}
 use Rattle.pearl_kernel.proofs.Passing.{passed-quiet}
@@ -210,6 +210,21 @@ lawful-taken setup k new None taken same lawful = subst (λ (x : Kept). IsLawful
 lawful-taken setup k new (Some e) taken same lawful =
     subst (λ (x : Kept). IsLawful setup x) (sym same)
     (lawful_told setup k new.core.told (subst (λ xs. AllByRecursion (IsReportOf setup) xs) taken lawful.told).1 lawful)
+
+pub lawful-dropped : (setup : Setup) (k : Kept) → IsLawful setup k → IsLawful setup (record k { core = taken k.core })
+lawful-dropped setup k lawful =
+    lawful_told setup k (drop 1 k.core.told) (later k.core.told lawful.told) lawful
+  where
+    later : (told : List (ℕ × Report)) → AllByRecursion (IsReportOf setup) told →
+        AllByRecursion (IsReportOf setup) (drop 1 told)
+    later [] all = tt
+    later (report ∷ told) all = all.1
+
+-- the event that is told next names what is there
+pub names-next : (setup : Setup) (k : Kept) (event : Event) → IsToldNext k.core event → IsLawful setup k →
+    NamesWhatIsThere setup event
+names-next setup k event next lawful =
+    (subst (λ xs. AllByRecursion (IsReportOf setup) xs) next.1 lawful.told).0
 
 -- THE TABLES OF A KERNEL
 

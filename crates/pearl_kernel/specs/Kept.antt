@@ -1,5 +1,5 @@
 -- What contracts see of a kernel, when it is lawful, and what its calls do.
-use Rattle.std.specs.Prelude.{◌≡◌, ℕ, ◌<◌, ◌≤◌, List, Bool, true, false, ◌&&◌, Option, Some, None, length, slice_set, map}
+use Rattle.std.specs.Prelude.{◌≡◌, ℕ, ◌<◌, ◌≤◌, List, ◌∷◌, Bool, true, false, ◌&&◌, Option, Some, None, length, drop, slice_set, map}
 use Rattle.std.specs.Prelude.{replicate}
 use Rattle.std.specs.List.{AllByRecursion}
 use Rattle.pearl_value.specs.WellFormed.{IsValue}
@@ -34,6 +34,14 @@ at_start setup = record { core = opening setup; offers = replicate (length setup
 -- events with the moment at which they happened
 abbrev pub stamped : ℕ → List Event → List (ℕ × Report)
 stamped moment events = map {B = ℕ × Report} (λ event. (moment, Happened event)) events
+
+-- this event is the next that wasn't taken
+abbrev pub IsToldNext : Core → Event → Type 0
+IsToldNext core event = (later : List (ℕ × Report)) × (core.told ≡ (core.moment, Happened event) ∷ later)
+
+-- the next event is taken
+abbrev pub taken : Core → Core
+taken core = record core { told = drop 1 core.told }
 
 -- LAWFUL KERNELS
 

@@ -14,7 +14,7 @@ ghost use Rattle.pearl_rules.specs.Pick.{pick, turned, can_turn as can_turn_in, 
 ghost use Rattle.pearl_rules.specs.Slots.{Fits};
 ghost use Rattle.pearl_rules.specs.Tables.{IsSetup, IsInterrupt};
 ghost use Rattle.pearl_exchange.specs.Offers.{action_of};
-ghost use Rattle.pearl_kernel.specs.Kept.{at_start, offered as offered_of, IsLawful, Marks, NamesWhatIsThere};
+ghost use Rattle.pearl_kernel.specs.Kept.{at_start, offered as offered_of, taken, IsLawful, IsToldNext, Marks, NamesWhatIsThere};
 ghost use Rattle.pearl_kernel.specs.Kept.{is_unsettled as is_unsettled_in, IsFirst, AllSettled};
 ghost use Rattle.pearl_kernel.specs.Eligible.{possible, entry};
 ghost use Rattle.pearl_rules.specs.Laws.{passed};
@@ -263,7 +263,24 @@ impl Kernel {
         self.state.is_told()
     }
 
-    /// The next event that wasn't taken yet.
+    /// The next event that wasn't taken yet. It stays until [`Kernel::drop_event`].
+    pub fn event(&self) -> Option<&Event>
+        ensures next { MatchOption result (self.now.core.told ≡ []) (λ event. IsToldNext self.now.core event.now) }
+        ensures named { (setup : Tables.Setup) → IsLawful setup self.now →
+            IfSome result (λ event. NamesWhatIsThere setup event.now) }
+    {
+        self.state.event()
+    }
+
+    /// The next event is taken, if there is one.
+    pub fn drop_event(&mut self)
+        ensures taken { self.new ≡ record self.old { core = taken self.old.core } }
+        ensures lawful { (setup : Tables.Setup) → IsLawful setup self.old → IsLawful setup self.new }
+    {
+        self.state.drop_event();
+    }
+
+    /// Takes the next event that wasn't taken yet.
     pub fn next_event(&mut self) -> Option<Event>
         ensures rest { MatchOption result ((self.old.core.told ≡ []) × (self.new ≡ self.old))
             (λ e. self.old.core.told ≡ (self.old.core.moment, Happened e) ∷ self.new.core.told) }

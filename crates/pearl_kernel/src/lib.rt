@@ -11,6 +11,7 @@
 mod bid;
 mod changes;
 mod channel;
+mod happened;
 mod inputs;
 mod kernel;
 mod mirror;

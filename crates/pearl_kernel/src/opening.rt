@@ -6,7 +6,7 @@ ghost use Rattle.pearl_kernel.specs.Kept.{stamped};
 
 use crate::bid::Bid;
 use crate::channel::Channel;
-use circular_buffer::HeapCircularBuffer;
+use crate::happened::Told;
 use pearl_format::item::Item;
 use pearl_rules::event::Event;
 use pearl_rules::row::{Mode, TaskRow};
@@ -104,16 +104,14 @@ pub fn copied_formats(
 }
 
 /// Tells the starts of the MAIN tasks.
-pub fn tell_starts(tasks: &[TaskEntry], events: &mut HeapCircularBuffer<Event>)
+pub fn tell_starts(tasks: &[TaskEntry], events: &mut Told)
     requires few { length tasks.now ≤ 200 }
-    requires room { events.old.capacity ≡ 200 }
-    requires empty { events.old.items ≡ [] }
-    ensures room { events.new.capacity ≡ 200 }
-    ensures told { stamped 0 events.new.items ≡ first_events 0 tasks.now }
+    requires empty { events.old ≡ [] }
+    ensures { stamped 0 events.new ≡ first_events 0 tasks.now }
 {
     for (task, entry) in tasks.iter().enumerate() {
         if entry.main {
-            events.push_back(Event::Start {
+            events.note(Event::Start {
                 task: task as u32,
                 priority: entry.priority,
             });

@@ -132,8 +132,7 @@ impl State {
         requires { length self.old.core.told < 200 }
         ensures { self.new ≡ record self.old { core = noted self.old.core (event.Out device text.now) } }
     {
-        let text = text.clone().unwrap();
-        self.note(Event::Out { device, text });
+        self.note_text(device, text);
     }
 
     // A value is sent to an output.

@@ -4,6 +4,7 @@ ghost use Rattle.std.specs.Prelude.{◌≡◌, ◌≢◌, ◌<◌, ◌≤◌, []
 ghost use Rattle.std.specs.Prelude.{All, IsTrue, IfOk, MatchOption, length, nat_le, nat_lt, slice_get, slice_set, if◌then◌else◌};
 ghost use Rattle.std.specs.List.{AllByRecursion};
 ghost use Rattle.pearl_rules.specs.declared.action.Action as Acting;
+ghost use Rattle.pearl_rules.specs.declared.event.Event.TheVariants.{Out};
 ghost use Rattle.pearl_timer.specs.Next.{IsNext, NoneIsNext};
 ghost use Rattle.pearl_timer.specs.Timetable.{IsDue};
 ghost use Rattle.pearl_rules.specs.Core.{Happened, note as noted, is_active as is_active_in, mode_of, row_of, value_at};
@@ -21,7 +22,7 @@ ghost use Rattle.pearl_value.specs.Kinds.{IsKind};
 ghost use Rattle.pearl_exchange.specs.Offers.{action_of};
 ghost use Rattle.pearl_kernel.specs.Channels.{HasSwitch, HasBytes, HasValuesFor, taken_in_of};
 ghost use Rattle.pearl_scan.specs.Answers.{told};
-ghost use Rattle.pearl_kernel.specs.Kept.{at_start, offered as offered_of};
+ghost use Rattle.pearl_kernel.specs.Kept.{at_start, offered as offered_of, taken, IsToldNext};
 ghost use Rattle.pearl_kernel.specs.Kept.{is_silent as is_silent_in, is_unsettled as is_unsettled_in};
 ghost use Rattle.pearl_kernel.specs.Names.{Names};
 ghost use Rattle.pearl_kernel.specs.Timing.{timetable};
@@ -35,8 +36,8 @@ use crate::mirror::keep_row;
 use crate::opening::{
     copied_formats, first_channels, first_rows, first_values, no_offers, tell_starts,
 };
+use crate::happened::Told;
 use arrayvec::ArrayVec;
-use circular_buffer::HeapCircularBuffer;
 use pearl_cells::put::put_copy;
 use pearl_exchange::offer::{Offer, What};
 use pearl_format::item::Item;
@@ -66,8 +67,7 @@ pub struct State {
     last: Option<usize>,
     moment: u64,
     clock: u32,
-    // What was told and not taken yet.
-    events: HeapCircularBuffer<Event>,
+    events: Told,
 }
 
 impl Model for State {
@@ -87,12 +87,12 @@ impl Model for State {
         channels = s.channels.items;
         formats = s.formats.items;
         last = s.last;
-        told = stamped s.moment s.events.items;
+        told = stamped s.moment s.events;
       };
       offers = s.offers.items;
     } };
 
-    ghost invariant = { λ s. (s.events.capacity ≡ 200) × (s.timer ≡ timetable s.rows.items) };
+    ghost invariant = { λ s. s.timer ≡ timetable s.rows.items };
 }
 
 impl State {
@@ -110,7 +110,7 @@ impl State {
         let semas = Semas::new(alloc, setup.semaphores.as_slice(), tasks.len())?;
         let channels = first_channels(alloc, setup.devices.as_slice())?;
         let formats = copied_formats(alloc, setup.formats.as_slice())?;
-        let mut events = HeapCircularBuffer::with_capacity(alloc, 200)?;
+        let mut events = Told::new(alloc)?;
         tell_starts(tasks, &mut events);
         Ok(State {
             rows,
@@ -220,7 +220,15 @@ impl State {
         requires { length self.old.core.told < 200 }
         ensures { self.new ≡ record self.old { core = noted self.old.core event } }
     {
-        self.events.push_back(event);
+        self.events.note(event);
+    }
+
+    /// One more event: a text was written to a terminal.
+    pub fn note_text(&mut self, device: u32, text: &ArrayVec<u8, 1024>)
+        requires { length self.old.core.told < 200 }
+        ensures { self.new ≡ record self.old { core = noted self.old.core (Out device text.now) } }
+    {
+        self.events.note_text(device, text);
     }
 
     pub fn set_last(&mut self, task: u32)
@@ -372,12 +380,26 @@ impl State {
     }
 
     /// The next event that wasn't taken.
+    pub fn event(&self) -> Option<&Event>
+        ensures { MatchOption result (self.now.core.told ≡ []) (λ event. IsToldNext self.now.core event.now) }
+    {
+        self.events.first()
+    }
+
+    /// The next event is taken, if there is one.
+    pub fn drop_event(&mut self)
+        ensures { self.new ≡ record self.old { core = taken self.old.core } }
+    {
+        self.events.drop_first();
+    }
+
+    /// Takes the next event.
     pub fn next_event(&mut self) -> Option<Event>
         ensures rest { MatchOption result ((self.old.core.told ≡ []) × (self.new ≡ self.old))
             (λ e. self.old.core.told ≡ (self.old.core.moment, Happened e) ∷ self.new.core.told) }
         ensures same { self.new ≡ record self.old { core = record self.old.core { told = self.new.core.told } } }
     {
-        self.events.pop_front()
+        self.events.take_first()
     }
 
     /// The moment.

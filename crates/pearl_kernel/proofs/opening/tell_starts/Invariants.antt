@@ -5,7 +5,6 @@ use Rattle.pearl_kernel.proofs.opening.tell_starts.Given as goal
 
 abbrev pub invariant-loop-task : goal.invariant-loop-task
 invariant-loop-task l = record {
-  room : l.events.capacity ≡ 200;
-  few : length l.events.items ≤ l.task;
-  told : stamped 0 l.events.items ++ first_events l.task (drop l.task l.tasks) ≡ first_events 0 l.tasks;
+  few : length l.events ≤ l.task;
+  told : stamped 0 l.events ++ first_events l.task (drop l.task l.tasks) ≡ first_events 0 l.tasks;
 }

@@ -7,5 +7,5 @@ pub returns : goal.returns
 returns c =
     let s = c.self.inside in
     let none = subst (λ (k : Kept). k.core.told ≡ []) (sym c.self.view_is) c.requires in
-    let same = stamped-none s.moment c.args.moment s.events.items none ∙ sym none in
+    let same = stamped-none s.moment c.args.moment s.events none ∙ sym none in
     grind (arith, same, c.self.view_is)
