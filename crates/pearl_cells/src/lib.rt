@@ -1,5 +1,6 @@
-// Cells that are written where they lie, and the operators on two numbers.
+// Cells that are written where they lie, and operators whose results are small in memory: on two numbers, and on two texts.
 #![tactic(auto)]
 
 pub mod numbers;
 pub mod put;
+pub mod texts;

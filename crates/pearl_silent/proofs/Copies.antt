@@ -3,6 +3,7 @@ use Rattle.std.proofs.Common.{◌≡◌, ◌≢◌, ℕ, suc, List, [], Option, 
 use Rattle.std.specs.Prelude.{IsSome, option_map}
 use Rattle.std.proofs.lemmas.Option.{same_Some}
 use Rattle.pearl_value.specs.declared.cell.Cell.{Cell}
+use Rattle.pearl_cells.specs.Filled.{filled}
 use Rattle.pearl_stack.specs.Frames.{Frame, Stack, cell_at, top_operands, pushed, popped, without, with_cell}
 use Rattle.pearl_silent.specs.Steps.{GoesOn, Does, next_of, top_cells, with_top_cell, made_on, stored_on}
 use Rattle.pearl_silent.proofs.Made.{silent_does, made_silent}
@@ -68,3 +69,23 @@ pub stored_does : (old new left now : Stack) (c n : ℕ) → Stored old new c �
 stored_does old new left now c n d some e is =
     silent_does (stored_on c n old.frames) old now _ (stored_silent old.frames c n d.x d.there some)
     (is ∙ (ap (λ (s : Stack). record s { frames = next_of s.frames }) e ∙ ap (λ (s : Stack). record s { frames = next_of (without n s.frames) }) d.is))
+
+-- the top operand was filled with blanks
+pub record FilledTop (old new : Stack) (len : ℕ) : Type 0 where
+  pub x : Cell
+  pub there : slice_get (top_operands old.frames) 0 ≡ Some x
+  pub is : new ≡ record old { frames = pushed (filled len x) (popped old.frames) }
+
+pub filled_top : (old new : Stack) (len : ℕ) →
+    option_map (λ x. record old { frames = pushed (filled len x) (popped old.frames) }) (slice_get (top_operands old.frames) 0) ≡ Some new → FilledTop old new len
+filled_top old new len go =
+    let some = some_of (slice_get (top_operands old.frames) 0) (λ x. record old { frames = pushed (filled len x) (popped old.frames) }) new go in
+    record { x = some.0; there = some.1; is = sym some.2 }
+
+pub filled_does : (old new now : Stack) (len : ℕ) → old.frames ≢ [] → FilledTop old new len → now ≡ record new { frames = next_of new.frames } →
+    (x : Cell) → slice_get (top_operands old.frames) 0 ≡ Some x → Does (made_on 1 (Ok (filled len x)) old.frames) old now GoesOn
+filled_does old new now len some d e x there =
+    let same : d.x ≡ x = same_Some d.x x (sym d.there ∙ there) in
+    let is : now ≡ record old { frames = next_of (pushed (filled len x) (popped old.frames)) } =
+    e ∙ (ap (λ (s : Stack). record s { frames = next_of s.frames }) d.is ∙ ap (λ x. record old { frames = next_of (pushed (filled len x) (popped old.frames)) }) same) in
+    silent_does (made_on 1 (Ok (filled len x)) old.frames) old now _ (made_silent old.frames 1 (filled len x) some) is

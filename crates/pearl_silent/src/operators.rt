@@ -1,19 +1,22 @@
 // Operators and conversions.
 
-ghost use Rattle.std.specs.Prelude.{◌≡◌, IfSome};
+ghost use Rattle.std.specs.Prelude.{◌≡◌, IfSome, Ok};
 ghost use Rattle.std.specs.List.{AllByRecursion};
 ghost use Rattle.pearl_value.specs.Kinds.{IsKind};
 ghost use Rattle.pearl_value.specs.WellFormed.{IsValue};
 ghost use Rattle.pearl_value.specs.Applied.{applied2};
-ghost use Rattle.pearl_value.specs.Conversions.{converted};
+ghost use Rattle.pearl_value.specs.Cells.{kind_of};
+ghost use Rattle.pearl_value.specs.Conversions.{SuitsKind, converted};
 ghost use Rattle.pearl_cells.specs.Made.{result_of};
+ghost use Rattle.pearl_cells.specs.Filled.{filled};
 ghost use Rattle.pearl_stack.specs.Frames.{top_operands};
 ghost use Rattle.pearl_instructions.specs.Operators.{monadic as monadic_row, dyadic as dyadic_row, convert as convert_row};
 ghost use Rattle.pearl_silent.specs.Steps.{on_top, Does, Applies, HasNext, IsFormed, told};
 
-use crate::outcomes::{leave, leave_made};
+use crate::outcomes::{leave, leave_filled, leave_made};
 use crate::stepped::Did;
 use pearl_cells::numbers::{Made, in_length, of_two};
+use pearl_cells::texts::of_texts;
 use pearl_stack::stack::Loaded;
 use pearl_value::apply::{apply1, apply2};
 use pearl_value::cell::Cell;
@@ -32,9 +35,9 @@ pub fn monadic(stack: &mut Loaded, op: Monad) -> Did
     leave(stack, 1, made)
 }
 
-// What the operator makes of two numbers, where the values are numbers.
+// What the operator makes of two numbers, or a comparison of two texts.
 #[inline]
-fn of_numbers(op: Dyad, x: &Cell, y: &Cell) -> Option<Made>
+fn small_of(op: Dyad, x: &Cell, y: &Cell) -> Option<Made>
     requires left { IsValue x.now }
     requires right { IsValue y.now }
     ensures { IfSome result (λ made. result_of made ≡ applied2 op x.now y.now) }
@@ -47,6 +50,7 @@ fn of_numbers(op: Dyad, x: &Cell, y: &Cell) -> Option<Made>
                 value: b,
             },
         ) => Some(of_two(op, *len, *a, *other, *b)),
+        (Cell::Chars(text), Cell::Chars(other)) => of_texts(op, text, other),
         _ => None,
     }
 }
@@ -60,7 +64,7 @@ pub fn dyadic(stack: &mut Loaded, op: Dyad) -> Did
 {
     let right = stack.top(0);
     let left = stack.top(1);
-    match of_numbers(op, left, right) {
+    match small_of(op, left, right) {
         Some(made) => leave_made(stack, 2, made),
         None => {
             let made = apply2(op, left, right);
@@ -81,6 +85,18 @@ fn number_in(x: &Cell, to: Kind) -> Option<Made>
     }
 }
 
+// The length up to which a CHAR is filled in this kind, where the kind is CHAR too.
+#[inline]
+fn length_in(x: &Cell, to: Kind) -> Option<u8>
+    requires { SuitsKind (kind_of x.now) to }
+    ensures { IfSome result (λ len. converted x.now to ≡ Ok (filled len x.now)) }
+{
+    match (x, to) {
+        (Cell::Chars(_), Kind::Chars(room)) => Some(room),
+        _ => None,
+    }
+}
+
 // Conv.
 pub fn converting(stack: &mut Loaded, to: Kind) -> Did
     requires next { HasNext stack.old.frames }
@@ -92,9 +108,12 @@ pub fn converting(stack: &mut Loaded, to: Kind) -> Did
     let x = stack.top(0);
     match number_in(x, to) {
         Some(made) => leave_made(stack, 1, made),
-        None => {
-            let made = convert(x, to);
-            leave(stack, 1, made)
-        }
+        None => match length_in(x, to) {
+            Some(len) => leave_filled(stack, len),
+            None => {
+                let made = convert(x, to);
+                leave(stack, 1, made)
+            }
+        },
     }
 }

@@ -3,6 +3,7 @@
 ghost use Rattle.std.specs.Prelude.{◌≡◌, ◌≤◌, ◌<◌, IsSome, Some, Ok, length, slice_get, if◌then◌else◌};
 ghost use Rattle.pearl_value.specs.declared.cell.Cell.{Cell};
 ghost use Rattle.pearl_cells.specs.Made.{result_of};
+ghost use Rattle.pearl_cells.specs.Filled.{filled};
 ghost use Rattle.pearl_stack.specs.Frames.{top_operands, without, used};
 ghost use Rattle.pearl_silent.specs.Steps.{HasNext, Applies, Does, top_cells, made_on, left_on, stored_on, told};
 
@@ -60,7 +61,7 @@ pub fn leave_truth(stack: &mut Loaded, taken: u32, holds: bool) -> Did
     Did::Silent
 }
 
-// What was made of numbers in the place of so many operands, or the trap.
+// What was made in the place of so many operands, where it is small in memory, or the trap.
 #[inline]
 pub fn leave_made(stack: &mut Loaded, taken: u32, made: Made) -> Did
     requires next { HasNext stack.old.frames }
@@ -101,6 +102,18 @@ pub fn leave_cell(stack: &mut Loaded, taken: u32, c: u64) -> Did
     let top = stack.frames() - 1;
     stack.drop_top(taken);
     stack.push_cell(top, c as u32);
+    stack.go_on();
+    Did::Silent
+}
+
+// The top operand, filled with blanks up to so many bytes where it is a CHAR.
+#[inline]
+pub fn leave_filled(stack: &mut Loaded, len: u8) -> Did
+    requires next { HasNext stack.old.frames }
+    requires there { 0 < length (top_operands stack.old.frames) }
+    ensures { (x : Cell) → slice_get (top_operands stack.old.frames) 0 ≡ Some x → Does (made_on 1 (Ok (filled len x)) stack.old.frames) stack.old stack.new (told result) }
+{
+    stack.fill_top(len);
     stack.go_on();
     Did::Silent
 }

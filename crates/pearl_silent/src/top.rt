@@ -1,8 +1,8 @@
 // The top frame of a stack.
 
 ghost use Rattle.std.specs.Prelude.{◌≡◌, ◌<◌, ◌≤◌, IsSome, Some, length, slice_get};
-ghost use Rattle.pearl_stack.specs.Frames.{top_operands, without};
-ghost use Rattle.pearl_silent.specs.Steps.{IsHere, Applies, Does, top_cells, with_top_cell, made_on, told};
+ghost use Rattle.pearl_stack.specs.Frames.{top_operands};
+ghost use Rattle.pearl_silent.specs.Steps.{IsHere, Applies, Does, top_cells, made_on, told};
 
 use crate::outcomes::leave;
 use crate::own::own;
@@ -27,22 +27,6 @@ pub fn own_cell<'a>(stack: &'a Loaded, here: &Frame, c: u64) -> &'a Cell
     ensures { slice_get (top_cells stack.now.frames) c ≡ Some result.now }
 {
     own(stack, c)
-}
-
-/// Writes cell `c` of the top frame.
-pub fn set_own_cell(stack: &mut Loaded, c: u32, x: Cell)
-    requires { IsSome (slice_get (top_cells stack.old.frames) c) }
-    ensures { stack.new ≡ record stack.old { frames = with_top_cell c x stack.old.frames } }
-{
-    stack.set_cell(stack.frames() - 1, c, x);
-}
-
-/// Takes so many operands off the top frame.
-pub fn drop_top(stack: &mut Loaded, count: u32)
-    requires { count ≤ length (top_operands stack.old.frames) }
-    ensures { stack.new ≡ record stack.old { frames = without count stack.old.frames } }
-{
-    stack.drop_top(count);
 }
 
 /// Puts what was made in the place of so many operands and goes on, or offers the trap.

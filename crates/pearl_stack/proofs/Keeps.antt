@@ -5,7 +5,7 @@ use Rattle.std.proofs.lemmas.List.{set_split, drop_all, take_more_set}
 use Rattle.std.proofs.lemmas.Option.{get_or_from_slice_get}
 use Rattle.pearl_value.specs.declared.cell.Cell.{Cell}
 use Rattle.pearl_stack.specs.declared.stack.Head.{Head}
-use Rattle.pearl_stack.specs.Frames.{Frame, Stack, cell_at, top_operands, used, pushed, without, with_cell}
+use Rattle.pearl_stack.specs.Frames.{Frame, Stack, cell_at, top_operands, used, pushed, popped, without, with_cell}
 use Rattle.pearl_stack.specs.Held.{Held}
 use Rattle.pearl_stack.specs.Memory.{frames_of, Divides}
 use Rattle.pearl_stack.proofs.Holds.{Holds, CellLies, cell_lies, filled, pushes, stack_with, cuts, operand_above, leaves, first_within}
@@ -170,6 +170,18 @@ top_shown heads capacity values room most s view kept operand last end x new e =
     same_frames heads values new room most s (pushed x (without 1 s.frames)) view
     (ap (λ (v : Held). frames_of (reverse heads) v.items) e
     ∙ (ap (λ k. frames_of (reverse heads) (set values.items k x)) end ∙ (ap (frames_of (reverse heads)) (set_end values.items x (omega (arith, cut.within))) ∙ now.shows)))
+
+-- a top operand of which something else is made
+pub changed_shown : (heads : List Head) (capacity : ℕ) (values : Held) (room most : ℕ) (s : Stack) → shown heads values room most ≡ s → Kept heads capacity values room most →
+    0 < length (top_operands s.frames) → (last : ℕ) → last ≡ length values.items - 1 → (change : Cell → Cell) (new : Held) →
+    option_map (λ x. held (set values.items last (change x)) values.room) (slice_get values.items last) ≡ Some new →
+    option_map (λ x. record s { frames = pushed (change x) (popped s.frames) }) (slice_get (top_operands s.frames) 0) ≡ Some (shown heads new room most)
+changed_shown heads capacity values room most s view kept operand last end change new e =
+    let is = some_of (slice_get values.items last) (λ x. held (set values.items last (change x)) values.room) new e in
+    let x : Cell = is.0 in
+    let read = top_read heads capacity values room most s view kept operand last end x is.1 in
+    ap (option_map (λ x. record s { frames = pushed (change x) (popped s.frames) })) read
+    ∙ ap Some (sym (top_shown heads capacity values room most s view kept operand last end (change x) new (sym is.2)))
 
 -- the top frame is left, but for its top operand
 

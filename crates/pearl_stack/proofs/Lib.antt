@@ -1,4 +1,5 @@
 pub mod Written
+pub mod Halves
 pub mod Heads
 pub mod Shown
 pub mod Spots

@@ -1,9 +1,9 @@
 -- What a write makes of a row of values, of which the first ones are in use.
-use Rattle.std.proofs.Common.{◌≡◌, ℕ, ◌+◌, ◌<◌, ◌≤◌, List, [], ◌∷◌, ◌++◌, Option, Some, None, length, take, set, slice_get, refl, sym, ap, ◌∙◌, subst, arith, length-set, length-take-le, get_or-take}
+use Rattle.std.proofs.Common.{◌≡◌, ℕ, ◌+◌, ◌<◌, ◌≤◌, List, [], ◌∷◌, ◌++◌, Option, Some, None, length, take, get_or, set, slice_get, refl, sym, ap, ◌∙◌, subst, arith, length-set, length-take-le, get_or-take}
 use Rattle.std.specs.Prelude.{option_map}
 use Rattle.std.proofs.Math.Seq.{take-set-lt}
 use Rattle.std.proofs.lemmas.List.{take_more_set}
-use Rattle.std.proofs.lemmas.Option.{slice_get-get_or}
+use Rattle.std.proofs.lemmas.Option.{slice_get-get_or, slice_get_read}
 use Rattle.pearl_value.specs.declared.cell.Cell.{Cell}
 use Rattle.pearl_stack.specs.Held.{Held}
 
@@ -54,3 +54,15 @@ push_again_shown xs new used from h view within less there e =
     (λ less. ap (λ ys. held ys (length xs)) (sym (take_more_set xs used x (omega (arith, less, long))))
     ∙ ap (held (take (used + 1) (set xs used x))) (sym (length-set xs used x))) less in
     ap (option_map (λ x. held (h.items ++ x ∷ []) h.room)) got ∙ ap Some (pushed ∙ ap (λ ys. held (take (used + 1) ys) (length ys)) is.2)
+
+-- one of the values in use, of which something else is made
+pub changed_shown : (xs : List Cell) (used i : ℕ) (change : Cell → Cell) (x y : Cell) (h : Held) → held (take used xs) (length xs) ≡ h → used ≤ length xs → i < length h.items →
+    x ≡ get_or xs i x → y ≡ change x →
+    option_map (λ x. held (set h.items i (change x)) h.room) (slice_get h.items i) ≡ Some (held (take used (set xs i y)) (length (set xs i y)))
+changed_shown xs used i change x y h view within less read is =
+    let long : length (take used xs) ≡ used = length-take-le used xs within in
+    let got : slice_get h.items i ≡ Some x =
+    subst (λ (h : Held). i < length h.items → slice_get h.items i ≡ Some x) view
+    (λ less. get_within xs used i x within less ∙ slice_get_read xs (length xs) i x refl (omega (arith, less, long, within)) read) less in
+    ap (option_map (λ x. held (set h.items i (change x)) h.room)) got
+    ∙ ap Some (ap (λ y. held (set h.items i y) h.room) (sym is) ∙ sym (set_shown xs used i y h view within less))

@@ -4,6 +4,7 @@ ghost use Rattle.std.specs.Prelude.{◌≡◌, ◌≢◌, ℕ, ◌+◌, ◌-◌,
 ghost use Rattle.pearl_value.specs.Blanks.{blank_of};
 ghost use Rattle.pearl_value.specs.Kinds.{IsKind};
 ghost use Rattle.pearl_value.specs.declared.cell.Cell.{Cell};
+ghost use Rattle.pearl_cells.specs.Filled.{filled};
 ghost use Rattle.pearl_stack.specs.Frames.{Stack, frame_at, cell_at, operand_at, top_operands, place_of, used, sizes, unset, pushed, popped, without, moved, with_cell, entered};
 ghost use Rattle.pearl_stack.specs.Memory.{frames_of, first_or, Divides};
 
@@ -211,6 +212,16 @@ impl Loaded {
     {
         let last = self.values.len() - 1;
         self.values.set_bits(last, len, value);
+    }
+
+    /// Fills the top operand, where it is a CHAR, with blanks on the right, up to so many bytes.
+    #[inline]
+    pub fn fill_top(&mut self, len: u8)
+        requires { 0 < length (top_operands self.old.frames) }
+        ensures { option_map (λ x. record self.old { frames = pushed (filled len x) (popped self.old.frames) }) (slice_get (top_operands self.old.frames) 0) ≡ Some self.new }
+    {
+        let last = self.values.len() - 1;
+        self.values.fill_chars(last, len);
     }
 
     /// The number of frames.

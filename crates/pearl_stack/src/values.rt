@@ -4,9 +4,10 @@ ghost use Rattle.std.specs.Prelude.{◌≡◌, ◌+◌, ◌-◌, ◌≤◌, ◌<
 ghost use Rattle.pearl_value.specs.declared.cell.Cell.{Cell};
 ghost use Rattle.pearl_value.specs.Blanks.{blank_of};
 ghost use Rattle.pearl_value.specs.Kinds.{IsKind};
+ghost use Rattle.pearl_cells.specs.Filled.{filled};
 ghost use Rattle.pearl_stack.specs.Held.{Held};
 
-use pearl_cells::put::{put_bits, put_blank, put_copy, put_fixed};
+use pearl_cells::put::{fill_chars, put_bits, put_blank, put_copy, put_fixed};
 use pearl_value::cell::{Cell, copy_of};
 use pearl_value::kind::Kind;
 use std::alloc::{AllocError as NoMemory, Global};
@@ -138,6 +139,15 @@ impl Values {
         put_blank(&mut self.cells[i], kind);
     }
 
+    /// Fills the value at a number, where it is a CHAR, with blanks on the right, up to so many bytes.
+    #[inline]
+    pub fn fill_chars(&mut self, i: usize, len: u8)
+        requires { i < length self.old.items }
+        ensures { option_map (λ x. record self.old { items = slice_set self.old.items i (filled len x) }) (slice_get self.old.items i) ≡ Some self.new }
+    {
+        fill_chars(&mut self.cells[i], len);
+    }
+
     /// Writes a copy of the value at a number.
     #[inline]
     pub fn set_again(&mut self, i: usize, from: usize)
@@ -176,18 +186,11 @@ fn copy_at(cells: &mut Vec<Cell>, from: usize, to: usize)
     requires to { to < length cells.old.items }
     ensures { option_map (λ x. slice_set cells.old.items to x) (slice_get cells.old.items from) ≡ Some cells.new.items }
 {
-    match &cells[from] {
-        Cell::Fixed { len, value } => {
-            let (len, value) = (*len, *value);
-            put_fixed(&mut cells[to], len, value);
-        }
-        Cell::Bits { len, value } => {
-            let (len, value) = (*len, *value);
-            put_bits(&mut cells[to], len, value);
-        }
-        other => {
-            let x = copy_of(other);
-            cells[to] = x;
-        }
+    if from < to {
+        let (low, high) = cells.split_at_mut(to);
+        put_copy(&mut high[0], &low[from]);
+    } else if to < from {
+        let (low, high) = cells.split_at_mut(from);
+        put_copy(&mut low[to], &high[0]);
     }
 }

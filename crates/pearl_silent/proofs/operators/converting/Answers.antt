@@ -27,6 +27,18 @@ returns-in-Some c =
     same_does _ _ c.args.stack.now c.leave_made.new.stack (told c.leave_made.result)
     (at.is ∙ ap (λ m. made_on 1 m c.args.stack.now.frames) (sym c.in-Some.ensures)) c.leave_made.ensures
 
+pub length_in-requires : goal.length_in-requires
+length_in-requires c = (convert_applies c.args.to c.args.stack.now.frames c.args.stack.now.room c.top-x.result.now c.requires.ready c.requires.formed c.top-x.ensures).suit
+
+pub leave_filled-requires-clause-there : goal.leave_filled-requires-clause-there
+leave_filled-requires-clause-there c = convert_there c.args.to c.args.stack.now.frames c.args.stack.now.room c.requires.ready
+
+pub returns-in-Some-length_in : goal.returns-in-Some-length_in
+returns-in-Some-length_in c =
+    let at = convert_applies c.args.to c.args.stack.now.frames c.args.stack.now.room c.top-x.result.now c.requires.ready c.requires.formed c.top-x.ensures in
+    same_does _ _ c.args.stack.now c.leave_filled.new.stack (told c.leave_filled.result)
+    (at.is ∙ ap (λ m. made_on 1 m c.args.stack.now.frames) c.in-Some-length_in.ensures) (c.leave_filled.ensures c.top-x.result.now c.top-x.ensures)
+
 pub leave-requires-clause-there : goal.leave-requires-clause-there
 leave-requires-clause-there c = let there = convert_there c.args.to c.args.stack.now.frames c.args.stack.now.room c.requires.ready in omega (arith, there)
 
@@ -35,8 +47,8 @@ leave-requires-clause-ready c =
     let at = convert_applies c.args.to c.args.stack.now.frames c.args.stack.now.room c.top-x.result.now c.requires.ready c.requires.formed c.top-x.ensures in
     same_applies _ _ c.args.stack.now.room (at.is ∙ ap (λ m. made_on 1 m c.args.stack.now.frames) (sym c.convert-made.ensures.value)) c.requires.ready
 
-pub returns-in-None : goal.returns-in-None
-returns-in-None c =
+pub returns-in-None-length_in : goal.returns-in-None-length_in
+returns-in-None-length_in c =
     let at = convert_applies c.args.to c.args.stack.now.frames c.args.stack.now.room c.top-x.result.now c.requires.ready c.requires.formed c.top-x.ensures in
     same_does _ _ c.args.stack.now c.leave.new.stack (told c.leave.result)
     (at.is ∙ ap (λ m. made_on 1 m c.args.stack.now.frames) (sym c.convert-made.ensures.value)) c.leave.ensures

@@ -10,11 +10,11 @@ top-right-requires c = let there = dyadic_there c.args.op c.args.stack.now.frame
 pub top-left-requires : goal.top-left-requires
 top-left-requires c = dyadic_there c.args.op c.args.stack.now.frames c.args.stack.now.room c.requires.ready
 
-pub of_numbers-requires-clause-left : goal.of_numbers-requires-clause-left
-of_numbers-requires-clause-left c = (dyadic_applies c.args.op c.args.stack.now.frames c.args.stack.now.room c.top-left.result.now c.top-right.result.now c.requires.ready c.requires.formed c.top-right.ensures c.top-left.ensures).left
+pub small_of-requires-clause-left : goal.small_of-requires-clause-left
+small_of-requires-clause-left c = (dyadic_applies c.args.op c.args.stack.now.frames c.args.stack.now.room c.top-left.result.now c.top-right.result.now c.requires.ready c.requires.formed c.top-right.ensures c.top-left.ensures).left
 
-pub of_numbers-requires-clause-right : goal.of_numbers-requires-clause-right
-of_numbers-requires-clause-right c = (dyadic_applies c.args.op c.args.stack.now.frames c.args.stack.now.room c.top-left.result.now c.top-right.result.now c.requires.ready c.requires.formed c.top-right.ensures c.top-left.ensures).right
+pub small_of-requires-clause-right : goal.small_of-requires-clause-right
+small_of-requires-clause-right c = (dyadic_applies c.args.op c.args.stack.now.frames c.args.stack.now.room c.top-left.result.now c.top-right.result.now c.requires.ready c.requires.formed c.top-right.ensures c.top-left.ensures).right
 
 pub apply2-made-requires-clause-left : goal.apply2-made-requires-clause-left
 apply2-made-requires-clause-left c = (dyadic_applies c.args.op c.args.stack.now.frames c.args.stack.now.room c.top-left.result.now c.top-right.result.now c.requires.ready c.requires.formed c.top-right.ensures c.top-left.ensures).left
