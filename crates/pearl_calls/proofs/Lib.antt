@@ -1,12 +1,13 @@
-pub mod Truths
-pub mod Ways
-pub mod Adding
-pub mod Turns
-pub mod Following
-pub mod Waiting
-pub mod Search
-pub mod Closing
-pub mod Weighing
-pub mod Rows
-pub mod Examples
-pub mod Least
+mod Truths
+mod Ways
+mod Adding
+mod Turns
+mod Following
+mod Waiting
+mod Search
+mod Closing
+mod Weighing
+mod Rows
+mod Examples
+mod Least
+pub mod Offered

@@ -1,1 +1,1 @@
-pub mod TextOrder
+mod TextOrder

@@ -6,10 +6,10 @@ use Rattle.pearl_tree.specs.declared.fault.RuleFault.{RuleFault}
 use Rattle.pearl_names.specs.declared.table.SenseTable.{SenseTable}
 use Rattle.pearl_names.specs.Holding.{HoldsTable}
 use Rattle.pearl_names.specs.Tables.{Table}
-use Rattle.pearl_names.proofs.Lists.{one_taken}
+use Rattle.pearl_names.proofs.Offered.{one_taken}
 use Rattle.pearl_scope.specs.declared.places.Place.{Place}
 use Rattle.pearl_scope.specs.Placed.{placed_at, placed_in}
-use Rattle.pearl_scope.proofs.Placing.{placed_in-append}
+use Rattle.pearl_scope.proofs.Offered.{placed_in-append}
 
 -- what a loop has added for these, of each table of names that the one in memory holds
 abbrev pub Adds : {X : Type 0} → SenseTable → (old new : List RuleFault) → (Table → X → List RuleFault) → List X → Type 0

@@ -4,7 +4,7 @@ use Rattle.std.proofs.lemmas.List.{map-append}
 use Rattle.pearl_tree.specs.declared.expression.Expr.{Expr}
 use Rattle.pearl_tree.specs.ShownExpressions.{MoreExprs, shown_expr, shown_expr_list}
 use Rattle.pearl_check.specs.declared.asked.Asked.{Asked as CodeAsked}
-use Rattle.pearl_names.proofs.Lists.{one_taken}
+use Rattle.pearl_names.proofs.Offered.{one_taken}
 use Rattle.pearl_check.specs.Asked.{as_exprs, shown_asked, asked_in}
 
 pub asked_in-nil : asked_in [] ≡ []

@@ -4,8 +4,7 @@ use Rattle.std.proofs.lemmas.Bool.Decides.{nat_tests}
 use Rattle.std.proofs.lemmas.List.{length-map}
 use Rattle.std.specs.List.{list_any, cons_option}
 use Rattle.std.proofs.lemmas.Option.{slice_get-map}
-use Rattle.pearl_calls.proofs.Truths.{by_case}
-use Rattle.pearl_calls.proofs.Ways.{cycles, inside}
+use Rattle.pearl_calls.proofs.Offered.{by_case, cycles, inside}
 use Rattle.pearl_check.proofs.AskedLists.{map-map}
 use Rattle.pearl_tree.specs.declared.fault.RuleFault.{RuleFault}
 use Rattle.pearl_tree.specs.Faults.{fault_if}

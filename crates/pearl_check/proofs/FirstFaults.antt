@@ -4,7 +4,7 @@ use Rattle.std.proofs.lemmas.Bool.{ltb-true, ltb-false}
 use Rattle.std.specs.Prelude.{AllPairs, Contains, slice_get}
 use Rattle.pearl_tree.specs.declared.fault.RuleFault.{RuleFault}
 use Rattle.pearl_tree.specs.Faults.{IsBefore, ListFaults}
-use Rattle.pearl_calls.proofs.Truths.{by_case, or_rest, nor_left, nor_right, and_left, and_right, nand}
+use Rattle.pearl_calls.proofs.Offered.{by_case, or_rest, nor_left, nor_right, and_left, and_right, nand}
 use Rattle.pearl_check.specs.Rules.{is_before, earlier, first}
 
 here : (x : RuleFault) (xs : List RuleFault) → Contains (x ∷ xs) x

@@ -1,7 +1,7 @@
 -- The kinds of the parts of a list.
 use Rattle.std.proofs.Common.{◌≡◌, ℕ, ◌≤◌, List, Option, map, length, take, sym, ap, ◌∙◌}
 use Rattle.pearl_value.specs.declared.kind.Kind.{Kind}
-use Rattle.pearl_names.proofs.Lists.{all_taken}
+use Rattle.pearl_names.proofs.Offered.{all_taken}
 use Rattle.pearl_check.proofs.AskedLists.{map-map}
 
 -- all are taken

@@ -1,23 +1,24 @@
-pub mod Adding
+mod Adding
 pub mod AskedLists
 pub mod PieceLists
 pub mod Calling
-pub mod Sizing
-pub mod Limits
-pub mod Passing
-pub mod Tallying
-pub mod Weighing
-pub mod Firsts
-pub mod CutWeights
-pub mod TellingModules
-pub mod Accepting
-pub mod KindLists
-pub mod SeenSemaphores
-pub mod FirstFaults
-pub mod Broken
-pub mod Examples
-pub mod EachSort
-pub mod RoleExamples
-pub mod NameExamples
-pub mod SizeExamples
-pub mod FormatExamples
+mod Sizing
+mod Limits
+mod Passing
+mod Tallying
+mod Weighing
+mod Firsts
+mod CutWeights
+mod TellingModules
+mod Accepting
+mod KindLists
+mod SeenSemaphores
+mod FirstFaults
+mod Broken
+mod Examples
+mod EachSort
+mod RoleExamples
+mod NameExamples
+mod SizeExamples
+mod FormatExamples
+pub mod Offered

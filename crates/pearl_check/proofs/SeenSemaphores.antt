@@ -7,9 +7,9 @@ use Rattle.pearl_tree.specs.declared.name.Name.{Name}
 use Rattle.pearl_tree.specs.Faults.{fault_if}
 use Rattle.pearl_tree.specs.Names.{name_text, is_among, repeats}
 use Rattle.pearl_names.specs.FirstNames.{number_of, HasNoted}
-use Rattle.pearl_names.proofs.Lists.{all_taken}
+use Rattle.pearl_names.proofs.Offered.{all_taken}
 use Rattle.pearl_scope.specs.Seen.{Sees}
-use Rattle.pearl_scope.proofs.Seen.{told_none, told_more}
+use Rattle.pearl_scope.proofs.Offered.{told_none, told_more}
 
 -- one name more is noted
 pub sees_next : (old new : List (ArrayVec ℕ × ℕ)) (before : List Name) (name : Name) (number : ℕ) (again : Bool) →

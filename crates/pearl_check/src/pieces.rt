@@ -1,5 +1,5 @@
 // What expressions are made of, in the order of the text: literals, names and words.
-#![tactic(auto, using(crate::proofs::PieceLists::piece_steps, pearl_names::proofs::Lists::list_steps, std::proofs::lemmas::Grind::common_steps))]
+#![tactic(auto, using(crate::proofs::PieceLists::piece_steps, pearl_names::proofs::Offered::list_steps, std::proofs::lemmas::Grind::common_steps))]
 
 ghost use Rattle.std.specs.Prelude.{◌≡◌, ◌++◌, ◌∷◌, [], map, OnOk};
 ghost use Rattle.std.specs.List.{flat_map};

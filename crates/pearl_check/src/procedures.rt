@@ -1,5 +1,5 @@
 // The procedures of a module by their names, and which of them a statement calls.
-#![tactic(auto, using(crate::proofs::Calling::call_steps, crate::proofs::PieceLists::piece_steps, pearl_names::proofs::Lists::list_steps, std::proofs::lemmas::Grind::common_steps))]
+#![tactic(auto, using(crate::proofs::Calling::call_steps, crate::proofs::PieceLists::piece_steps, pearl_names::proofs::Offered::list_steps, std::proofs::lemmas::Grind::common_steps))]
 
 ghost use Rattle.std.specs.Prelude.{◌≡◌, ◌++◌, ◌∷◌, [], List, Option, length, map, option_copied, IfOk, OnOk};
 ghost use Rattle.std.specs.List.{flat_map};

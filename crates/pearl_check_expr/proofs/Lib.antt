@@ -1,6 +1,7 @@
-pub mod Shown
-pub mod Standings
-pub mod Walking
-pub mod Judging
-pub mod Faultless
-pub mod Undeclared
+mod Shown
+mod Standings
+mod Walking
+mod Judging
+mod Faultless
+mod Undeclared
+pub mod Offered

@@ -22,7 +22,7 @@ use Rattle.pearl_instructions.specs.declared.instr.Instr.TheVariants as instr
 use Rattle.pearl_instructions.specs.declared.object.Code.{Code}
 use Rattle.pearl_instructions.specs.declared.object.Object.{Object}
 use Rattle.pearl_instructions.specs.Valid.{targets}
-use Rattle.pearl_gen_expr.proofs.Forward.{all_forward}
+use Rattle.pearl_gen_expr.proofs.Offered.{all_forward}
 use Rattle.pearl_gen_stmt.specs.StmtCode.{writing_at, kept_in, CountedAt, LimitAt, BeginsAt, FoundAt, KeptAt, FilledAt, WrittenAt, GetAt}
 use Rattle.pearl_faithful.proofs.Places.{IsBare}
 use Rattle.pearl_faithful.proofs.Pushing.{Adds, subscripts_add}

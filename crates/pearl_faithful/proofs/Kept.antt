@@ -30,12 +30,8 @@ use Rattle.pearl_instructions.specs.Operands.{Shape}
 use Rattle.pearl_instructions.specs.Valid.{result_shape}
 use Rattle.pearl_gen_expr.specs.ExprCode.{writing_to, Is, ExprAt, ArgumentsAt, WayAt}
 use Rattle.pearl_gen_expr.specs.Shapes.{IsOpen, Keeps, way_shape, CodeKeeps}
-use Rattle.pearl_gen_expr.proofs.Forward.{some_values}
-use Rattle.pearl_gen_expr.proofs.Tables.{signature_is}
-use Rattle.pearl_gen_expr.proofs.Shapes.{quiet_open, both_keep}
-use Rattle.pearl_gen_expr.proofs.Fitting.{const_keeps, conv_keeps, load_keeps}
-use Rattle.pearl_gen_expr.proofs.Storing.{store_keeps}
-use Rattle.pearl_gen_expr.proofs.Keeping.{literal_kind, then_one, just_one, expressions_keep}
+use Rattle.pearl_gen_expr.proofs.Offered.{some_values, signature_is, quiet_open, both_keep, const_keeps, conv_keeps}
+use Rattle.pearl_gen_expr.proofs.Offered.{load_keeps, store_keeps, literal_kind, then_one, just_one, expressions_keep}
 use Rattle.pearl_gen_stmt.specs.StmtCode.{StoresAt, RepeatsAt, RenewAt, ConvertedAt, AssignAt, TakeAt, DroppedAt, CallOfAt, ReturnAt, SendAt}
 use Rattle.pearl_faithful.proofs.Small.{IsSmall, left, right}
 use Rattle.pearl_faithful.proofs.Lists.{part_is, get_copied, one_of}

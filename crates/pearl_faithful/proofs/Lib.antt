@@ -19,9 +19,9 @@ mod Weights
 mod Routines
 mod Programs
 mod Tables
-pub mod Setups
-pub mod Offering
-pub mod Answers
-pub mod Standing
-pub mod Runs
+mod Setups
+mod Offering
+mod Answers
+mod Standing
+mod Runs
 mod Example

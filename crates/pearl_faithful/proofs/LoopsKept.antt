@@ -17,9 +17,7 @@ use Rattle.pearl_instructions.specs.declared.object.Object.{Object}
 use Rattle.pearl_instructions.specs.Operands.{Shape}
 use Rattle.pearl_gen_expr.specs.ExprCode.{Is, ExprAt}
 use Rattle.pearl_gen_expr.specs.Shapes.{Keeps}
-use Rattle.pearl_gen_expr.proofs.Shapes.{both_keep}
-use Rattle.pearl_gen_expr.proofs.Fitting.{const_keeps, conv_keeps}
-use Rattle.pearl_gen_expr.proofs.Keeping.{then_one, just_one}
+use Rattle.pearl_gen_expr.proofs.Offered.{both_keep, const_keeps, conv_keeps, then_one, just_one}
 use Rattle.pearl_faithful.proofs.StatementsStand.{Stands}
 use Rattle.pearl_faithful.proofs.Quiet.{stays, IsWhole, quiet_at}
 use Rattle.pearl_faithful.proofs.Small.{IsSmall, left, right}

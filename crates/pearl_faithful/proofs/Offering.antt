@@ -7,7 +7,7 @@ use Rattle.pearl_instructions.specs.declared.object.Object.{Object}
 use Rattle.pearl_instructions.specs.Rows.{row}
 use Rattle.pearl_instructions.specs.Steps.{Step, Silent, Offers, Missing}
 use Rattle.pearl_gen_expr.specs.Comes.{offers}
-use Rattle.pearl_gen_expr.proofs.Moves.{ComesFrom, further}
+use Rattle.pearl_gen_expr.proofs.Offered.{ComesFrom, further}
 use Rattle.pearl_gen_stmt.specs.Offering.{OffersAfter}
 
 module _ (o : Object) (frames : List Frame) where

@@ -19,10 +19,7 @@ use Rattle.pearl_instructions.specs.declared.object.Object.{Object}
 use Rattle.pearl_instructions.specs.Operands.{Shape}
 use Rattle.pearl_gen_expr.specs.ExprCode.{ExprAt}
 use Rattle.pearl_gen_expr.specs.Shapes.{Keeps, handed}
-use Rattle.pearl_gen_expr.proofs.Forward.{some_values}
-use Rattle.pearl_gen_expr.proofs.Shapes.{both_keep}
-use Rattle.pearl_gen_expr.proofs.Gathering.{handed_length}
-use Rattle.pearl_gen_expr.proofs.Keeping.{then_one}
+use Rattle.pearl_gen_expr.proofs.Offered.{some_values, both_keep, handed_length, then_one}
 use Rattle.pearl_faithful.proofs.StatementsStand.{Stands, devices_there}
 use Rattle.pearl_faithful.proofs.Quiet.{stays, IsWhole}
 use Rattle.pearl_faithful.proofs.Small.{IsSmall, left, right}

@@ -23,7 +23,7 @@ use Rattle.pearl_instructions.specs.Objects.{routine_at, is_task, result_of}
 use Rattle.pearl_instructions.specs.Valid.{unsound_in, unsound, IsValid}
 use Rattle.pearl_gen_expr.specs.Tables.{Head, head_of, code_head, code_entry}
 use Rattle.pearl_gen_expr.specs.Shapes.{depths}
-use Rattle.pearl_gen_expr.proofs.Tables.{each}
+use Rattle.pearl_gen_expr.proofs.Offered.{each}
 use Rattle.pearl_gen_stmt.specs.Generated.{last_of, IsStated, IsGenerated}
 use Rattle.pearl_faithful.proofs.Steps.{end_keeps, return_keeps, trap_keeps}
 use Rattle.pearl_faithful.proofs.Lists.{mapped_there, get_front, get_behind, cases, outside, same_list}

@@ -25,8 +25,7 @@ use Rattle.pearl_instructions.specs.Objects.{result_of}
 use Rattle.pearl_gen_expr.specs.Calls.{IsAroundIn}
 use Rattle.pearl_gen_expr.specs.Tables.{Head, head_of, code_head, HasTables}
 use Rattle.pearl_gen_expr.specs.ExprCode.{reading, slot_reference, cell_reference, OffsetOf, WayOf, ReadOf, ReferenceOf, ExprAt, AllAt, ArgumentsAt, ArgumentAt}
-use Rattle.pearl_gen_expr.proofs.Tables.{each, signature_is}
-use Rattle.pearl_gen_expr.proofs.Keeping.{callee_of}
+use Rattle.pearl_gen_expr.proofs.Offered.{each, signature_is, callee_of}
 use Rattle.pearl_faithful.proofs.Places.{pushes, Every, nowhere, at_one, both, then_at}
 
 -- an instruction that leaves an operand, and that an object may have

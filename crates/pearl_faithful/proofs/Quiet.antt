@@ -11,8 +11,8 @@ use Rattle.pearl_instructions.specs.Operands.{Shape, same_shape}
 use Rattle.pearl_instructions.specs.Kinds.{shape_after}
 use Rattle.pearl_instructions.specs.Valid.{goes_on, targets, is_named, stated, passed_on, shape_or, shape_before, is_turn, v6}
 use Rattle.pearl_gen_expr.specs.Shapes.{IsQuiet, AreQuiet, IsOpen, Keeps}
-use Rattle.pearl_gen_expr.proofs.Shapes.{Fits, and_is, or_is, quiet_open, judged_well, here_keeps, open_keeps}
-use Rattle.pearl_gen_expr.proofs.Keeping.{nothing_keeps}
+use Rattle.pearl_gen_expr.proofs.Offered.{Fits, and_is, or_is, quiet_open, judged_well, here_keeps, open_keeps}
+use Rattle.pearl_gen_expr.proofs.Offered.{nothing_keeps}
 use Rattle.pearl_faithful.proofs.Places.{pushes, pushing_stays, Every, LeadsWell, AllLead, is_named_by, not_named, each_named, each_leads}
 use Rattle.pearl_faithful.proofs.Pushing.{Adds}
 

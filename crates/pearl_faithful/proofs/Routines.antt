@@ -21,7 +21,7 @@ use Rattle.pearl_instructions.specs.Valid.{goes_on, targets, keep, is_closed, ju
 use Rattle.pearl_gen_expr.specs.ExprCode.{instructions_or_none, code_of, Is}
 use Rattle.pearl_gen_expr.specs.Tables.{HasTables}
 use Rattle.pearl_gen_expr.specs.Shapes.{Keeps, depths}
-use Rattle.pearl_gen_expr.proofs.Shapes.{both_keep}
+use Rattle.pearl_gen_expr.proofs.Offered.{both_keep}
 use Rattle.pearl_gen_stmt.specs.StmtCode.{StmtsAt}
 use Rattle.pearl_gen_stmt.specs.Generated.{within_program, IsStated, IsCode}
 use Rattle.pearl_faithful.proofs.Lists.{all_by_number}

@@ -7,9 +7,7 @@ use Rattle.pearl_rules.specs.Runs.{source_next, source_offers, told_at_end}
 use Rattle.pearl_rules.specs.Entries.{AreFitting}
 use Rattle.pearl_rules.specs.Faithful.{Alone, Soon, IsFaithful}
 use Rattle.pearl_rules.specs.Laws.{Comes, EndsSoon}
-use Rattle.pearl_rules.proofs.Faithful.{faithful, ends_soon, has_kinds}
-use Rattle.pearl_rules.proofs.EndLaws.{ends_alike, first_end}
-use Rattle.pearl_rules.proofs.RunLaws.{source_ends}
+use Rattle.pearl_rules.proofs.Offered.{faithful, ends_soon, has_kinds, ends_alike, first_end, source_ends}
 use Rattle.pearl_program.specs.PlainPrograms.{PlainProg}
 use Rattle.pearl_program.specs.Sound.{IsSound}
 use Rattle.pearl_instructions.specs.declared.object.Object.{Object}

@@ -29,8 +29,7 @@ use Rattle.pearl_instructions.specs.Lawful.{IsInstr}
 use Rattle.pearl_instructions.specs.Objects.{result_of}
 use Rattle.pearl_instructions.specs.Valid.{targets}
 use Rattle.pearl_gen_expr.specs.ExprCode.{writing_to, OffsetOf, ExprAt, AllAt, WayAt}
-use Rattle.pearl_gen_expr.proofs.Forward.{expr_forward, all_forward, arguments_forward}
-use Rattle.pearl_gen_expr.proofs.Tables.{signature_is}
+use Rattle.pearl_gen_expr.proofs.Offered.{expr_forward, all_forward, arguments_forward, signature_is}
 use Rattle.pearl_gen_stmt.specs.StmtCode.{on_task, StoresAt, RepeatsAt, RenewAt, ConvertedAt, AssignAt, TakeAt, CallOfAt, DroppedAt, WhenAt, LaterAt, MaybeLaterAt, PeriodEndAt, PeriodAt, PriorityAt, ActivateAt, ContinueAt, ResumeAt, ReturnAt, PutAt, SendAt}
 use Rattle.pearl_faithful.proofs.Places.{pushes, Every, IsBare, nowhere, both, then_at}
 use Rattle.pearl_faithful.proofs.Pushing.{Adds, offset_adds, result_there, params_lawful, expr_adds, subscripts_add, arguments_add, all_add}

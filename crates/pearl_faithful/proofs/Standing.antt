@@ -21,7 +21,7 @@ use Rattle.pearl_meaning.specs.Hearing.{Suits, Heard}
 use Rattle.pearl_instructions.specs.Setups.{entry_of, setup_of}
 use Rattle.pearl_instructions.specs.Engines.{engine}
 use Rattle.pearl_instructions.specs.RunLaws.{Begins, GoesOn, GoesOnAfter, HearsWhatSuits, OffersWhatIsThere, FitsTables, OffersSoon}
-use Rattle.pearl_instructions.proofs.Stands.{silent_is, offers_is}
+use Rattle.pearl_instructions.proofs.Offered.{silent_is, offers_is}
 use Rattle.pearl_gen_stmt.specs.Generated.{IsGenerated}
 use Rattle.pearl_gen_stmt.specs.Offering.{OffersAfter, TasksOffer}
 use Rattle.pearl_faithful.specs.Standing.{Stands}

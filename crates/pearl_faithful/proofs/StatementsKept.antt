@@ -14,8 +14,7 @@ use Rattle.pearl_instructions.specs.declared.object.Code.{Code}
 use Rattle.pearl_instructions.specs.declared.object.Object.{Object}
 use Rattle.pearl_instructions.specs.Valid.{is_semaphore_list}
 use Rattle.pearl_gen_expr.specs.Shapes.{Keeps}
-use Rattle.pearl_gen_expr.proofs.Shapes.{both_keep}
-use Rattle.pearl_gen_expr.proofs.Keeping.{then_one, just_one}
+use Rattle.pearl_gen_expr.proofs.Offered.{both_keep, then_one, just_one}
 use Rattle.pearl_gen_stmt.specs.StmtCode.{on_task, StmtAt, StmtsAt, ElseAt, BranchesAt}
 use Rattle.pearl_faithful.proofs.Small.{IsSmall, left, right, first, second}
 use Rattle.pearl_faithful.proofs.StatementsStand.{Stands, within_loop}

@@ -24,9 +24,7 @@ use Rattle.pearl_instructions.specs.declared.object.Code.{Code}
 use Rattle.pearl_instructions.specs.declared.object.Object.{Object}
 use Rattle.pearl_instructions.specs.Objects.{is_task, result_of}
 use Rattle.pearl_gen_expr.specs.Shapes.{IsPlaced}
-use Rattle.pearl_gen_expr.proofs.Tables.{each}
-use Rattle.pearl_gen_expr.proofs.Fitting.{first_is_plain}
-use Rattle.pearl_gen_expr.proofs.Keeping.{some_elements}
+use Rattle.pearl_gen_expr.proofs.Offered.{each, first_is_plain, some_elements}
 
 -- what RETURNS says is the same everywhere, and only a procedure has it
 abbrev pub IsReturning : Object → ℕ → Setting → Option Kind → Type 0

@@ -19,8 +19,8 @@ use Rattle.pearl_instructions.specs.Named.{has_cells, cells_at, is_interrupt, is
 use Rattle.pearl_instructions.specs.Kinds.{is_uniform, is_kind, first_kind, are_fixed, kind_taken, kind_sent, has_on_top}
 use Rattle.pearl_instructions.specs.Valid.{result_shape, is_repeated, are_different, is_semaphore_list}
 use Rattle.pearl_gen_expr.specs.Shapes.{Keeps}
-use Rattle.pearl_gen_expr.proofs.Shapes.{and_is, same_cell_self, same_shape_self}
-use Rattle.pearl_gen_expr.proofs.Fitting.{cells_are_there, cells_are_uniform, cells_are_plain}
+use Rattle.pearl_gen_expr.proofs.Offered.{and_is, same_cell_self, same_shape_self, cells_are_there, cells_are_uniform}
+use Rattle.pearl_gen_expr.proofs.Offered.{cells_are_plain}
 use Rattle.pearl_faithful.proofs.Quiet.{IsWhole, each_inside, bare_keeps, push_keeps}
 
 first_of : (n : ℕ) (k : CellKind) → 0 < n → first_kind (replicate n k) ≡ Some k

@@ -24,7 +24,7 @@ use Rattle.pearl_instructions.specs.declared.object.Task.{Task}
 use Rattle.pearl_instructions.specs.declared.object.Object.{Object}
 use Rattle.pearl_instructions.specs.Lawful.{IsCellKind, IsPlain, IsLeaf, IsInstr, AreRising, IsCode, IsProcedure, IsTask, IsObject}
 use Rattle.pearl_gen_expr.specs.Tables.{plain_leaf, Head, head_of, code_head, code_entry}
-use Rattle.pearl_gen_expr.proofs.Tables.{each}
+use Rattle.pearl_gen_expr.proofs.Offered.{each}
 use Rattle.pearl_gen_stmt.specs.Generated.{IsGenerated}
 use Rattle.pearl_faithful.proofs.Lists.{all_by_number}
 use Rattle.pearl_faithful.proofs.Programs.{procedure_of, task_of, its_cells, if_some, all_lawful, procedure_valid, task_valid}

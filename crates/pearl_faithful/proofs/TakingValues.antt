@@ -12,7 +12,7 @@ use Rattle.pearl_format.specs.declared.item.ItemCode.{ItemCode}
 use Rattle.pearl_format.specs.declared.item.ItemCode.TheVariants.{A, B1, B2, B3, B4, F, T, D, X, Skip}
 use Rattle.pearl_format.specs.declared.item.Item.{Item}
 use Rattle.pearl_format.specs.Items.{data_here, data_count, text_width, TakesKind, SuitsItem, Suits, FitsFormat}
-use Rattle.pearl_format.proofs.Counts.{suits-length}
+use Rattle.pearl_format.proofs.Offered.{suits-length}
 use Rattle.pearl_instructions.specs.declared.schedule.OnceForm.{OnceForm}
 use Rattle.pearl_instructions.specs.declared.instr.Activation.{Activation}
 use Rattle.pearl_instructions.specs.declared.instr.Continuation.{Continuation}
@@ -28,8 +28,8 @@ use Rattle.pearl_instructions.specs.Operands.{Shape, is_reference, same_cell, v2
 use Rattle.pearl_instructions.specs.Named.{has_cells, takes_texts, gives_texts, names_interrupt, has_read_cells, read_cells}
 use Rattle.pearl_instructions.specs.Valid.{plain_kinds, suits_format, values_suit, cells_suit}
 use Rattle.pearl_gen_expr.specs.Shapes.{Keeps, handed}
-use Rattle.pearl_gen_expr.proofs.Shapes.{and_is, or_is, same_cell_self}
-use Rattle.pearl_gen_expr.proofs.Gathering.{handed_is, handed_back, handed_length, anything_asked}
+use Rattle.pearl_gen_expr.proofs.Offered.{and_is, or_is, same_cell_self, handed_is, handed_back, handed_length}
+use Rattle.pearl_gen_expr.proofs.Offered.{anything_asked}
 use Rattle.pearl_faithful.proofs.Quiet.{IsWhole, bare_keeps}
 use Rattle.pearl_faithful.proofs.Steps.{HasFor}
 

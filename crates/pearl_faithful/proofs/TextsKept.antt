@@ -25,11 +25,9 @@ use Rattle.pearl_instructions.specs.declared.object.Object.{Object}
 use Rattle.pearl_instructions.specs.Operands.{Shape}
 use Rattle.pearl_gen_expr.specs.ExprCode.{Is, ExprAt}
 use Rattle.pearl_gen_expr.specs.Shapes.{Keeps, handed}
-use Rattle.pearl_gen_expr.proofs.Forward.{some_values}
-use Rattle.pearl_gen_expr.proofs.Shapes.{both_keep}
-use Rattle.pearl_gen_expr.proofs.Fitting.{const_keeps, load_keeps}
-use Rattle.pearl_gen_expr.proofs.Gathering.{handed_length}
-use Rattle.pearl_gen_expr.proofs.Keeping.{then_one, just_one}
+use Rattle.pearl_gen_expr.proofs.Offered.{some_values, both_keep, const_keeps, load_keeps, handed_length, then_one}
+use Rattle.pearl_gen_expr.proofs.Offered.{just_one, write_at_keeps, store_at_keeps, write_ref_keeps, leaf_of}
+use Rattle.pearl_gen_expr.proofs.Offered.{some_elements}
 use Rattle.pearl_gen_stmt.specs.StmtCode.{PutAt}
 use Rattle.pearl_faithful.proofs.StatementsStand.{Stands, devices_there}
 use Rattle.pearl_faithful.proofs.Simple.{all_piece}
@@ -49,8 +47,6 @@ use Rattle.pearl_instructions.specs.declared.instr.Reading.{Reading}
 use Rattle.pearl_instructions.specs.declared.object.Leaf.{Leaf}
 use Rattle.pearl_instructions.specs.Named.{takes_texts, gives_texts}
 use Rattle.pearl_gen_expr.specs.Tables.{plain_leaf}
-use Rattle.pearl_gen_expr.proofs.Storing.{write_at_keeps, store_at_keeps, write_ref_keeps}
-use Rattle.pearl_gen_expr.proofs.Keeping.{leaf_of, some_elements}
 use Rattle.pearl_gen_stmt.specs.StmtCode.{writing_at, kept_in, FoundAt, KeptAt, FilledAt, WrittenAt, GetAt}
 use Rattle.pearl_faithful.proofs.StatementsStand.{param_known}
 use Rattle.pearl_faithful.proofs.Gets.{kinds_are, found_piece}

@@ -5,8 +5,7 @@ use Rattle.std.proofs.lemmas.Nat.{pow-add, pow_pos, mod_below, shr_split, div-mu
 use Rattle.std.proofs.lemmas.List.{length-drop, length-take}
 use Rattle.std.proofs.Math.Nat.{add-mul, mul_assoc, mul_comm, mod-eq_of_lt}
 use Rattle.pearl_value.specs.BitLists.{number_of, zeros_to}
-use Rattle.pearl_value.proofs.BitNumbers.{number-below, length-zeros_to, number-zeros_to}
-use Rattle.pearl_value.proofs.BitOperators.{before, in_two}
+use Rattle.pearl_value.proofs.Offered.{number-below, length-zeros_to, number-zeros_to, before, in_two}
 use Rattle.pearl_format.specs.Fields.{digit_count, last_digits}
 use Rattle.pearl_format.specs.BitDigits.{group_digits, WritesGroups}
 use Rattle.pearl_format.proofs.Digits.{counted}

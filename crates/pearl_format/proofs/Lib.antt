@@ -1,7 +1,8 @@
-pub mod Digits
-pub mod Texts
-pub mod Steps
-pub mod Printable
-pub mod Longer
-pub mod Counts
+mod Digits
+mod Texts
+mod Steps
+mod Printable
+mod Longer
+mod Counts
 mod BitGroups
+pub mod Offered

@@ -14,7 +14,7 @@ use Rattle.pearl_value.specs.declared.operator.Dyad.{Dyad}
 use Rattle.pearl_value.specs.Cells.{cell_kind_of}
 use Rattle.pearl_value.specs.Rows.{row1, row2}
 use Rattle.pearl_value.specs.Conversions.{SuitsKind, suits_kind}
-use Rattle.pearl_value.proofs.Suiting.{suits_both}
+use Rattle.pearl_value.proofs.Offered.{suits_both}
 use Rattle.pearl_instructions.specs.declared.instr.Instr.{Instr}
 use Rattle.pearl_instructions.specs.declared.instr.Instr.TheVariants as instr
 use Rattle.pearl_instructions.specs.declared.object.Leaf.{Leaf}

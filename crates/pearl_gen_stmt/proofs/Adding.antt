@@ -8,7 +8,7 @@ use Rattle.pearl_instructions.specs.declared.instr.Instr.{Instr}
 use Rattle.pearl_instructions.specs.declared.instr.Instr.TheVariants as instr
 use Rattle.pearl_gen_expr.specs.ExprCode.{writing_to, Is}
 use Rattle.pearl_gen_expr.specs.Emitting.{Extends, EmitsExpr, EmitsAll, EmitsWay, EmitsCall}
-use Rattle.pearl_gen_expr.proofs.Emitted.{still_is, last_is, one_longer, extends_one}
+use Rattle.pearl_gen_expr.proofs.Offered.{still_is, last_is, one_longer, extends_one}
 use Rattle.pearl_gen_stmt.specs.StmtCode.{ConvertedAt, AssignAt, TakeAt, DroppedAt, CallOfAt, ReturnAt, PutAt, SendAt, Alone}
 use Rattle.pearl_gen_stmt.specs.Emission.{pending, Stays, Adds}
 use Rattle.pearl_gen_stmt.proofs.Keeping.{kept_expr, kept_all, kept_way, kept_call, writing_to_known}

@@ -14,7 +14,7 @@ use Rattle.pearl_instructions.specs.Stacks.{IsStack, Answers, Goes, task_of}
 use Rattle.pearl_instructions.specs.Steps.{Step, Silent, Offers, Missing, given}
 use Rattle.pearl_instructions.specs.Valid.{IsValid}
 use Rattle.pearl_gen_expr.specs.Comes.{Aim, offers, or_lost, Onward, ComesIn, Comes}
-use Rattle.pearl_gen_expr.proofs.Moves.{further}
+use Rattle.pearl_gen_expr.proofs.Offered.{further}
 
 -- the task whose stack it is
 lowest_of : (o : Object) (task : ℕ) (f : Frame) (lower : List Frame) → IsOfTask o task (f ∷ lower) →

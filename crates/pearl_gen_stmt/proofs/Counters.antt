@@ -29,7 +29,8 @@ use Rattle.pearl_gen_expr.specs.Contexts.{stack, Context, at, IsStoreOf}
 use Rattle.pearl_gen_expr.specs.Carrying.{End, Carries}
 use Rattle.pearl_gen_expr.specs.ExprCode.{code_of, Is, ExprAt}
 use Rattle.pearl_gen_expr.specs.Ends.{on_top, done}
-use Rattle.pearl_gen_expr.proofs.Moves.{frame_at, RowMeets, bind_carries, gives_carries, instr_carries, same_carries, missing_meets, silent_meets, stops_meets, goes_meets}
+use Rattle.pearl_gen_expr.proofs.Offered.{frame_at, RowMeets, bind_carries, gives_carries, instr_carries, same_carries}
+use Rattle.pearl_gen_expr.proofs.Offered.{missing_meets, silent_meets, stops_meets, goes_meets}
 use Rattle.pearl_gen_stmt.specs.StmtCode.{ConvertedAt, CountedAt, LimitAt, BeginsAt, WithinAt, CountsAt, WhileAt, PassedAt, AdvanceAt}
 use Rattle.pearl_gen_stmt.proofs.Single.{more_cells, const_carries, store_carries, conv_carries, branch_carries}
 use Rattle.pearl_gen_stmt.proofs.Flows.{jump_carries}

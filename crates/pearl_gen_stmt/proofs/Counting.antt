@@ -11,7 +11,7 @@ use Rattle.pearl_instructions.specs.declared.instr.Instr.{Instr}
 use Rattle.pearl_instructions.specs.declared.instr.Instr.TheVariants as instr
 use Rattle.pearl_gen_expr.specs.ExprCode.{Is}
 use Rattle.pearl_gen_expr.specs.Emitting.{Extends, EmitsExpr}
-use Rattle.pearl_gen_expr.proofs.Emitted.{last_is, one_longer}
+use Rattle.pearl_gen_expr.proofs.Offered.{last_is, one_longer}
 use Rattle.pearl_gen_stmt.specs.StmtCode.{ConvertedAt, CountedAt, LimitAt, BeginsAt, WithinAt, WhileAt, PassedAt, AdvanceAt}
 use Rattle.pearl_gen_stmt.specs.Emission.{Adds, AddsTest}
 use Rattle.pearl_gen_stmt.proofs.Adding.{stays_on, stays_one, last_stays}

@@ -25,7 +25,8 @@ use Rattle.pearl_gen_expr.specs.Contexts.{Standing, stack, Context, at, back, lo
 use Rattle.pearl_gen_expr.specs.Carrying.{End, Carries}
 use Rattle.pearl_gen_expr.specs.ExprCode.{code_of, Is}
 use Rattle.pearl_gen_expr.specs.Ends.{IsResult, IsFlow, ways}
-use Rattle.pearl_gen_expr.proofs.Moves.{stopped_from, frame_at, RowMeets, gives_carries, instr_carries, missing_meets, silent_meets}
+use Rattle.pearl_gen_expr.proofs.Offered.{stopped_from, frame_at, RowMeets, gives_carries, instr_carries, missing_meets}
+use Rattle.pearl_gen_expr.proofs.Offered.{silent_meets}
 use Rattle.pearl_gen_stmt.proofs.Single.{asked_meets, silent_carries, ask_carries}
 
 -- THE OWN TASK

@@ -19,7 +19,7 @@ use Rattle.pearl_value.specs.Blanks.{filled_to, blank_of}
 use Rattle.pearl_value.specs.Cells.{kind_of}
 use Rattle.pearl_format.specs.declared.item.Item.{Item}
 use Rattle.pearl_format.specs.Items.{data_count, FitsSome}
-use Rattle.pearl_format.proofs.Counts.{suits-length}
+use Rattle.pearl_format.proofs.Offered.{suits-length}
 use Rattle.pearl_rules.specs.declared.action.Action.TheVariants as action
 use Rattle.pearl_rules.specs.declared.action.Answer.{Answer}
 use Rattle.pearl_rules.specs.declared.action.Answer.TheVariants.{Nothing, One, Many}
@@ -56,10 +56,10 @@ use Rattle.pearl_gen_expr.specs.Tables.{HasTables}
 use Rattle.pearl_gen_expr.specs.ExprCode.{code_of, Is}
 use Rattle.pearl_gen_expr.specs.Ends.{on_top, done, offset_on_top, ways}
 use Rattle.pearl_gen_expr.specs.Laws.{CodeCarries}
-use Rattle.pearl_gen_expr.proofs.Moves.{frame_at, RowMeets, bind_carries, gives_carries, instr_carries, same_carries, missing_meets, silent_meets, stops_meets, given_meets, needed_meets, goes_meets, row_within}
-use Rattle.pearl_gen_expr.proofs.Tables.{leaf_is, slots_are}
-use Rattle.pearl_gen_expr.proofs.Expressions.{parted}
-use Rattle.pearl_gen_expr.proofs.Writing.{own_written, acts_meets, write_ref}
+use Rattle.pearl_gen_expr.proofs.Offered.{frame_at, RowMeets, bind_carries, gives_carries, instr_carries, same_carries}
+use Rattle.pearl_gen_expr.proofs.Offered.{missing_meets, silent_meets, stops_meets, given_meets, needed_meets}
+use Rattle.pearl_gen_expr.proofs.Offered.{goes_meets, row_within, leaf_is, slots_are, parted, own_written, acts_meets}
+use Rattle.pearl_gen_expr.proofs.Offered.{write_ref}
 use Rattle.pearl_gen_stmt.specs.StmtCode.{writing_at, FoundAt, KeptAt, FilledAt, WrittenAt}
 use Rattle.pearl_gen_stmt.proofs.Single.{more_cells, asked_meets, const_carries, store_carries, load_carries}
 use Rattle.pearl_gen_stmt.proofs.Flows.{normal_carries}

@@ -15,7 +15,7 @@ use Rattle.pearl_instructions.specs.declared.instr.Instr.{Instr}
 use Rattle.pearl_instructions.specs.declared.instr.Instr.TheVariants as instr
 use Rattle.pearl_gen_expr.specs.ExprCode.{Is}
 use Rattle.pearl_gen_expr.specs.Emitting.{Extends, EmitsOffset}
-use Rattle.pearl_gen_expr.proofs.Emitted.{one_longer}
+use Rattle.pearl_gen_expr.proofs.Offered.{one_longer}
 use Rattle.pearl_gen_stmt.specs.StmtCode.{writing_at, kept_in, FoundAt, KeptAt, FilledAt, WrittenAt, GetAt}
 use Rattle.pearl_gen_stmt.specs.Emission.{pending, Stays, Adds}
 use Rattle.pearl_gen_stmt.proofs.Settling.{one_left}

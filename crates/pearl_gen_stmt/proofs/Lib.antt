@@ -1,20 +1,20 @@
-pub mod Single
-pub mod Flows
-pub mod Renewals
-pub mod Counters
-pub mod Turning
-pub mod Transfers
-pub mod Schedules
-pub mod Statements
-pub mod Gets
-pub mod Procedures
-pub mod Named
-pub mod Tasks
-pub mod Heard
-pub mod Arriving
-pub mod Offering
-pub mod Parts
-pub mod Stacks
+mod Single
+mod Flows
+mod Renewals
+mod Counters
+mod Turning
+mod Transfers
+mod Schedules
+mod Statements
+mod Gets
+mod Procedures
+mod Named
+mod Tasks
+mod Heard
+mod Arriving
+mod Offering
+mod Parts
+mod Stacks
 mod Example
 mod Settling
 mod Keeping
@@ -24,5 +24,6 @@ mod Counting
 mod Storing
 mod Planning
 mod Getting
-pub mod StatementRows
+mod StatementRows
 mod Nesting
+pub mod Offered

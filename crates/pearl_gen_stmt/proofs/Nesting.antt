@@ -13,7 +13,7 @@ use Rattle.pearl_instructions.specs.declared.instr.Instr.{Instr}
 use Rattle.pearl_instructions.specs.declared.instr.Instr.TheVariants as instr
 use Rattle.pearl_gen_expr.specs.ExprCode.{Is}
 use Rattle.pearl_gen_expr.specs.Emitting.{Extends, EmitsExpr}
-use Rattle.pearl_gen_expr.proofs.Emitted.{still_is, last_is, one_longer, extends_one, extends_more}
+use Rattle.pearl_gen_expr.proofs.Offered.{still_is, last_is, one_longer, extends_one, extends_more}
 use Rattle.pearl_gen_stmt.specs.StmtCode.{on_task, ListAt, BeginsAt, CountsAt, WhileAt, AdvanceAt, StmtAt, StmtsAt, ElseAt, BranchesAt}
 use Rattle.pearl_gen_stmt.specs.Emission.{pending, Stays, Exits, GoBehind, Adds, AddsTest, AddsStmt, AddsStmts, AddsElse, AddsBranches}
 use Rattle.pearl_gen_stmt.specs.declared.pending.Pending.TheVariants.{Exit, Test, Branch as Behind}

@@ -30,16 +30,15 @@ use Rattle.pearl_meaning.specs.Transfers.{offset}
 use Rattle.pearl_meaning.specs.Execution.{exec_all}
 use Rattle.pearl_meaning.specs.Hearing.{SuitsNeed, HeardInAfter}
 use Rattle.pearl_meaning.specs.Laws.{UsesUp}
-use Rattle.pearl_meaning.proofs.ExpressionsUse.{CallsUse, calls_uses, eval_uses, hand_over_uses}
-use Rattle.pearl_meaning.proofs.StatementsUse.{target_uses, exec_all_uses, calls_use_up}
-use Rattle.pearl_meaning.proofs.HeardUses.{LeavesNone, heard_used}
+use Rattle.pearl_meaning.proofs.Offered.{CallsUse, calls_uses, eval_uses, hand_over_uses, target_uses, exec_all_uses}
+use Rattle.pearl_meaning.proofs.Offered.{calls_use_up, LeavesNone, heard_used}
 use Rattle.pearl_gen_expr.specs.Comes.{or_lost, Comes}
 use Rattle.pearl_gen_expr.specs.Contexts.{Standing, stack, Context, at, lowest, HasCells, IsStoreOf}
 use Rattle.pearl_gen_expr.specs.Carrying.{End, meant, Carries}
 use Rattle.pearl_gen_expr.specs.Ends.{on_top, result_on_top, offset_on_top, ways}
 use Rattle.pearl_gen_expr.specs.Laws.{CodeCarries}
 use Rattle.pearl_gen_expr.specs.Tables.{code_head, head_of}
-use Rattle.pearl_gen_expr.proofs.Whole.{expressions_carry}
+use Rattle.pearl_gen_expr.proofs.Offered.{expressions_carry}
 use Rattle.pearl_gen_stmt.specs.Laws.{IsPlaced}
 use Rattle.pearl_gen_stmt.specs.Generated.{within_program, IsGenerated}
 use Rattle.pearl_gen_stmt.specs.Arriving.{at_stack, Arrives, IsRoutineOf, result_of, around_part, ExprArrives, CallArrives, OffsetArrives, StatementsArrive, CodeArrives}

@@ -12,7 +12,7 @@ use Rattle.pearl_instructions.specs.declared.instr.Instr.{Instr}
 use Rattle.pearl_instructions.specs.declared.instr.Instr.TheVariants as instr
 use Rattle.pearl_gen_expr.specs.ExprCode.{ExprAt}
 use Rattle.pearl_gen_expr.specs.Emitting.{Extends, EmitsExpr}
-use Rattle.pearl_gen_expr.proofs.Emitted.{one_longer}
+use Rattle.pearl_gen_expr.proofs.Offered.{one_longer}
 use Rattle.pearl_gen_stmt.specs.StmtCode.{WhenAt, LaterAt, MaybeLaterAt, PeriodEndAt, PeriodAt, PriorityAt, ActivateAt, ContinueAt, ResumeAt}
 use Rattle.pearl_gen_stmt.specs.Emission.{Adds}
 use Rattle.pearl_gen_stmt.proofs.Adding.{stays_on, stays_one, last_stays}

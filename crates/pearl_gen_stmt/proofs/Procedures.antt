@@ -29,17 +29,16 @@ use Rattle.pearl_meaning.specs.Setting.{Setting}
 use Rattle.pearl_meaning.specs.Loops.{Flow, Normal, Exit, Return}
 use Rattle.pearl_meaning.specs.Execution.{exec_all}
 use Rattle.pearl_meaning.specs.Programs.{unset, result_at_end, result_of as result_of_flow, entered, call_within}
-use Rattle.pearl_meaning.proofs.CallsAlike.{calls_run}
+use Rattle.pearl_meaning.proofs.Offered.{calls_run}
 use Rattle.pearl_gen_expr.specs.Contexts.{stack, Context, at, within_call, HasCells, IsStoreOf, pushed}
 use Rattle.pearl_gen_expr.specs.Carrying.{End, Meets, Carries}
 use Rattle.pearl_gen_expr.specs.Tables.{HasTables, Head, head_of, code_head}
 use Rattle.pearl_gen_expr.specs.ExprCode.{code_of, Is}
 use Rattle.pearl_gen_expr.specs.Ends.{IsResult, result_on_top, flow_stack, IsFlow, ways}
 use Rattle.pearl_gen_expr.specs.Calls.{CallsCarry}
-use Rattle.pearl_gen_expr.proofs.Moves.{frame_at, RowMeets, gives_carries, instr_carries, silent_meets, stops_meets, given_meets, needed_meets, bind_within, row_within}
-use Rattle.pearl_gen_expr.proofs.Index.{taken_is, dropped_is}
-use Rattle.pearl_gen_expr.proofs.Tables.{each}
-use Rattle.pearl_gen_expr.proofs.Whole.{expressions_carry}
+use Rattle.pearl_gen_expr.proofs.Offered.{frame_at, RowMeets, gives_carries, instr_carries, silent_meets, stops_meets}
+use Rattle.pearl_gen_expr.proofs.Offered.{given_meets, needed_meets, bind_within, row_within, taken_is, dropped_is}
+use Rattle.pearl_gen_expr.proofs.Offered.{each, expressions_carry}
 use Rattle.pearl_gen_stmt.specs.Laws.{IsPlaced, StatementsCarry}
 use Rattle.pearl_gen_stmt.specs.Generated.{within_program, last_of, IsCode, IsGenerated, ProceduresCarry}
 use Rattle.pearl_gen_stmt.proofs.Single.{asked_meets}

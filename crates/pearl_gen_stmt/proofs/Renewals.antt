@@ -19,7 +19,8 @@ use Rattle.pearl_gen_expr.specs.Contexts.{stack, Context, at, IsStoreOf}
 use Rattle.pearl_gen_expr.specs.Carrying.{Meets, Carries}
 use Rattle.pearl_gen_expr.specs.ExprCode.{code_of, Is}
 use Rattle.pearl_gen_expr.specs.Ends.{on_top, done}
-use Rattle.pearl_gen_expr.proofs.Moves.{frame_at, RowMeets, then_meets, gives_carries, instr_carries, same_carries, silent_meets, given_meets, needed_meets, goes_meets}
+use Rattle.pearl_gen_expr.proofs.Offered.{frame_at, RowMeets, then_meets, gives_carries, instr_carries, same_carries}
+use Rattle.pearl_gen_expr.proofs.Offered.{silent_meets, given_meets, needed_meets, goes_meets}
 use Rattle.pearl_gen_stmt.specs.StmtCode.{StoresAt, RepeatsAt, RenewAt}
 use Rattle.pearl_gen_stmt.proofs.Single.{given_value, more_cells, load_carries, const_carries}
 

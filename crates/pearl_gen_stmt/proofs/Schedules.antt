@@ -33,12 +33,13 @@ use Rattle.pearl_meaning.specs.Variables.{number_of}
 use Rattle.pearl_meaning.specs.Values.{eval}
 use Rattle.pearl_meaning.specs.Loops.{Flow, Normal}
 use Rattle.pearl_meaning.specs.Schedules.{acts, moment_of, lapse_of, lapse, start_of, once_of, with_end, repeat_of, priority_of, is_start, is_repeat, is_priority, acts_if, activates, continues, resumes}
-use Rattle.pearl_meaning.proofs.Alike.{Alike}
+use Rattle.pearl_meaning.proofs.Offered.{Alike}
 use Rattle.pearl_gen_expr.specs.Contexts.{stack, Context, at, IsStoreOf, pushed}
 use Rattle.pearl_gen_expr.specs.Carrying.{End, Carries}
 use Rattle.pearl_gen_expr.specs.ExprCode.{code_of, ExprAt}
 use Rattle.pearl_gen_expr.specs.Ends.{on_top, ways}
-use Rattle.pearl_gen_expr.proofs.Moves.{frame_at, RowMeets, bind_carries, instr_carries, same_carries, missing_meets, stops_meets}
+use Rattle.pearl_gen_expr.proofs.Offered.{frame_at, RowMeets, bind_carries, instr_carries, same_carries, missing_meets}
+use Rattle.pearl_gen_expr.proofs.Offered.{stops_meets}
 use Rattle.pearl_gen_stmt.specs.StmtCode.{WhenAt, LaterAt, MaybeLaterAt, PeriodEndAt, PeriodAt, PriorityAt, ActivateAt, ContinueAt, ResumeAt}
 use Rattle.pearl_gen_stmt.proofs.Single.{asked_meets}
 use Rattle.pearl_gen_stmt.proofs.Flows.{normal_carries}

@@ -23,7 +23,8 @@ use Rattle.pearl_gen_expr.specs.Contexts.{stack, Context, at, IsStoreOf}
 use Rattle.pearl_gen_expr.specs.Carrying.{End, Meets, Carries}
 use Rattle.pearl_gen_expr.specs.ExprCode.{code_of, Is, IsConst}
 use Rattle.pearl_gen_expr.specs.Ends.{on_top, done}
-use Rattle.pearl_gen_expr.proofs.Moves.{offered_from, frame_at, RowMeets, instr_carries, missing_meets, goes_meets, silent_meets, heard_meets, given_meets, needed_meets, makes_meets}
+use Rattle.pearl_gen_expr.proofs.Offered.{offered_from, frame_at, RowMeets, instr_carries, missing_meets, goes_meets}
+use Rattle.pearl_gen_expr.proofs.Offered.{silent_meets, heard_meets, given_meets, needed_meets, makes_meets}
 
 -- what a cell holds, where it is there
 abbrev pub given_value : Option Cell → Does Cell

@@ -40,8 +40,8 @@ use Rattle.pearl_gen_expr.specs.Carrying.{End, Meets, Carries}
 use Rattle.pearl_gen_expr.specs.ExprCode.{code_of, Is, ExprAt}
 use Rattle.pearl_gen_expr.specs.Ends.{on_top, done, IsFlow, flow_stack, ways}
 use Rattle.pearl_gen_expr.specs.Laws.{CodeCarries, ExpressionsCarry}
-use Rattle.pearl_gen_expr.proofs.Moves.{frame_at, RowMeets, bind_carries, gives_carries, instr_carries, missing_meets, goes_meets}
-use Rattle.pearl_gen_expr.proofs.Tables.{signature_is}
+use Rattle.pearl_gen_expr.proofs.Offered.{frame_at, RowMeets, bind_carries, gives_carries, instr_carries, missing_meets}
+use Rattle.pearl_gen_expr.proofs.Offered.{goes_meets, signature_is}
 use Rattle.pearl_gen_stmt.specs.StmtCode.{on_task, BeginsAt, CountsAt, WhileAt, AdvanceAt, ReturnAt, GetAt, StmtAt, StmtsAt, ElseAt, BranchesAt}
 use Rattle.pearl_gen_stmt.specs.Laws.{IsPlaced, LeadsOut}
 use Rattle.pearl_gen_stmt.proofs.Single.{branch_carries}

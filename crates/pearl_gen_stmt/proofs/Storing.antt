@@ -10,7 +10,7 @@ use Rattle.pearl_instructions.specs.declared.instr.Instr.{Instr}
 use Rattle.pearl_instructions.specs.declared.instr.Instr.TheVariants as instr
 use Rattle.pearl_gen_expr.specs.ExprCode.{Is}
 use Rattle.pearl_gen_expr.specs.Emitting.{Extends}
-use Rattle.pearl_gen_expr.proofs.Emitted.{one_longer}
+use Rattle.pearl_gen_expr.proofs.Offered.{one_longer}
 use Rattle.pearl_gen_stmt.specs.StmtCode.{StoresAt, RepeatsAt, RenewAt}
 use Rattle.pearl_gen_stmt.specs.Emission.{Stays, Adds}
 use Rattle.pearl_gen_stmt.proofs.Settling.{one_left}

@@ -29,8 +29,7 @@ use Rattle.pearl_gen_expr.specs.Comes.{offers, or_lost, Comes}
 use Rattle.pearl_gen_expr.specs.Contexts.{stack, Context, at, IsStoreOf}
 use Rattle.pearl_gen_expr.specs.Carrying.{Meets, Carries}
 use Rattle.pearl_gen_expr.specs.Ends.{flow_stack, ways}
-use Rattle.pearl_gen_expr.proofs.Moves.{by_row, missing_from, stopped, from_end, frame_at, row_is}
-use Rattle.pearl_gen_expr.proofs.Tables.{each}
+use Rattle.pearl_gen_expr.proofs.Offered.{by_row, missing_from, stopped, from_end, frame_at, row_is, each}
 use Rattle.pearl_gen_stmt.specs.Laws.{IsPlaced}
 use Rattle.pearl_gen_stmt.specs.Generated.{within_program, IsCode, IsGenerated, TasksCome}
 use Rattle.pearl_gen_stmt.proofs.Named.{stmts_there}

@@ -9,7 +9,7 @@ use Rattle.pearl_value.specs.declared.cell.Cell.{Cell}
 use Rattle.pearl_value.specs.declared.trap.Trap.TheVariants.{Format}
 use Rattle.pearl_format.specs.Items.{data_count, FitsSome}
 use Rattle.pearl_format.specs.Texts.{text_of}
-use Rattle.pearl_format.proofs.Counts.{suits-length}
+use Rattle.pearl_format.proofs.Offered.{suits-length}
 use Rattle.pearl_rules.specs.declared.action.Action.TheVariants as action
 use Rattle.pearl_rules.specs.declared.action.Answer.{Answer}
 use Rattle.pearl_rules.specs.Tables.{items_or_none}
@@ -33,13 +33,14 @@ use Rattle.pearl_meaning.specs.Loops.{Flow, Normal, Return}
 use Rattle.pearl_meaning.specs.Schedules.{acts}
 use Rattle.pearl_meaning.specs.Transfers.{puts_text, delivers, assigns, puts, sends, takes}
 use Rattle.pearl_meaning.specs.Execution.{returns}
-use Rattle.pearl_meaning.proofs.Alike.{Alike, after_same}
+use Rattle.pearl_meaning.proofs.Offered.{Alike, after_same}
 use Rattle.pearl_gen_expr.specs.Contexts.{stack, Context, at, IsStoreOf, pushed}
 use Rattle.pearl_gen_expr.specs.Carrying.{End, Carries}
 use Rattle.pearl_gen_expr.specs.ExprCode.{code_of, Is, ExprAt, WayAt, writing_to}
 use Rattle.pearl_gen_expr.specs.Ends.{on_top, all_on_top, done, IsResult, result_on_top, ways}
 use Rattle.pearl_gen_expr.specs.Laws.{CodeCarries}
-use Rattle.pearl_gen_expr.proofs.Moves.{frame_at, RowMeets, bind_carries, instr_carries, same_carries, stops_meets, given_meets, needed_meets, asks_meets}
+use Rattle.pearl_gen_expr.proofs.Offered.{frame_at, RowMeets, bind_carries, instr_carries, same_carries, stops_meets}
+use Rattle.pearl_gen_expr.proofs.Offered.{given_meets, needed_meets, asks_meets}
 use Rattle.pearl_gen_stmt.specs.StmtCode.{ConvertedAt, AssignAt, TakeAt, DroppedAt, CallOfAt, ReturnAt, PutAt, SendAt}
 use Rattle.pearl_gen_stmt.proofs.Single.{silent_carries, asked_meets, conv_carries}
 use Rattle.pearl_gen_stmt.proofs.Flows.{normal_carries, acts_carries, return_value_carries}

@@ -14,7 +14,7 @@ use Rattle.pearl_gen_expr.specs.Contexts.{stack, Context, at, IsStoreOf}
 use Rattle.pearl_gen_expr.specs.Carrying.{End, Meets, Carries}
 use Rattle.pearl_gen_expr.specs.ExprCode.{code_of, Is}
 use Rattle.pearl_gen_expr.specs.Ends.{IsFlow, flow_stack, ways}
-use Rattle.pearl_gen_expr.proofs.Moves.{offered_from, frame_at, bind_meets, gives_carries, row_within, heard_meets}
+use Rattle.pearl_gen_expr.proofs.Offered.{offered_from, frame_at, bind_meets, gives_carries, row_within, heard_meets}
 use Rattle.pearl_gen_stmt.proofs.Counters.{forked}
 
 module _ (o : Object) (c : Context) (top begin behind past out : ℕ) (returns : Option Kind) (more : Does Bool) (statements : Does Flow) (advance : Does Bool)

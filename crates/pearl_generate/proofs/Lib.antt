@@ -1,6 +1,6 @@
-pub mod Sums
-pub mod SmallerCalls
-pub mod Weights
-pub mod Zips
-pub mod Whole
-pub mod Routines
+mod Sums
+mod SmallerCalls
+mod Weights
+mod Zips
+mod Whole
+mod Routines

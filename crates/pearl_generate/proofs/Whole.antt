@@ -19,7 +19,7 @@ use Rattle.pearl_gen_expr.specs.ExprCode.{Is, instructions_or_none, code_of}
 use Rattle.pearl_gen_expr.specs.Tables.{plain_leaf, head_of, code_head, code_entry}
 use Rattle.pearl_gen_stmt.specs.StmtCode.{StmtsAt}
 use Rattle.pearl_gen_stmt.specs.Generated.{within_program, last_of, IsStated, IsCode, IsGenerated}
-use Rattle.pearl_gen_stmt.proofs.Procedures.{procedure_routine}
+use Rattle.pearl_gen_stmt.proofs.Offered.{procedure_routine}
 use Rattle.pearl_generate.specs.Routines.{IsRoutine, IsProcedure, IsTask}
 use Rattle.pearl_generate.proofs.Zips.{zip_at, zip_maps}
 

@@ -2,7 +2,7 @@ mod Tests
 mod Zips
 mod Ranges
 mod Referred
-mod Offered
+mod OfferedActions
 mod Kept
 mod SoundCells
 mod SoundOperators
@@ -26,9 +26,10 @@ mod ExampleDevices
 mod ExampleRest
 mod Silence
 mod SlotTable
-pub mod Slots
-pub mod Tables
-pub mod FitTables
-pub mod Stands
-pub mod Soon
+mod Slots
+mod Tables
+mod FitTables
+mod Stands
+mod Soon
 mod ExampleRun
+pub mod Offered

@@ -13,7 +13,7 @@ use Rattle.pearl_instructions.specs.Rows.{lowest, own_task, act, instr_at, row}
 use Rattle.pearl_instructions.specs.Stacks.{IsStack, task_of}
 use Rattle.pearl_instructions.specs.Actions.{IsTaskNumber}
 use Rattle.pearl_instructions.specs.Owned.{IsOfTask, own_action, standing, Proceeds, Enters, GoesBack, Moves, Afterwards}
-use Rattle.pearl_instructions.proofs.Offered.{lowest_there, own_there}
+use Rattle.pearl_instructions.proofs.OfferedActions.{lowest_there, own_there}
 use Rattle.pearl_instructions.proofs.Moved.{same_standing, act_leads}
 
 of_lowest : (o : Object) (task : ℕ) (f : Frame) (lower : List Frame) → lowest f lower ≡ length o.procedures + task → IsOfTask o task (f ∷ lower)

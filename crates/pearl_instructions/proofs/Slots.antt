@@ -9,7 +9,7 @@ use Rattle.pearl_value.specs.declared.kind.Kind.{Kind}
 use Rattle.pearl_value.specs.Blanks.{blank_of, last_or}
 use Rattle.pearl_value.specs.Cells.{kind_of}
 use Rattle.pearl_value.specs.WellFormed.{IsValue, IsValueOf}
-use Rattle.pearl_value.proofs.Results.{blank_gives}
+use Rattle.pearl_value.proofs.Offered.{blank_gives}
 use Rattle.pearl_rules.specs.Core.{cell_or_zero, value_at}
 use Rattle.pearl_instructions.specs.declared.object.Leaf.{Leaf}
 use Rattle.pearl_instructions.specs.Lawful.{IsLeaf}

@@ -1,7 +1,7 @@
 -- Each row leads from a stack of a valid object to such stacks only.
 use Rattle.std.proofs.Common.{◌≡◌, ℕ, List, [], ◌∷◌, ◌++◌, Some, length, map, slice_get, refl, subst, ltb-true}
 use Rattle.std.specs.List.{AllByRecursion}
-use Rattle.pearl_value.proofs.Results.{blank_gives}
+use Rattle.pearl_value.proofs.Offered.{blank_gives}
 use Rattle.pearl_rules.specs.declared.action.Action.{Action}
 use Rattle.pearl_rules.specs.declared.action.Answer.{Answer}
 use Rattle.pearl_stack.specs.Frames.{Frame}
@@ -17,7 +17,7 @@ use Rattle.pearl_instructions.specs.Operands.{Shape}
 use Rattle.pearl_instructions.specs.Valid.{shape_before, IsValid}
 use Rattle.pearl_instructions.specs.Stacks.{IsTop, IsStack, task_of, Goes}
 use Rattle.pearl_instructions.specs.Actions.{IsOffered}
-use Rattle.pearl_instructions.proofs.Offered.{interrupt_there, semaphores_there, own_there}
+use Rattle.pearl_instructions.proofs.OfferedActions.{interrupt_there, semaphores_there, own_there}
 use Rattle.pearl_instructions.proofs.Kept.{IsSound, Here, here, goes, given_goes}
 use Rattle.pearl_instructions.proofs.SoundCells.{const_sound, load_sound, drop_sound, store_sound, fill_sound, load_at_sound, store_at_sound, ref_cell_sound, ref_cell_at_sound}
 use Rattle.pearl_instructions.proofs.SoundOperators.{conv_sound, monadic_sound, dyadic_sound, non_zero_sound}

@@ -14,8 +14,7 @@ use Rattle.pearl_value.specs.WellFormed.{IsValue, IsValueOf}
 use Rattle.pearl_format.specs.declared.item.Item.{Item}
 use Rattle.pearl_format.specs.Items.{data_count, text_width}
 use Rattle.pearl_format.specs.Texts.{joined_text, text_of}
-use Rattle.pearl_format.proofs.Texts.{put_text-is_within}
-use Rattle.pearl_format.proofs.Printable.{put_text-printable}
+use Rattle.pearl_format.proofs.Offered.{put_text-is_within, put_text-printable}
 use Rattle.pearl_value.specs.declared.device.Device.{Device}
 use Rattle.pearl_value.specs.declared.device.Device.TheVariants.{Interrupt, Terminal, Input, Output}
 use Rattle.pearl_rules.specs.declared.action.Action.TheVariants as action
@@ -44,7 +43,7 @@ use Rattle.pearl_rules.specs.Tables.{output_kind}
 use Rattle.pearl_instructions.specs.Actions.{IsOf, IsStart, IsOnce, IsLater, IsPut}
 use Rattle.pearl_instructions.proofs.Tests.{and_true, is_some_true, same_cell_true}
 use Rattle.pearl_instructions.proofs.Lists.{scheduled_ends, scheduled_long, kinds_of_values, values_of_kinds, kinds_mapped, all_values}
-use Rattle.pearl_instructions.proofs.Offered.{interrupt_there, writable_there, input_there, not_below}
+use Rattle.pearl_instructions.proofs.OfferedActions.{interrupt_there, writable_there, input_there, not_below}
 use Rattle.pearl_instructions.proofs.Kept.{IsSound, Here, goes, given_goes, needed_goes, popped_goes, taken_goes, traps_goes}
 use Rattle.pearl_instructions.proofs.SoundCells.{if_goes}
 use Rattle.pearl_instructions.proofs.SoundVariables.{asks_goes}

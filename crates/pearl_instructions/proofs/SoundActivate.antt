@@ -30,7 +30,7 @@ use Rattle.pearl_rules.specs.Slots.{IsRepeat}
 use Rattle.pearl_instructions.specs.Actions.{IsPriority}
 use Rattle.pearl_instructions.proofs.Tests.{and_true}
 use Rattle.pearl_instructions.proofs.Lists.{scheduled_ends, scheduled_long}
-use Rattle.pearl_instructions.proofs.Offered.{urgent_there}
+use Rattle.pearl_instructions.proofs.OfferedActions.{urgent_there}
 use Rattle.pearl_instructions.proofs.Kept.{IsSound, Here, goes, taken_goes, traps_goes}
 use Rattle.pearl_instructions.proofs.SoundCells.{if_goes}
 use Rattle.pearl_instructions.proofs.SoundOperators.{fixed_is, fixed_kind}

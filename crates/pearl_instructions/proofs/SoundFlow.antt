@@ -14,7 +14,7 @@ use Rattle.pearl_value.specs.declared.cell.Cell.TheVariants as cell
 use Rattle.pearl_value.specs.Kinds.{IsKind}
 use Rattle.pearl_value.specs.WellFormed.{IsValueOf}
 use Rattle.pearl_value.specs.Conversions.{fits_fixed}
-use Rattle.pearl_value.proofs.Results.{blank_gives}
+use Rattle.pearl_value.proofs.Offered.{blank_gives}
 use Rattle.pearl_stack.specs.Frames.{Frame}
 use Rattle.pearl_instructions.specs.declared.instr.Instr.TheVariants.{Jump, JumpZero, Case, Turn, Call, Return, Within, Advance}
 use Rattle.pearl_instructions.specs.declared.object.Code.{Code}

@@ -31,7 +31,7 @@ use Rattle.pearl_instructions.proofs.Tests.{and_true, or_true}
 use Rattle.pearl_instructions.proofs.Zips.{zip_length, zip_take, zip_drop}
 use Rattle.pearl_instructions.proofs.Ranges.{zip_put}
 use Rattle.pearl_instructions.proofs.Lists.{kinds_of_values, values_suit_cells, are_kinds}
-use Rattle.pearl_instructions.proofs.Offered.{readable_there, items_suited}
+use Rattle.pearl_instructions.proofs.OfferedActions.{readable_there, items_suited}
 use Rattle.pearl_instructions.proofs.Kept.{IsSound, Here, goes, given_goes, needed_goes}
 use Rattle.pearl_instructions.proofs.SoundVariables.{all_of}
 use Rattle.pearl_instructions.proofs.SoundFlow.{all_take, all_drop}

@@ -20,7 +20,7 @@ use Rattle.pearl_value.specs.Rows.{row1, row2}
 use Rattle.pearl_value.specs.Applied.{applied1, applied2}
 use Rattle.pearl_value.specs.Conversions.{converted, suits_kind}
 use Rattle.pearl_value.specs.Laws.{Gives}
-use Rattle.pearl_value.proofs.Results.{keeps_rows1, keeps_rows2, keeps_kinds}
+use Rattle.pearl_value.proofs.Offered.{keeps_rows1, keeps_rows2, keeps_kinds}
 use Rattle.pearl_stack.specs.Frames.{Frame}
 use Rattle.pearl_instructions.specs.declared.instr.Instr.TheVariants.{Conv, NonZero, Monadic, Dyadic}
 use Rattle.pearl_instructions.specs.declared.object.Code.{Code}

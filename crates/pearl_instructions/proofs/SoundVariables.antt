@@ -32,7 +32,7 @@ use Rattle.pearl_instructions.specs.Actions.{IsOf, IsOffered}
 use Rattle.pearl_instructions.proofs.Tests.{same_cell_true}
 use Rattle.pearl_instructions.proofs.Zips.{some_at}
 use Rattle.pearl_instructions.proofs.Referred.{Housed, kinds_is, below_housed, cell_there, top_set}
-use Rattle.pearl_instructions.proofs.Offered.{slot_there}
+use Rattle.pearl_instructions.proofs.OfferedActions.{slot_there}
 use Rattle.pearl_instructions.proofs.Kept.{IsSound, Here, goes, given_goes, popped_goes}
 use Rattle.pearl_instructions.proofs.SoundCells.{within_goes, offset_on_top}
 

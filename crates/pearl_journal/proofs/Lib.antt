@@ -1,11 +1,12 @@
-pub mod JournalLaws
-pub mod TextLaws
-pub mod TextFits
-pub mod ValueFits
-pub mod FitLaws
-pub mod NumberLaws
-pub mod BlankLaws
-pub mod MeaningLaws
-pub mod CodeLaws
-pub mod PieceLaws
-pub mod CutLaws
+mod JournalLaws
+mod TextLaws
+mod TextFits
+mod ValueFits
+mod FitLaws
+mod NumberLaws
+mod BlankLaws
+mod MeaningLaws
+mod CodeLaws
+mod PieceLaws
+mod CutLaws
+pub mod Offered

@@ -18,7 +18,7 @@ use Rattle.pearl_value.specs.WellFormed.{IsLetter, IsValue}
 use Rattle.pearl_rules.specs.Entries.{Becomes, ComesInAt}
 use Rattle.pearl_rules.specs.Literals.{bits_number, clock_literal, fixed_literal, number_literal, span_literal, decimal_number, at_most, behind_blanks, minus}
 use Rattle.pearl_rules.specs.Scan.{fits_span}
-use Rattle.pearl_scan.proofs.Kept.{bits_number-below, clock_below}
+use Rattle.pearl_scan.proofs.Offered.{bits_number-below, clock_below}
 use Rattle.pearl_journal.specs.declared.literals.Literal.{Literal}
 use Rattle.pearl_journal.specs.declared.literals.Literal.TheVariants.{Value, TooLong}
 use Rattle.pearl_journal.specs.Words.{is_blank}

@@ -8,7 +8,7 @@ use Rattle.std.specs.List.{AllByRecursion, prefix_len}
 use Rattle.pearl_rules.specs.Literals.{Amount, behind_digits, front_digits, number_literal, whole_amount, worded}
 use Rattle.pearl_journal.specs.Laws.{IsGap}
 use Rattle.pearl_journal.specs.Words.{behind_blanks, is_blank}
-use Rattle.pearl_journal.proofs.BlankLaws.{behind_blanks-bare, behind_blanks-gap}
+use Rattle.pearl_journal.proofs.Offered.{behind_blanks-bare, behind_blanks-gap}
 use Rattle.pearl_journal_laws.specs.Durations.{IsAmount}
 use Rattle.pearl_journal_laws.specs.Says.{IsDigit}
 use Rattle.pearl_journal_laws.proofs.Numbers.{was_limit}

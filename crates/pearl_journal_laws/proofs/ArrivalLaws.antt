@@ -19,7 +19,7 @@ use Rattle.pearl_journal.specs.Readings.{Reading}
 use Rattle.pearl_journal.specs.Texts.{quoted, text_literal}
 use Rattle.pearl_journal.specs.Values.{coming_in, literal, may_come_in}
 use Rattle.pearl_journal.specs.Words.{behind_word, first_word, number}
-use Rattle.pearl_journal.proofs.BlankLaws.{IsSolid}
+use Rattle.pearl_journal.proofs.Offered.{IsSolid}
 use Rattle.pearl_journal_laws.specs.Literals.{IsLiteral, Spells, SpellsTooMuch}
 use Rattle.pearl_journal_laws.specs.Named.{IsFirst, IsInput, IsInterrupt, IsNowhere, IsReadable}
 use Rattle.pearl_journal_laws.specs.Says.{IsNoNumber, IsNumber, IsText, Says, SaysMore}

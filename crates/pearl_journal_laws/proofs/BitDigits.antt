@@ -7,7 +7,7 @@ use Rattle.std.specs.Char.{digit_value, is_ascii_lowercase}
 use Rattle.std.specs.List.{AllByRecursion, after_first, before_first, list_all, position_or_len}
 use Rattle.std.specs.Str.Parse.{digits_value}
 use Rattle.pearl_rules.specs.Literals.{bits_number, is_bit_digit}
-use Rattle.pearl_scan.proofs.BitLaws.{other_byte}
+use Rattle.pearl_scan.proofs.Offered.{other_byte}
 use Rattle.pearl_value.specs.declared.cell.Cell.{Cell}
 use Rattle.pearl_value.specs.declared.cell.Cell.TheVariants.{Bits}
 use Rattle.pearl_journal.specs.Texts.{is_apostrophe}

@@ -6,7 +6,7 @@ use Rattle.std.specs.Char.{is_ascii_digit}
 use Rattle.pearl_rules.specs.Literals.{Amount, behind_amount, behind_digits, decimal_amount, decimal_value, from_amount, from_hours, from_minutes, from_seconds, front_digits, minus, number_literal, seconds_amount, span_literal, thousandths, whole_amount, worded}
 use Rattle.pearl_journal.specs.Laws.{IsGap}
 use Rattle.pearl_journal.specs.Words.{behind_blanks, is_blank}
-use Rattle.pearl_journal.proofs.BlankLaws.{behind_blanks-bare, behind_blanks-gap}
+use Rattle.pearl_journal.proofs.Offered.{behind_blanks-bare, behind_blanks-gap}
 use Rattle.pearl_journal_laws.specs.Durations.{Begins, IsAmount, IsDecimal, IsHours, IsLengthOfTime, IsMinutes, IsParted, IsSeconds}
 use Rattle.pearl_journal_laws.specs.Says.{IsNumber}
 use Rattle.pearl_journal_laws.proofs.Amounts.{amount, amount_read, behind_is, front_and_behind, front_is, gap_stops, other_word, was_amount, was_worded, word_read}

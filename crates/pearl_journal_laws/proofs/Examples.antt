@@ -20,7 +20,7 @@ use Rattle.pearl_journal.specs.Meaning.{meaning}
 use Rattle.pearl_journal.specs.Readings.{Reading, start}
 use Rattle.pearl_journal.specs.Words.{is_blank, number}
 use Rattle.pearl_journal.specs.Values.{literal}
-use Rattle.pearl_journal.proofs.BlankLaws.{IsSolid, solid_begins, solid_last}
+use Rattle.pearl_journal.proofs.Offered.{IsSolid, solid_begins, solid_last}
 use Rattle.pearl_journal_laws.specs.Literals.{AreBits}
 use Rattle.pearl_journal_laws.specs.Named.{IsFirst, IsInput, IsNowhere, IsReadable}
 use Rattle.pearl_journal_laws.specs.Readings.{behind_lines}

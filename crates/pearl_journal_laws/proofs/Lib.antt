@@ -1,20 +1,20 @@
-pub mod Writing
-pub mod Parting
-pub mod Endings
-pub mod Saying
-pub mod Numbers
-pub mod Finding
-pub mod Texts
-pub mod TimesOfDay
-pub mod Clocks
-pub mod Signs
-pub mod BitDigits
-pub mod Amounts
-pub mod Durations
-pub mod Literals
-pub mod Values
-pub mod Readings
-pub mod StepLaws
-pub mod ArrivalLaws
-pub mod Returns
+mod Writing
+mod Parting
+mod Endings
+mod Saying
+mod Numbers
+mod Finding
+mod Texts
+mod TimesOfDay
+mod Clocks
+mod Signs
+mod BitDigits
+mod Amounts
+mod Durations
+mod Literals
+mod Values
+mod Readings
+mod StepLaws
+mod ArrivalLaws
+mod Returns
 mod Examples

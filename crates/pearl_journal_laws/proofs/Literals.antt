@@ -20,7 +20,7 @@ use Rattle.pearl_journal.specs.Meaning.{needing}
 use Rattle.pearl_journal.specs.Texts.{is_apostrophe, text_literal}
 use Rattle.pearl_journal.specs.Values.{bits_literal, bits_of, coming_in, digit_width, literal, may_come_in}
 use Rattle.pearl_journal.specs.Words.{is_blank}
-use Rattle.pearl_journal.proofs.ValueFits.{LiteralIs, literal-is}
+use Rattle.pearl_journal.proofs.Offered.{LiteralIs, literal-is}
 use Rattle.pearl_journal_laws.specs.Literals.{AreBits, IsLiteral, Spells, SpellsTooMuch}
 use Rattle.pearl_journal_laws.specs.Says.{IsText}
 use Rattle.pearl_journal_laws.proofs.BitDigits.{after_no, reads_bits, were_bits}

@@ -4,7 +4,7 @@ use Rattle.std.proofs.lemmas.Bool.{eqb-true, false≢true}
 use Rattle.std.proofs.lemmas.List.{append-nil, append_assoc}
 use Rattle.pearl_journal.specs.Laws.{EndsInNoReturn, IsComment, IsGap, SaysWordAndText}
 use Rattle.pearl_journal.specs.Words.{is_blank}
-use Rattle.pearl_journal.proofs.BlankLaws.{IsSolid}
+use Rattle.pearl_journal.proofs.Offered.{IsSolid}
 use Rattle.pearl_journal_laws.specs.Says.{Says, SaysMore}
 
 -- ENDS

@@ -11,8 +11,8 @@ use Rattle.pearl_journal.specs.Laws.{IsBare, IsGap}
 use Rattle.pearl_journal.specs.Meaning.{form_of, in_time, line_of, meaning, needing}
 use Rattle.pearl_journal.specs.Readings.{Reading}
 use Rattle.pearl_journal.specs.Words.{behind_word, behind_blanks, first_word}
-use Rattle.pearl_journal.proofs.BlankLaws.{IsSolid, StopsWord, after_first-word, before_first-word, behind_blanks-bare, behind_blanks-gap}
-use Rattle.pearl_journal.proofs.MeaningLaws.{blanks_free}
+use Rattle.pearl_journal.proofs.Offered.{IsSolid, StopsWord, after_first-word, before_first-word, behind_blanks-bare}
+use Rattle.pearl_journal.proofs.Offered.{behind_blanks-gap, blanks_free}
 use Rattle.pearl_journal_laws.specs.Says.{Says, SaysMore}
 
 -- WORDS

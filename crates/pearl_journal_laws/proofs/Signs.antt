@@ -6,7 +6,7 @@ use Rattle.std.specs.List.{prefix_len}
 use Rattle.pearl_rules.specs.Literals.{fixed_literal, minus, number_literal}
 use Rattle.pearl_journal.specs.Laws.{IsGap}
 use Rattle.pearl_journal.specs.Words.{behind_blanks, is_blank}
-use Rattle.pearl_journal.proofs.BlankLaws.{behind_blanks-bare, behind_blanks-gap}
+use Rattle.pearl_journal.proofs.Offered.{behind_blanks-bare, behind_blanks-gap}
 use Rattle.pearl_journal_laws.specs.Literals.{IsSigned}
 use Rattle.pearl_journal_laws.specs.Says.{IsNumber}
 use Rattle.pearl_journal_laws.proofs.Numbers.{limit_is, was_limit}

@@ -13,7 +13,7 @@ use Rattle.pearl_journal.specs.Entries.{after}
 use Rattle.pearl_journal.specs.Meaning.{clock_entry, form_of, meaning, needing, state_entry, turn_entry}
 use Rattle.pearl_journal.specs.Readings.{Reading}
 use Rattle.pearl_journal.specs.Words.{number, task_named}
-use Rattle.pearl_journal.proofs.FitLaws.{meaning-fits, moment_after-late}
+use Rattle.pearl_journal.proofs.Offered.{meaning-fits, moment_after-late}
 use Rattle.pearl_journal_laws.specs.Named.{IsFirst, IsNamed, IsNowhere}
 use Rattle.pearl_journal_laws.specs.Says.{IsNoNumber, IsNumber, IsOther, Says, SaysMore}
 use Rattle.pearl_journal_laws.specs.Times.{IsTimeOfDay}

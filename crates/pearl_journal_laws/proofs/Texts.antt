@@ -2,8 +2,7 @@
 use Rattle.std.proofs.Common.{◌≡◌, ◌≢◌, ℕ, List, [], ◌∷◌, Option, Some, None, refl, ap, ◌∙◌, subst}
 use Rattle.std.specs.Prelude.{IfSome}
 use Rattle.pearl_journal.specs.Texts.{if_some, quoted, text_literal}
-use Rattle.pearl_journal.proofs.TextFits.{IsShort, quoted-short}
-use Rattle.pearl_journal.proofs.TextLaws.{quoted_only, quoted_read}
+use Rattle.pearl_journal.proofs.Offered.{IsShort, quoted-short, quoted_only, quoted_read}
 use Rattle.pearl_journal_laws.specs.Says.{IsText}
 
 pub text_is : (spelled text : List ℕ) → IsText spelled text → quoted spelled ≡ Some text

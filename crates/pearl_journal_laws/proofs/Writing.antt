@@ -2,7 +2,7 @@
 use Rattle.std.proofs.Common.{◌≡◌, ◌≢◌, ◌≤◌, ℕ, List, [], ◌∷◌, ◌++◌, length, refl, ap, sym, ◌∙◌, subst}
 use Rattle.std.proofs.lemmas.List.{append-nil, append_assoc}
 use Rattle.pearl_journal.specs.Laws.{EndsInNoReturn, IsBare, IsWord}
-use Rattle.pearl_journal.proofs.BlankLaws.{IsSolid, solid_begins}
+use Rattle.pearl_journal.proofs.Offered.{IsSolid, solid_begins}
 use Rattle.pearl_journal_laws.specs.Says.{Says, SaysMore}
 
 -- LAST BYTES

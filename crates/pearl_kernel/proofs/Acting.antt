@@ -13,7 +13,7 @@ use Rattle.pearl_rules.specs.Devices.{bytes_in, values_in}
 use Rattle.pearl_rules.specs.Effect.{effect}
 use Rattle.pearl_rules.specs.Pick.{guard, is_possible, is_ready, is_ready_row, pick}
 use Rattle.pearl_rules.specs.Runs.{dropped, kept_at}
-use Rattle.pearl_rules.proofs.PickLaws.{picked}
+use Rattle.pearl_rules.proofs.Offered.{picked}
 use Rattle.pearl_kernel.specs.Kept.{Kept, offered, done, IsLawful}
 use Rattle.pearl_kernel.specs.Whole.{IsWhole, IsOfTasks}
 use Rattle.pearl_kernel.specs.Eligible.{possible, entry, entry_if, Stand, is_told, able_at, IsSameAt, IsStandOf}

@@ -15,8 +15,7 @@ use Rattle.pearl_rules.specs.Pick.{is_ready, is_ready_row, is_possible, priority
 use Rattle.pearl_rules.specs.Runs.{kept_at}
 use Rattle.pearl_rules.specs.Slots.{IsPlannedRow}
 use Rattle.pearl_rules.specs.Tables.{IsSetup}
-use Rattle.pearl_rules.proofs.EffectLaws.{opening-kinds}
-use Rattle.pearl_rules.proofs.UrgencyLaws.{opening-urgencies}
+use Rattle.pearl_rules.proofs.Offered.{opening-kinds, opening-urgencies}
 use Rattle.pearl_kernel.specs.Kept.{Kept, at_start, IsReportOf, IsLawful}
 use Rattle.pearl_kernel.specs.Whole.{IsWhole}
 use Rattle.pearl_kernel.specs.Eligible.{entry, number_if, Stand}

@@ -19,16 +19,17 @@ use Rattle.pearl_rules.specs.Plans.{millisecond}
 use Rattle.pearl_rules.specs.Slots.{Fits, HasCounts, IsChannelOf}
 use Rattle.pearl_rules.specs.Tables.{IsInterrupt}
 use Rattle.pearl_rules.specs.Entries.{IsFitting}
-use Rattle.pearl_rules.proofs.CountLaws.{effect-counts, millisecond-counts, arrived-counts}
-use Rattle.pearl_rules.proofs.EffectLaws.{effect-length, effect-kinds, millisecond-length, millisecond-kinds, arrived-length, arrived-kinds}
-use Rattle.pearl_rules.proofs.UrgencyLaws.{effect-urgencies, millisecond-urgencies, arrived-urgencies, effect-plans, millisecond-plans, arrived-plans}
+use Rattle.pearl_rules.proofs.Offered.{effect-counts, millisecond-counts, arrived-counts, effect-length, effect-kinds}
+use Rattle.pearl_rules.proofs.Offered.{millisecond-length, millisecond-kinds, arrived-length, arrived-kinds}
+use Rattle.pearl_rules.proofs.Offered.{effect-urgencies, millisecond-urgencies, arrived-urgencies, effect-plans}
+use Rattle.pearl_rules.proofs.Offered.{millisecond-plans, arrived-plans, Closed, ClosedAtEnds, IsFree, Brings, Starts}
+use Rattle.pearl_rules.proofs.Offered.{effect-free, arrived-kept, interrupted-kept, millisecond-kept}
 use Rattle.pearl_kernel.specs.Kept.{Kept, done, taken, IsReportOf, IsToldNext, NamesWhatIsThere, IsLawful}
 use Rattle.pearl_rules.specs.Laws.{passed}
 use Rattle.pearl_kernel.specs.Timing.{IsQuiet}
 use Rattle.pearl_kernel.proofs.Passing.{passed-quiet}
 use Rattle.pearl_kernel.proofs.Places.{some-before, some-dropped, dropped-length}
 use Rattle.pearl_kernel.proofs.Quiet.{quiet-less, quiet-after, quiet-interrupted, quiet-millisecond, quiet-arrived}
-use Rattle.pearl_rules.proofs.Serving.{Closed, ClosedAtEnds, IsFree, Brings, Starts, effect-free, arrived-kept, interrupted-kept, millisecond-kept}
 use Rattle.pearl_kernel.proofs.Told.{reports-after, reports-interrupted, reports-millisecond, reports-arrived}
 
 -- THE MOMENT

@@ -1,19 +1,20 @@
-pub mod Events
-pub mod Places
-pub mod Rows
-pub mod Planned
-pub mod Passing
-pub mod OneTask
-pub mod Naming
-pub mod Waiting
-pub mod Entries
-pub mod Changing
-pub mod Touching
-pub mod Renewing
-pub mod Quiet
-pub mod Told
-pub mod Lawful
-pub mod Picking
-pub mod Acting
-pub mod Offering
-pub mod AtStart
+mod Events
+mod Places
+mod Rows
+mod Planned
+mod Passing
+mod OneTask
+mod Naming
+mod Waiting
+mod Entries
+mod Changing
+mod Touching
+mod Renewing
+mod Quiet
+mod Told
+mod Lawful
+mod Picking
+mod Acting
+mod Offering
+mod AtStart
+pub mod Offered

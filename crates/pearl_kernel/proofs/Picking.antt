@@ -7,7 +7,7 @@ use Rattle.pearl_rules.specs.Core.{Core}
 use Rattle.pearl_rules.specs.Pick.{is_eligible, is_as_urgent, can_turn, priority_of, is_last_of, goes_before, better_if}
 use Rattle.pearl_rules.specs.Pick.{better, pick_first, pick}
 use Rattle.pearl_ready.specs.Best as set
-use Rattle.pearl_rules.proofs.PickLaws.{picked}
+use Rattle.pearl_rules.proofs.Offered.{picked}
 use Rattle.pearl_kernel.specs.Kept.{Kept, offered}
 use Rattle.pearl_kernel.specs.Eligible.{entry, number_if, IsSetOf}
 

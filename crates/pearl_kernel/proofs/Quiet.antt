@@ -17,7 +17,8 @@ use Rattle.pearl_rules.specs.Effect.{getting, taking}
 use Rattle.pearl_rules.specs.Plans.{on_row, millisecond}
 use Rattle.pearl_rules.specs.Runs.{dropped, kept_at}
 use Rattle.pearl_rules.specs.Scan.{Scanned, Short, Bad, Got, scan}
-use Rattle.pearl_rules.proofs.Serving.{Stays, Starts, Closed, IsFree, arrived-kept, mark-kept, activated-kept, continues-kept, resuming-kept, interrupted-kept, millisecond-kept}
+use Rattle.pearl_rules.proofs.Offered.{Stays, Starts, Closed, IsFree, arrived-kept, mark-kept, activated-kept}
+use Rattle.pearl_rules.proofs.Offered.{continues-kept, resuming-kept, interrupted-kept, millisecond-kept}
 use Rattle.pearl_kernel.proofs.Places.{none-less}
 
 abbrev pub Quiet : List TaskRow → List (Option Action) → Type 0

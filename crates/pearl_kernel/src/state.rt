@@ -32,11 +32,11 @@ ghost use Rattle.pearl_kernel.specs.Changes.{renewed, renewed_offer};
 use crate::bid::Bid;
 use crate::changes::{Changed, looks_at};
 use crate::channel::Channel;
+use crate::happened::Told;
 use crate::mirror::keep_row;
 use crate::opening::{
     copied_formats, first_channels, first_rows, first_values, no_offers, tell_starts,
 };
-use crate::happened::Told;
 use arrayvec::ArrayVec;
 use pearl_cells::put::put_copy;
 use pearl_exchange::offer::{Offer, What};

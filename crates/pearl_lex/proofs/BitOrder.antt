@@ -6,7 +6,7 @@ use Rattle.std.proofs.Math.Nat.{add-mul, mul_assoc}
 use Rattle.std.proofs.Math.Seq.{take-append_seam}
 use Rattle.pearl_tree.specs.declared.token.What.TheVariants as what
 use Rattle.pearl_value.specs.BitLists.{bits_of, number_of}
-use Rattle.pearl_value.proofs.BitNumbers.{number-append, number-bits, bits-number, length-bits}
+use Rattle.pearl_value.proofs.Offered.{number-append, number-bits, bits-number, length-bits}
 use Rattle.pearl_lex.specs.Laws.{digit_bits, BitsAreTheirDigits, TakesBitsInOrder}
 use Rattle.pearl_lex.specs.Quoted.{digit_value, bits_value}
 use Rattle.pearl_lex.specs.Spells.{SpellsBits, BeginsToken}

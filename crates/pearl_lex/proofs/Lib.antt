@@ -1,19 +1,20 @@
-pub mod Values
-pub mod Lexing
-pub mod BitsRoom
-pub mod Chars
-pub mod WordMeaning
-pub mod Passes
-pub mod Lawful
-pub mod Unique
-pub mod LawfulTokens
-pub mod Runs
-pub mod Numerals
-pub mod NumeralSizes
-pub mod Names
-pub mod Widths
-pub mod QuotedTokens
-pub mod OneMeaning
-pub mod LongestFront
-pub mod Spaces
-pub mod BitOrder
+mod Values
+mod Lexing
+mod BitsRoom
+mod Chars
+mod WordMeaning
+mod Passes
+mod Lawful
+mod Unique
+mod LawfulTokens
+mod Runs
+mod Numerals
+mod NumeralSizes
+mod Names
+mod Widths
+mod QuotedTokens
+mod OneMeaning
+mod LongestFront
+mod Spaces
+mod BitOrder
+pub mod Offered

@@ -9,9 +9,7 @@ use Rattle.pearl_rules.specs.Core.{is_active, is_active_row}
 use Rattle.pearl_rules.specs.Pick.{turned}
 use Rattle.pearl_rules.specs.Effect.{Reply, Hears, Ends, effect}
 use Rattle.pearl_rules.specs.Runs.{Running, kept, kept_at, refreshed, dropped, answered, fresh}
-use Rattle.pearl_rules.proofs.EffectLaws.{effect-length, effect-answers}
-use Rattle.pearl_rules.proofs.EndsLaws.{effect-ends}
-use Rattle.pearl_rules.proofs.PickLaws.{picked, eligible_within, turned-is}
+use Rattle.pearl_rules.proofs.Offered.{effect-length, effect-answers, effect-ends, picked, eligible_within, turned-is}
 use Rattle.pearl_stack.specs.Frames.{Frame}
 use Rattle.pearl_instructions.specs.declared.object.Object.{Object}
 use Rattle.pearl_instructions.specs.Lawful.{IsObject}

@@ -12,9 +12,8 @@ use Rattle.pearl_rules.specs.Plans.{millisecond}
 use Rattle.pearl_rules.specs.Effect.{Reply}
 use Rattle.pearl_rules.specs.Pick.{pick, turned, states, shown_of}
 use Rattle.pearl_rules.specs.Runs.{Turns, Tells, Passes, Arrives, machine_offers, machine_step, unsettled}
-use Rattle.pearl_rules.proofs.PickLaws.{states-offers}
-use Rattle.pearl_rules.proofs.EffectLaws.{millisecond-length, arrived-length}
-use Rattle.pearl_rules.proofs.ToldLaws.{millisecond-told_before, arrived-told_before}
+use Rattle.pearl_rules.proofs.Offered.{states-offers, millisecond-length, arrived-length, millisecond-told_before}
+use Rattle.pearl_rules.proofs.Offered.{arrived-told_before}
 use Rattle.pearl_instructions.specs.declared.object.Object.{Object}
 use Rattle.pearl_instructions.specs.Engines.{engine}
 use Rattle.pearl_instructions.specs.Setups.{setup_of}
@@ -23,7 +22,7 @@ use Rattle.pearl_script.specs.Words.{task_name}
 use Rattle.pearl_kernel.specs.Kept as kernel
 use Rattle.pearl_rules.specs.Laws.{passed}
 use Rattle.pearl_kernel.specs.Timing.{IsQuiet}
-use Rattle.pearl_kernel.proofs.Passing.{passed-quiet}
+use Rattle.pearl_kernel.proofs.Offered.{passed-quiet}
 use Rattle.pearl_kernel.specs.Kept.{Kept, IsLawful, IsToldNext, AllSettled, IsFirst, offered, taken}
 use Rattle.pearl_machine.specs.Parts.{going_frames, is_going, start_of, running_of, StepsPart, SettlesPart}
 use Rattle.pearl_machine.specs.Ready.{IsReady, untold, seen_of}

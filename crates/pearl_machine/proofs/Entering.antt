@@ -8,10 +8,10 @@ use Rattle.pearl_rules.specs.declared.entry.Entry.TheVariants.{Run, Tick, Pass, 
 use Rattle.pearl_rules.specs.declared.setup.Setup.{Setup}
 use Rattle.pearl_rules.specs.Core.{Report}
 use Rattle.pearl_rules.specs.Pick.{states}
-use Rattle.pearl_rules.proofs.PickLaws.{states-offers}
+use Rattle.pearl_rules.proofs.Offered.{states-offers}
 use Rattle.pearl_rules.specs.Runs.{Turns, Tells, Arrives, next_mark, machine_offers, Running, kept_at, stepped, unsettled, machine_step}
 use Rattle.pearl_io.specs.Outside.{Takes, TakesFront}
-use Rattle.pearl_io.proofs.Pieces.{takes_more, takes_front_more}
+use Rattle.pearl_io.proofs.Offered.{takes_more, takes_front_more}
 use Rattle.pearl_stack.specs.Frames.{Frame}
 use Rattle.pearl_instructions.specs.declared.object.Object.{Object}
 use Rattle.pearl_instructions.specs.Rows.{row}

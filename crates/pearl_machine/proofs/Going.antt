@@ -5,7 +5,7 @@ use Rattle.pearl_rules.specs.declared.entry.Entry.{Entry}
 use Rattle.pearl_rules.specs.declared.entry.Entry.TheVariants.{Run, Tick, Pass, Turn, State}
 use Rattle.pearl_rules.specs.Core.{Report}
 use Rattle.pearl_rules.specs.Runs.{Mark, Acts, Turns, Tells, Passes, Arrives, Coming, next_mark, machine_offers, machine_next, machine_after, unsettled}
-use Rattle.pearl_rules.proofs.PickLaws.{pick-offers}
+use Rattle.pearl_rules.proofs.Offered.{pick-offers}
 use Rattle.pearl_stack.specs.Frames.{Frame}
 use Rattle.pearl_instructions.specs.Engines.{engine}
 use Rattle.pearl_machine.specs.Seen.{Seen, at, retold, later, picked, SameNext, Goes, Handles, IsUnsettled, SettlesFirst, Makes, ActsFirst, NobodyActs, Skips, PassesSome}

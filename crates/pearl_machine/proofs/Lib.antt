@@ -1,18 +1,19 @@
-pub mod Listed
-pub mod Rows
-pub mod Steps
-pub mod Places
-pub mod Marking
-pub mod Owned
-pub mod Taken
-pub mod ReadyLaws
-pub mod LastValue
-pub mod Going
-pub mod Making
-pub mod Acting
-pub mod Passing
-pub mod Loading
-pub mod Entering
-pub mod Last
-pub mod Calls
-pub mod Moments
+mod Listed
+mod Rows
+mod Steps
+mod Places
+mod Marking
+mod Owned
+mod Taken
+mod ReadyLaws
+mod LastValue
+mod Going
+mod Making
+mod Acting
+mod Passing
+mod Loading
+mod Entering
+mod Last
+mod Calls
+mod Moments
+pub mod Offered

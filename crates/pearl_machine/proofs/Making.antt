@@ -7,9 +7,8 @@ use Rattle.pearl_rules.specs.Core.{Core, Report, is_active, told_before}
 use Rattle.pearl_rules.specs.Pick.{pick, turned, states}
 use Rattle.pearl_rules.specs.Effect.{Reply, Effect, effect}
 use Rattle.pearl_rules.specs.Runs.{Running, Machine, Acts, Turns, Tells, kept_at, dropped, offer_of, machine_offers, machine_acts, machine_does, machine_settled, answered}
-use Rattle.pearl_rules.proofs.EffectLaws.{effect-length}
-use Rattle.pearl_rules.proofs.PickLaws.{pick-offers, states-offers, turned-is}
-use Rattle.pearl_rules.proofs.ToldLaws.{effect-told_before, turned-told_before}
+use Rattle.pearl_rules.proofs.Offered.{effect-length, pick-offers, states-offers, turned-is, effect-told_before}
+use Rattle.pearl_rules.proofs.Offered.{turned-told_before}
 use Rattle.pearl_stack.specs.Frames.{Frame}
 use Rattle.pearl_instructions.specs.declared.object.Object.{Object}
 use Rattle.pearl_instructions.specs.Engines.{engine}

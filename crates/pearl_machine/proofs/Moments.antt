@@ -8,7 +8,8 @@ use Rattle.pearl_rules.specs.Core.{Core}
 use Rattle.pearl_rules.specs.Devices.{arrived}
 use Rattle.pearl_rules.specs.Effect.{effect}
 use Rattle.pearl_rules.specs.Plans.{millisecond}
-use Rattle.pearl_rules.proofs.Serving.{Closed, ClosedAtEnds, IsFree, Starts, Brings, millisecond-kept, arrived-kept, effect-free}
+use Rattle.pearl_rules.proofs.Offered.{Closed, ClosedAtEnds, IsFree, Starts, Brings, millisecond-kept, arrived-kept}
+use Rattle.pearl_rules.proofs.Offered.{effect-free}
 
 abbrev AnyPriority : ℕ → Type 0
 AnyPriority priority = Unit {0}

@@ -23,7 +23,7 @@ use Rattle.pearl_instructions.specs.Valid.{keep, judged_at, judged_whole, is_clo
 use Rattle.pearl_instructions.specs.Engines.{engine}
 use Rattle.pearl_instructions.specs.Owners.{IsStackOf, StandsIn}
 use Rattle.pearl_instructions.specs.Setups.{setup_of}
-use Rattle.pearl_instructions.proofs.Stands.{offers_is}
+use Rattle.pearl_instructions.proofs.Offered.{offers_is}
 use Rattle.pearl_solo.specs.Answered.{CanHear}
 use Rattle.pearl_machine.specs.declared.part.Part.{Part}
 use Rattle.pearl_machine.specs.Known.{Known}

@@ -6,14 +6,14 @@ use Rattle.pearl_rules.specs.declared.setup.Setup.{Setup}
 use Rattle.pearl_rules.specs.Core.{Core, Report, is_active, told_before}
 use Rattle.pearl_rules.specs.Plans.{millisecond}
 use Rattle.pearl_rules.specs.Runs.{Running, Machine, Mark, Passes, kept, kept_at, refreshed, fresh, machine_mark, machine_settled}
-use Rattle.pearl_rules.proofs.ToldLaws.{millisecond-told_before}
+use Rattle.pearl_rules.proofs.Offered.{millisecond-told_before}
 use Rattle.pearl_stack.specs.Frames.{Frame}
 use Rattle.pearl_instructions.specs.declared.object.Object.{Object}
 use Rattle.pearl_instructions.specs.Engines.{engine}
 use Rattle.pearl_instructions.specs.Setups.{setup_of}
 use Rattle.pearl_kernel.specs.Kept.{Kept, IsLawful, AllSettled, offered}
 use Rattle.pearl_kernel.specs.Timing.{IsQuiet}
-use Rattle.pearl_kernel.proofs.Passing.{millisecond-silent}
+use Rattle.pearl_kernel.proofs.Offered.{millisecond-silent}
 use Rattle.pearl_machine.specs.Known.{Known}
 use Rattle.pearl_machine.specs.Parts.{start_of, is_going, running_of}
 use Rattle.pearl_machine.specs.Ready.{IsReady, AllStand, seen_of}

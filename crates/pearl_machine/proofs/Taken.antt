@@ -6,9 +6,9 @@ use Rattle.pearl_rules.specs.declared.setup.Setup.{Setup}
 use Rattle.pearl_rules.specs.Core.{Core, Report, Shows}
 use Rattle.pearl_rules.specs.Pick.{Offered, shown_of, states_first, states}
 use Rattle.pearl_io.specs.Outside.{Takes, TakesFront}
-use Rattle.pearl_io.proofs.Pieces.{takes_more}
+use Rattle.pearl_io.proofs.Offered.{takes_more}
 use Rattle.pearl_script.specs.Lines.{report_line, lines_of}
-use Rattle.pearl_script.proofs.LineLemmas.{lines_of-append, lines_of-next}
+use Rattle.pearl_script.proofs.Offered.{lines_of-append, lines_of-next}
 use Rattle.pearl_machine.specs.Parts.{table}
 use Rattle.pearl_machine.specs.Seen.{Seen, retold}
 use Rattle.pearl_machine.specs.Told.{IsCutOff}

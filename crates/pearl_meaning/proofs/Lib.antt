@@ -1,13 +1,13 @@
-pub mod Examples
-pub mod Uses
-pub mod Turning
-pub mod Alike
-pub mod ExpressionsAlike
-pub mod StatementsAlike
-pub mod CallsAlike
-pub mod ExpressionsUse
-pub mod StatementsUse
-pub mod HeardUses
+mod Examples
+mod Uses
+mod Turning
+mod Alike
+mod ExpressionsAlike
+mod StatementsAlike
+mod CallsAlike
+mod ExpressionsUse
+mod StatementsUse
+mod HeardUses
 mod ExampleValues
 mod ExampleLoops
 mod ExampleCalls
@@ -16,3 +16,4 @@ mod ExampleDevices
 mod ExamplePlant
 mod ExampleEdges
 mod ExampleHearing
+pub mod Offered

@@ -1,22 +1,23 @@
 pub mod Lists
-pub mod StatementRows
+mod StatementRows
 pub mod Collecting
 pub mod Sorting
-pub mod DeclLists
-pub mod FirstNames
-pub mod Repeating
-pub mod HeldAt
-pub mod Holding
-pub mod Laid
-pub mod Counting
-pub mod Standing
-pub mod Building
-pub mod FieldsMade
-pub mod Sized
-pub mod TypesMade
-pub mod Steps
+mod DeclLists
+mod FirstNames
+mod Repeating
+mod HeldAt
+mod Holding
+mod Laid
+mod Counting
+mod Standing
+mod Building
+mod FieldsMade
+mod Sized
+mod TypesMade
+mod Steps
 mod Outers
-pub mod Examples
-pub mod KindSets
-pub mod ShapeSlots
-pub mod Walking
+mod Examples
+mod KindSets
+mod ShapeSlots
+mod Walking
+pub mod Offered

@@ -10,10 +10,9 @@ use Rattle.pearl_tree.specs.Stops.{BeginAlike}
 use Rattle.pearl_parse_expr.specs.declared.reading.Halt.{Halt}
 use Rattle.pearl_parse_expr.specs.declared.reading.Halt.TheVariants.{Refused, NoMemory}
 use Rattle.pearl_parse_expr.specs.Stops.{IsLongest, IsOnly, EndsEarly, IsHalted, is_word}
-use Rattle.pearl_parse_expr.proofs.Primaries.{clash}
-use Rattle.pearl_parse_expr.proofs.Parts.{shorter}
+use Rattle.pearl_parse_expr.proofs.Offered.{clash, shorter}
 use Rattle.pearl_parse_decl.specs.Readings.{by_comma}
-use Rattle.pearl_parse_decl.proofs.Lists.{settled}
+use Rattle.pearl_parse_decl.proofs.Offered.{settled}
 use Rattle.pearl_parse.specs.Stops.{SpellsBefore}
 
 -- a list that isn't missing

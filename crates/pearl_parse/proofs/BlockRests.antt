@@ -13,7 +13,7 @@ use Rattle.pearl_tree.specs.declared.word_code.TheConstants as w
 use Rattle.pearl_parse_expr.specs.declared.reading.Halt.{Halt}
 use Rattle.pearl_parse_expr.specs.declared.reading.Halt.TheVariants.{Refused, NoMemory}
 use Rattle.pearl_parse_expr.specs.Stops.{IsLongest, IsHalted, is_word}
-use Rattle.pearl_parse_expr.proofs.Parts.{shorter}
+use Rattle.pearl_parse_expr.proofs.Offered.{shorter}
 use Rattle.pearl_parse_decl.specs.Readings.{by_bracket, extends_head}
 use Rattle.pearl_parse_decl.specs.Readings as readings
 use Rattle.pearl_parse.specs.Bodies.{extends_body}

@@ -26,7 +26,7 @@ use Rattle.pearl_tree.specs.Statements.{SpellsAfter, SpellsFor, SpellsStart, Spe
 use Rattle.pearl_tree.specs.Statements.{sema_word, interrupt_word}
 use Rattle.pearl_tree.specs.declared.symbol.TheConstants as s
 use Rattle.pearl_tree.specs.declared.word_code.TheConstants as w
-use Rattle.pearl_tree.proofs.OneStatement.{group_of}
+use Rattle.pearl_tree.proofs.Offered.{group_of}
 use Rattle.pearl_parse.specs.Stops.{begins_statement}
 
 abbrev pub group : Stmt → ℕ

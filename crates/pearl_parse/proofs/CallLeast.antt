@@ -9,13 +9,12 @@ use Rattle.pearl_tree.specs.Expressions.{SpellsWhole, SpellsOwnRef}
 use Rattle.pearl_tree.specs.Statements.{SpellsValue, HasBecomes}
 use Rattle.pearl_tree.specs.declared.symbol.TheConstants as s
 use Rattle.pearl_tree.specs.declared.word_code.TheConstants as w
-use Rattle.pearl_parse_expr.proofs.Reaching.{IsLocal}
-use Rattle.pearl_parse_decl.proofs.LocalLists.{local_of, maybe_keeps, list_keeps}
-use Rattle.pearl_parse_decl.proofs.LocalDeclarations.{whole_keeps}
+use Rattle.pearl_parse_expr.proofs.Offered.{IsLocal}
+use Rattle.pearl_parse_decl.proofs.Offered.{local_of, maybe_keeps, list_keeps, whole_keeps}
 use Rattle.pearl_parse_expr.specs.declared.reading.Halt.{Halt}
 use Rattle.pearl_parse_expr.specs.Stops.{IsHalted}
 use Rattle.pearl_parse_expr.specs.Least.{AlikeBefore, GoesIn, HaltsIn}
-use Rattle.pearl_parse_expr.proofs.Local as local
+use Rattle.pearl_parse_expr.proofs.Offered as local
 use Rattle.pearl_parse.specs.Reached.{GoesBehind, HaltsBehind}
 use Rattle.pearl_parse.specs.Calls.{SpellsArguments}
 use Rattle.pearl_parse.proofs.Steps.{Rest, Ends, Then}

@@ -15,16 +15,14 @@ use Rattle.pearl_tree.specs.Expressions.{SpellsWhole, SpellsSelector}
 use Rattle.pearl_tree.specs.Statements.{SpellsStmt, SpellsValue}
 use Rattle.pearl_tree.specs.declared.symbol.TheConstants as s
 use Rattle.pearl_tree.specs.declared.word_code.TheConstants as w
-use Rattle.pearl_tree.proofs.ExpressionLists.{spells_subscripts}
-use Rattle.pearl_tree.proofs.OneStatement.{group_of}
+use Rattle.pearl_tree.proofs.Offered.{spells_subscripts, group_of}
 use Rattle.pearl_parse_expr.specs.declared.reading.Halt.{Halt}
 use Rattle.pearl_parse_expr.specs.declared.reading.Halt.TheVariants.{Refused, NoMemory}
 use Rattle.pearl_parse_expr.specs.Stops.{IsLongest, Stuck, EndsEarly, IsHalted, extends_expression, extends_operand}
 use Rattle.pearl_parse_expr.specs.Stops.{is_name, is_symbol}
-use Rattle.pearl_parse_expr.proofs.Primaries.{clash}
-use Rattle.pearl_parse_expr.proofs.Parts.{shorter}
+use Rattle.pearl_parse_expr.proofs.Offered.{clash, shorter}
 use Rattle.pearl_parse_decl.specs.Readings.{by_comma}
-use Rattle.pearl_parse_decl.proofs.Lists.{settled}
+use Rattle.pearl_parse_decl.proofs.Offered.{settled}
 use Rattle.pearl_parse.specs.Stops.{SpellsOwnNamed}
 use Rattle.pearl_parse.specs.Calls.{SpellsOptionalValue, SpellsArguments, is_becomes}
 use Rattle.pearl_parse.proofs.ByFirst.{group, of_kind}

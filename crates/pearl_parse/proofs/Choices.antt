@@ -10,8 +10,7 @@ use Rattle.pearl_tree.specs.declared.word_code.TheConstants as w
 use Rattle.pearl_tree.specs.Stops.{BeginAlike}
 use Rattle.pearl_parse_expr.specs.declared.reading.Halt.TheVariants.{Refused}
 use Rattle.pearl_parse_expr.specs.Stops.{IsLongest, EndsEarly, is_word}
-use Rattle.pearl_parse_expr.proofs.Primaries.{clash}
-use Rattle.pearl_parse_expr.proofs.Parts.{shorter, or_second}
+use Rattle.pearl_parse_expr.proofs.Offered.{clash, shorter, or_second}
 use Rattle.pearl_parse.specs.Stops.{IsStopped, begins_statement}
 use Rattle.pearl_parse.specs.Bodies.{extends_alternatives, SpellsHeaded, SpellsChoices}
 

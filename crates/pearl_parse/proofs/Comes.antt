@@ -9,9 +9,8 @@ use Rattle.pearl_tree.specs.declared.token.What.TheVariants as what
 use Rattle.pearl_tree.specs.declared.token.Token.{Token}
 use Rattle.pearl_tree.specs.Standing.{Spelling, what_at, HasWord, HasSymbol, IsName, SpellsName, SpellsMaybe}
 use Rattle.pearl_parse_expr.specs.Least.{AlikeBefore, LawfulFrom, ReachesIn}
-use Rattle.pearl_parse_expr.proofs.Local as local
-use Rattle.pearl_parse_expr.proofs.Ids.{x_name, x_token, x_lawful}
-use Rattle.pearl_parse_expr.proofs.Reaching.{begun, begun_alike, order, IsLocal, token_of}
+use Rattle.pearl_parse_expr.proofs.Offered as local
+use Rattle.pearl_parse_expr.proofs.Offered.{x_name, x_token, x_lawful, begun, begun_alike, order, IsLocal, token_of}
 use Rattle.pearl_parse.proofs.Steps.{Rest, Ends, Then}
 
 -- tokens that are these before number k, and at most n lawful ones behind, which make this rest

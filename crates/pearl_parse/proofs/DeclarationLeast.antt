@@ -23,11 +23,10 @@ use Rattle.pearl_parse_expr.specs.declared.reading.Halt.TheVariants.{Refused, No
 use Rattle.pearl_parse_expr.specs.declared.reading.Reading.{Reading}
 use Rattle.pearl_parse_expr.specs.Stops.{IsHalted, is_word, is_symbol}
 use Rattle.pearl_parse_expr.specs.Least.{ReachesIn, GoesIn, HaltsIn, IsLeastIn}
-use Rattle.pearl_parse_expr.proofs.Reaching.{IsLocal}
-use Rattle.pearl_parse_expr.proofs.Trees.{parts_of}
+use Rattle.pearl_parse_expr.proofs.Offered.{IsLocal, parts_of}
 use Rattle.pearl_parse_decl.specs.Readings.{behind}
-use Rattle.pearl_parse_decl.proofs.LocalLists.{local_of, list_keeps, maybe_keeps, maybe_bracketed_keeps}
-use Rattle.pearl_parse_decl.proofs.LocalDeclarations.{item_keeps, param_keeps, task_head_keeps, returns_keep}
+use Rattle.pearl_parse_decl.proofs.Offered.{local_of, list_keeps, maybe_keeps, maybe_bracketed_keeps, item_keeps}
+use Rattle.pearl_parse_decl.proofs.Offered.{param_keeps, task_head_keeps, returns_keep}
 use Rattle.pearl_parse.specs.Stops.{IsMissing}
 use Rattle.pearl_parse.specs.Bodies.{SpellsInner}
 use Rattle.pearl_parse.specs.Reached.{GoesBehind, HaltsBehind}

@@ -10,7 +10,7 @@ use Rattle.pearl_tree.specs.declared.symbol.TheConstants as s
 use Rattle.pearl_tree.specs.declared.word_code.TheConstants as w
 use Rattle.pearl_parse_expr.specs.Stops.{IsLongest, Stuck, is_name, is_word}
 use Rattle.pearl_parse_decl.specs.Readings.{by_bracket}
-use Rattle.pearl_parse_expr.proofs.Primaries.{clash}
+use Rattle.pearl_parse_expr.proofs.Offered.{clash}
 use Rattle.pearl_parse.specs.Modules.{begins_declaration, declaration_begins}
 use Rattle.pearl_parse.proofs.Steps.{Rest, Goes, past}
 use Rattle.pearl_parse.proofs.BlockRests.{Params, Returned, block_rest, task_rest, returns_rest, proc_rest}

@@ -13,8 +13,8 @@ use Rattle.pearl_parse_expr.specs.declared.reading.Reading.{Reading}
 use Rattle.pearl_parse_expr.specs.Stops.{StopsWithin}
 use Rattle.pearl_parse_expr.specs.Reads.{ReadsOnly, ReadsMaybe}
 use Rattle.pearl_parse_expr.specs.Readings.{ended}
-use Rattle.pearl_parse_expr.proofs.Lists.{each_one_more}
-use Rattle.pearl_parse_decl.proofs.LocalLists.{Kept}
+use Rattle.pearl_parse_expr.proofs.Offered.{each_one_more}
+use Rattle.pearl_parse_decl.proofs.Offered.{Kept}
 use Rattle.pearl_parse.specs.Stops.{begins_statement}
 use Rattle.pearl_parse.specs.Bodies.{SpellsHeaded}
 use Rattle.pearl_parse.specs.Reached.{GoesBehind}

@@ -1,53 +1,53 @@
-pub mod Steps
-pub mod ByFirst
-pub mod Repetitions
-pub mod StatementRests
-pub mod Before
-pub mod TransferRests
-pub mod CallRests
-pub mod ScheduleRests
-pub mod TaskingRests
-pub mod WhenRests
-pub mod Words
-pub mod Firsts
-pub mod RowLists
-pub mod NestedRests
-pub mod LoopRests
-pub mod Choices
-pub mod Blocks
-pub mod BlockRests
-pub mod DeclarationRests
-pub mod ModuleRests
-pub mod LocalStatements
-pub mod LocalModules
-pub mod LocalRests
-pub mod Comes
-pub mod Made
-pub mod ScheduleMade
-pub mod NestedMade
-pub mod ModulesMade
-pub mod Tails
-pub mod StatementLeast
-pub mod Beginnings
-pub mod States
-pub mod CallLeast
-pub mod ScheduleLeast
-pub mod LoopLeast
-pub mod Closings
-pub mod TransferLeast
-pub mod RepeatedLeast
-pub mod NestedLeast
-pub mod Stands
-pub mod EachReads
-pub mod NestedReads
-pub mod LoopReads
-pub mod BlockReads
-pub mod TransferReads
-pub mod TaskingReads
-pub mod CallReads
-pub mod DeclarationReads
-pub mod DeclarationLeast
-pub mod SystemLeast
-pub mod ModuleLeast
-pub mod Unread
-pub mod Optional
+mod Steps
+mod ByFirst
+mod Repetitions
+mod StatementRests
+mod Before
+mod TransferRests
+mod CallRests
+mod ScheduleRests
+mod TaskingRests
+mod WhenRests
+mod Words
+mod Firsts
+mod RowLists
+mod NestedRests
+mod LoopRests
+mod Choices
+mod Blocks
+mod BlockRests
+mod DeclarationRests
+mod ModuleRests
+mod LocalStatements
+mod LocalModules
+mod LocalRests
+mod Comes
+mod Made
+mod ScheduleMade
+mod NestedMade
+mod ModulesMade
+mod Tails
+mod StatementLeast
+mod Beginnings
+mod States
+mod CallLeast
+mod ScheduleLeast
+mod LoopLeast
+mod Closings
+mod TransferLeast
+mod RepeatedLeast
+mod NestedLeast
+mod Stands
+mod EachReads
+mod NestedReads
+mod LoopReads
+mod BlockReads
+mod TransferReads
+mod TaskingReads
+mod CallReads
+mod DeclarationReads
+mod DeclarationLeast
+mod SystemLeast
+mod ModuleLeast
+mod Unread
+mod Optional

@@ -9,10 +9,9 @@ use Rattle.pearl_tree.specs.Standing.{what_at, place_at, IsName, IsNumber}
 use Rattle.pearl_tree.specs.Declarations.{SpellsDevice, SpellsDeclared, SpellsSpec, SpellsParam}
 use Rattle.pearl_tree.specs.Modules.{SpellsReturns, SpellsBlock, SpellsDecl, SpellsModuleName, SpellsSystem}
 use Rattle.pearl_parse_expr.specs.Least.{AlikeBefore}
-use Rattle.pearl_parse_expr.proofs.Local as local
-use Rattle.pearl_parse_decl.proofs.LocalLists.{Keeps}
-use Rattle.pearl_parse_decl.proofs.LocalLists as lists
-use Rattle.pearl_parse_decl.proofs.LocalDeclarations as declarations
+use Rattle.pearl_parse_expr.proofs.Offered as local
+use Rattle.pearl_parse_decl.proofs.Offered.{Keeps}
+use Rattle.pearl_parse_decl.proofs.Offered as offered
 use Rattle.pearl_parse.proofs.LocalStatements.{whole_body_keeps}
 
 module _ (tokens others : List Token) (k : ℕ) (alike : AlikeBefore tokens others k) where
@@ -61,7 +60,7 @@ module _ (tokens others : List Token) (k : ℕ) (alike : AlikeBefore tokens othe
       )
   decl_keeps from (decl.Type x typing at) to h near =
       let below : h.0 < k = omega (arith, h.6) in
-      let part = declarations.whole_typing_keeps tokens others k alike (from + 2) typing h.0 h.4 (omega arith) in
+      let part = offered.whole_typing_keeps tokens others k alike (from + 2) typing h.0 h.4 (omega arith) in
       let behind : from + 2 < h.0 = omega (arith, part.0) in (
         omega (arith, h.6),
         (
@@ -76,8 +75,8 @@ module _ (tokens others : List Token) (k : ℕ) (alike : AlikeBefore tokens othe
       )
   decl_keeps from (decl.Declare declared at) to h near =
       let below : h.0 < k = omega (arith, h.5) in
-      let list = lists.list_keeps tokens others k alike 2 SpellsDeclared
-      (declarations.declared_keeps tokens others k alike) (from + 1) declared.items.items h.0 h.3 (omega arith) in
+      let list = offered.list_keeps tokens others k alike 2 SpellsDeclared
+      (offered.declared_keeps tokens others k alike) (from + 1) declared.items.items h.0 h.3 (omega arith) in
       let behind : from + 2 < h.0 = omega (arith, list.0) in (
         omega (arith, h.5),
         (
@@ -92,7 +91,7 @@ module _ (tokens others : List Token) (k : ℕ) (alike : AlikeBefore tokens othe
       )
   decl_keeps from (decl.Specify specs at) to h near =
       let below : h.0 < k = omega (arith, h.5) in
-      let list = lists.list_keeps tokens others k alike 2 SpellsSpec (declarations.spec_keeps tokens others k alike)
+      let list = offered.list_keeps tokens others k alike 2 SpellsSpec (offered.spec_keeps tokens others k alike)
       (from + 1) specs.items.items h.0 h.3 (omega arith) in
       let behind : from + 2 < h.0 = omega (arith, list.0) in (
         omega (arith, h.5),
@@ -108,7 +107,7 @@ module _ (tokens others : List Token) (k : ℕ) (alike : AlikeBefore tokens othe
       )
   decl_keeps from (decl.Task x head body at) to h near =
       let last = block_keeps h.0 body to h.6 near in
-      let first = declarations.task_head_keeps tokens others k alike (from + 3) head h.0 h.5 (omega (arith, last.0)) in
+      let first = offered.task_head_keeps tokens others k alike (from + 3) head h.0 h.5 (omega (arith, last.0)) in
       let behind : from + 2 < h.0 = omega (arith, first.0) in
       let below : h.0 < k = omega (arith, last.0) in (
         omega (arith, last.0),
@@ -124,10 +123,10 @@ module _ (tokens others : List Token) (k : ℕ) (alike : AlikeBefore tokens othe
       )
   decl_keeps from (decl.Proc x params returns body at) to h near =
       let last = block_keeps h.1 body to h.8 near in
-      let second = lists.maybe_keeps tokens others k alike 4 SpellsReturns
-      (declarations.returns_keep tokens others k alike) h.0 returns h.1 h.7 (omega (arith, last.0)) in
-      let first = lists.maybe_bracketed_keeps tokens others k alike 2 SpellsParam
-      (declarations.param_keeps tokens others k alike) (from + 3) params.items.items h.0 h.6
+      let second = offered.maybe_keeps tokens others k alike 4 SpellsReturns
+      (offered.returns_keep tokens others k alike) h.0 returns h.1 h.7 (omega (arith, last.0)) in
+      let first = offered.maybe_bracketed_keeps tokens others k alike 2 SpellsParam
+      (offered.param_keeps tokens others k alike) (from + 3) params.items.items h.0 h.6
       (omega (arith, last.0, second.0)) in
       let behind : from + 2 < h.1 = omega (arith, first.0, second.0) in
       let below : h.1 < k = omega (arith, last.0) in (
@@ -157,11 +156,11 @@ module _ (tokens others : List Token) (k : ℕ) (alike : AlikeBefore tokens othe
           h.3,
         ),
       )
-  module_name_keeps from (Bare x) to h near = lists.name_keeps tokens others k alike from x to h near
+  module_name_keeps from (Bare x) to h near = offered.name_keeps tokens others k alike from x to h near
 
   pub system_keeps : Keeps tokens others k 2 SpellsSystem
   system_keeps from x to h near =
-      let list = lists.each_keeps tokens others k alike 7 SpellsDevice (declarations.device_keeps tokens others k alike)
+      let list = offered.each_keeps tokens others k alike 7 SpellsDevice (offered.device_keeps tokens others k alike)
       (from + 2) x.items.items to h.2 near in
       let below : from + 1 < k = omega (arith, list.0) in
       (omega (arith, list.0), (what from (omega arith) ∙ h.0, what (from + 1) below ∙ h.1, list.1))

@@ -7,10 +7,9 @@ use Rattle.pearl_tree.specs.Formats.{SpellsFmt}
 use Rattle.pearl_tree.specs.Statements.{SpellsAfter, SpellsFor, SpellsBodyDecl, SpellsStmt}
 use Rattle.pearl_tree.specs.declared.word_code.TheConstants as w
 use Rattle.pearl_parse_expr.specs.Least.{AlikeBefore}
-use Rattle.pearl_parse_expr.proofs.Local as local
-use Rattle.pearl_parse_decl.proofs.LocalLists.{Keeps}
-use Rattle.pearl_parse_decl.proofs.LocalLists as lists
-use Rattle.pearl_parse_decl.proofs.LocalDeclarations as declarations
+use Rattle.pearl_parse_expr.proofs.Offered as local
+use Rattle.pearl_parse_decl.proofs.Offered.{Keeps}
+use Rattle.pearl_parse_decl.proofs.Offered as offered
 use Rattle.pearl_parse.specs.Stops.{SpellsBefore, SpellsNameList, SpellsFormats, SpellsStation}
 use Rattle.pearl_parse.specs.Calls.{SpellsArguments}
 use Rattle.pearl_parse.specs.Bodies.{SpellsStatements, SpellsInner, SpellsCondition, SpellsHeads}
@@ -22,7 +21,7 @@ module _ (tokens others : List Token) (k : ℕ) (alike : AlikeBefore tokens othe
   what = local.what tokens others k alike
 
   pub name_list_keeps : Keeps tokens others k 1 SpellsNameList
-  name_list_keeps = lists.list_keeps tokens others k alike 1 SpellsName (lists.name_keeps tokens others k alike)
+  name_list_keeps = offered.list_keeps tokens others k alike 1 SpellsName (offered.name_keeps tokens others k alike)
 
   pub before_keeps : {X : Type 0} (word : ℕ) (spells : List Token → Spelling X) → Keeps tokens others k 1 spells →
       Keeps tokens others k 1 (SpellsBefore word spells)
@@ -32,7 +31,7 @@ module _ (tokens others : List Token) (k : ℕ) (alike : AlikeBefore tokens othe
 
   pub formats_keep : Keeps tokens others k 2 SpellsFormats
   formats_keep from xs to h near =
-      let list = lists.list_keeps tokens others k alike 1 SpellsFmt (declarations.fmt_keeps tokens others k alike) from
+      let list = offered.list_keeps tokens others k alike 1 SpellsFmt (offered.fmt_keeps tokens others k alike) from
       xs h.0 h.1 (omega (arith, h.3)) in
       (omega (arith, list.0, h.3), (h.0, list.1, what h.0 (omega (arith, h.3)) ∙ h.2, h.3))
 
@@ -51,8 +50,8 @@ module _ (tokens others : List Token) (k : ℕ) (alike : AlikeBefore tokens othe
 
   pub arguments_keep : Keeps tokens others k 1 SpellsArguments
   arguments_keep from xs to h near =
-      let list = lists.maybe_bracketed_keeps tokens others k alike 1 SpellsWhole
-      (declarations.whole_keeps tokens others k alike) from xs h.0 h.1 (omega (arith, h.3)) in
+      let list = offered.maybe_bracketed_keeps tokens others k alike 1 SpellsWhole
+      (offered.whole_keeps tokens others k alike) from xs h.0 h.1 (omega (arith, h.3)) in
       (omega (arith, list.0, h.3), (h.0, list.1, what h.0 (omega (arith, h.3)) ∙ h.2, h.3))
 
   pub condition_keeps : Keeps tokens others k 3 SpellsCondition
@@ -61,7 +60,7 @@ module _ (tokens others : List Token) (k : ℕ) (alike : AlikeBefore tokens othe
       (omega (arith, part.0, h.3), (h.0, part.1, what h.0 (omega (arith, h.3)) ∙ h.2, h.3))
 
   head : (word : ℕ) → Keeps tokens others k 0 (λ tokens. SpellsMaybe (SpellsAfter tokens word))
-  head word = lists.maybe_keeps tokens others k alike 2 (λ tokens. SpellsAfter tokens word)
+  head word = offered.maybe_keeps tokens others k alike 2 (λ tokens. SpellsAfter tokens word)
       (after_keeps tokens others k alike word)
 
   pub heads_keep : Keeps tokens others k 1 SpellsHeads
@@ -70,19 +69,19 @@ module _ (tokens others : List Token) (k : ℕ) (alike : AlikeBefore tokens othe
       let d = head w.TO h.2 x.end h.3 h.8 (omega (arith, h.11, e.0)) in
       let c = head w.BY h.1 x.step h.2 h.7 (omega (arith, h.11, e.0, d.0)) in
       let b = head w.FROM h.0 x.begin h.1 h.6 (omega (arith, h.11, e.0, d.0, c.0)) in
-      let a = lists.maybe_keeps tokens others k alike 2 SpellsFor (for_keeps tokens others k alike) from x.control h.0
+      let a = offered.maybe_keeps tokens others k alike 2 SpellsFor (for_keeps tokens others k alike) from x.control h.0
       h.5 (omega (arith, h.11, e.0, d.0, c.0, b.0)) in (
         omega (arith, a.0, b.0, c.0, d.0, e.0, h.11),
         (h.0, h.1, h.2, h.3, h.4, a.1, b.1, c.1, d.1, e.1, what h.4 (omega (arith, h.11)) ∙ h.10, h.11),
       )
 
   pub statements_keep : (depth : ℕ) → Keeps tokens others k 0 (SpellsStatements depth)
-  statements_keep depth = lists.each_keeps tokens others k alike 1 (λ tokens. SpellsStmt tokens depth)
+  statements_keep depth = offered.each_keeps tokens others k alike 1 (λ tokens. SpellsStmt tokens depth)
       (stmt_keeps tokens others k alike depth)
 
   pub inner_keeps : (depth : ℕ) → Keeps tokens others k 0 (SpellsInner depth)
   inner_keeps depth from x to h near =
       let statements = statements_keep depth h.0 x.1 to h.2 near in
-      let before = lists.each_keeps tokens others k alike 2 SpellsBodyDecl
+      let before = offered.each_keeps tokens others k alike 2 SpellsBodyDecl
       (body_declaration_keeps tokens others k alike) from x.0 h.0 h.1 (omega (arith, statements.0)) in
       (omega (arith, before.0, statements.0), (h.0, before.1, statements.1))

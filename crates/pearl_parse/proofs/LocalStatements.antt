@@ -25,10 +25,9 @@ use Rattle.pearl_tree.specs.Statements.{SpellsStmt, SpellsStmts, SpellsAlternati
 use Rattle.pearl_tree.specs.Statements.{SpellsOtherwise, SpellsBranch, SpellsBody, SpellsWholeBody}
 use Rattle.pearl_tree.specs.declared.word_code.TheConstants as w
 use Rattle.pearl_parse_expr.specs.Least.{AlikeBefore}
-use Rattle.pearl_parse_expr.proofs.Local as local
-use Rattle.pearl_parse_decl.proofs.LocalLists.{Keeps}
-use Rattle.pearl_parse_decl.proofs.LocalLists as lists
-use Rattle.pearl_parse_decl.proofs.LocalDeclarations as declarations
+use Rattle.pearl_parse_expr.proofs.Offered as local
+use Rattle.pearl_parse_decl.proofs.Offered.{Keeps}
+use Rattle.pearl_parse_decl.proofs.Offered as offered
 
 module _ (tokens others : List Token) (k : ℕ) (alike : AlikeBefore tokens others k) where
   what : (j : ℕ) → j < k → what_at others j ≡ what_at tokens j
@@ -41,16 +40,16 @@ module _ (tokens others : List Token) (k : ℕ) (alike : AlikeBefore tokens othe
   name = local.name tokens others k alike
 
   name_keeps : Keeps tokens others k 1 SpellsName
-  name_keeps = lists.name_keeps tokens others k alike
+  name_keeps = offered.name_keeps tokens others k alike
 
   whole_keeps : Keeps tokens others k 1 SpellsWhole
-  whole_keeps = declarations.whole_keeps tokens others k alike
+  whole_keeps = offered.whole_keeps tokens others k alike
 
   own_ref_keeps : Keeps tokens others k 1 SpellsOwnRef
-  own_ref_keeps = declarations.own_ref_keeps tokens others k alike
+  own_ref_keeps = offered.own_ref_keeps tokens others k alike
 
   formats_keep : Keeps tokens others k 1 (λ tokens. SpellsList tokens (SpellsFmt tokens))
-  formats_keep = lists.list_keeps tokens others k alike 1 SpellsFmt (declarations.fmt_keeps tokens others k alike)
+  formats_keep = offered.list_keeps tokens others k alike 1 SpellsFmt (offered.fmt_keeps tokens others k alike)
 
   becomes : (j : ℕ) → j < k → HasBecomes tokens j → HasBecomes others j
   becomes j below (inl h) = inl (what j below ∙ h)
@@ -64,7 +63,7 @@ module _ (tokens others : List Token) (k : ℕ) (alike : AlikeBefore tokens othe
       (omega (arith, part.0), (what from (omega (arith, part.0)) ∙ h.0, part.1))
 
   maybe_after : (word : ℕ) → Keeps tokens others k 0 (λ tokens. SpellsMaybe (SpellsAfter tokens word))
-  maybe_after word = lists.maybe_keeps tokens others k alike 2 (λ tokens. SpellsAfter tokens word) (after_keeps word)
+  maybe_after word = offered.maybe_keeps tokens others k alike 2 (λ tokens. SpellsAfter tokens word) (after_keeps word)
 
   pub for_keeps : Keeps tokens others k 2 SpellsFor
   for_keeps from x to h near =
@@ -81,7 +80,7 @@ module _ (tokens others : List Token) (k : ℕ) (alike : AlikeBefore tokens othe
       Keeps tokens others k 0 (λ tokens. SpellsMaybeList tokens (spells tokens))
   maybe_list_keeps spells keeps from [] to h near = (omega (arith, h), h)
   maybe_list_keeps spells keeps from (x ∷ xs) to h near =
-      let part = lists.list_keeps tokens others k alike 1 spells keeps from (x ∷ xs) to h near in
+      let part = offered.list_keeps tokens others k alike 1 spells keeps from (x ∷ xs) to h near in
       (omega (arith, part.0), part.1)
 
   pub period_end_keeps : Keeps tokens others k 2 SpellsPeriodEnd
@@ -92,12 +91,12 @@ module _ (tokens others : List Token) (k : ℕ) (alike : AlikeBefore tokens othe
 
   pub period_keeps : Keeps tokens others k 2 SpellsPeriod
   period_keeps from x to h near =
-      let last = lists.maybe_keeps tokens others k alike 2 SpellsPeriodEnd period_end_keeps h.0 x.end to h.3 near in
+      let last = offered.maybe_keeps tokens others k alike 2 SpellsPeriodEnd period_end_keeps h.0 x.end to h.3 near in
       let part = after_keeps w.ALL from x.duration h.0 h.2 (omega (arith, last.0)) in
       (omega (arith, part.0, last.0), (h.0, place from (omega (arith, part.0, last.0)) ∙ h.1, part.1, last.1))
 
   maybe_period : Keeps tokens others k 0 (λ tokens. SpellsMaybe (SpellsPeriod tokens))
-  maybe_period = lists.maybe_keeps tokens others k alike 2 SpellsPeriod period_keeps
+  maybe_period = offered.maybe_keeps tokens others k alike 2 SpellsPeriod period_keeps
 
   pub start_keeps : Keeps tokens others k 2 SpellsStart
   start_keeps from (start.At x period at) to h near =
@@ -138,7 +137,7 @@ module _ (tokens others : List Token) (k : ℕ) (alike : AlikeBefore tokens othe
   pub body_declaration_keeps : Keeps tokens others k 2 SpellsBodyDecl
   body_declaration_keeps from x to h near =
       let below : h.0 < k = omega (arith, h.5) in
-      let list = lists.list_keeps tokens others k alike 2 SpellsItem (declarations.item_keeps tokens others k alike)
+      let list = offered.list_keeps tokens others k alike 2 SpellsItem (offered.item_keeps tokens others k alike)
       (from + 1) x.items.items.items h.0 h.3 (omega arith) in
       let behind : from < h.0 = omega (arith, list.0) in (
         omega (arith, h.5),
@@ -154,7 +153,7 @@ module _ (tokens others : List Token) (k : ℕ) (alike : AlikeBefore tokens othe
       )
 
   body_declarations : Keeps tokens others k 0 (λ tokens. SpellsEach (SpellsBodyDecl tokens))
-  body_declarations = lists.each_keeps tokens others k alike 2 SpellsBodyDecl body_declaration_keeps
+  body_declarations = offered.each_keeps tokens others k alike 2 SpellsBodyDecl body_declaration_keeps
 
   -- ---- statements
 
@@ -183,9 +182,9 @@ module _ (tokens others : List Token) (k : ℕ) (alike : AlikeBefore tokens othe
         )
     stmt_keeps depth from (Call part) to h near =
         let below : h.1 < k = omega (arith, h.7) in
-        let list = lists.maybe_bracketed_keeps tokens others k alike 1 SpellsWhole whole_keeps (h.0 + 1)
+        let list = offered.maybe_bracketed_keeps tokens others k alike 1 SpellsWhole whole_keeps (h.0 + 1)
         part.value.arguments.items.items h.1 h.5 (omega arith) in
-        let call = lists.flag_keeps tokens others k alike w.CALL from part.value.call h.0 h.3 (omega (arith, list.0)) in
+        let call = offered.flag_keeps tokens others k alike w.CALL from part.value.call h.0 h.3 (omega (arith, list.0)) in
         let between : (from ≤ h.0) × (h.0 < h.1) = (omega (arith, call.0), omega (arith, list.0)) in (
           omega (arith, between, h.7),
           (
@@ -251,7 +250,7 @@ module _ (tokens others : List Token) (k : ℕ) (alike : AlikeBefore tokens othe
         let d = maybe_after w.TO h.2 end h.3 h.11 (omega (arith, e.0)) in
         let c = maybe_after w.BY h.1 step h.2 h.10 (omega (arith, e.0, d.0)) in
         let b = maybe_after w.FROM h.0 begin h.1 h.9 (omega (arith, e.0, d.0, c.0)) in
-        let a = lists.maybe_keeps tokens others k alike 2 SpellsFor for_keeps from control h.0 h.8
+        let a = offered.maybe_keeps tokens others k alike 2 SpellsFor for_keeps from control h.0 h.8
         (omega (arith, e.0, d.0, c.0, b.0)) in
         let behind : from ≤ h.4 = omega (arith, a.0, b.0, c.0, d.0, e.0) in (
           omega (arith, h.17),
@@ -306,7 +305,7 @@ module _ (tokens others : List Token) (k : ℕ) (alike : AlikeBefore tokens othe
         )
     stmt_keeps depth from (Return part) to h near =
         let below : h.0 < k = omega (arith, h.5) in
-        let value = lists.maybe_keeps tokens others k alike 3 SpellsValue value_keeps (from + 1) part.value.value h.0
+        let value = offered.maybe_keeps tokens others k alike 3 SpellsValue value_keeps (from + 1) part.value.value h.0
         h.3 (omega arith) in
         let behind : from < h.0 = omega (arith, value.0) in (
           omega (arith, h.5),
@@ -323,7 +322,7 @@ module _ (tokens others : List Token) (k : ℕ) (alike : AlikeBefore tokens othe
         let below : h.1 < k = omega (arith, h.8) in
         let priority = maybe_after w.PRIO (h.0 + 2) part.value.priority h.1 h.6 (omega arith) in
         let within : h.0 + 1 < h.1 = omega (arith, priority.0) in
-        let start = lists.maybe_keeps tokens others k alike 2 SpellsStart start_keeps from part.value.start h.0 h.3
+        let start = offered.maybe_keeps tokens others k alike 2 SpellsStart start_keeps from part.value.start h.0 h.3
         (omega arith) in
         let behind : from ≤ h.0 = omega (arith, start.0) in (
           omega (arith, h.8),
@@ -341,7 +340,7 @@ module _ (tokens others : List Token) (k : ℕ) (alike : AlikeBefore tokens othe
         )
     stmt_keeps depth from (Continue part) to h near =
         let below : h.0 + 2 < k = omega (arith, h.6) in
-        let once = lists.maybe_keeps tokens others k alike 2 SpellsOnce once_keeps from part.value.once h.0 h.2
+        let once = offered.maybe_keeps tokens others k alike 2 SpellsOnce once_keeps from part.value.once h.0 h.2
         (omega arith) in
         let behind : from ≤ h.0 = omega (arith, once.0) in (
           omega (arith, h.6),
@@ -371,7 +370,7 @@ module _ (tokens others : List Token) (k : ℕ) (alike : AlikeBefore tokens othe
         )
     stmt_keeps depth from (OnTask part) to h near =
         let below : h.0 < k = omega (arith, h.5) in
-        let task = lists.maybe_keeps tokens others k alike 1 SpellsName name_keeps (from + 1) part.value.task h.0 h.3
+        let task = offered.maybe_keeps tokens others k alike 1 SpellsName name_keeps (from + 1) part.value.task h.0 h.3
         (omega arith) in
         let behind : from < h.0 = omega (arith, task.0) in (
           omega (arith, h.5),
@@ -386,7 +385,7 @@ module _ (tokens others : List Token) (k : ℕ) (alike : AlikeBefore tokens othe
         )
     stmt_keeps depth from (OnSemas part) to h near =
         let below : h.0 < k = omega (arith, h.5) in
-        let names = lists.list_keeps tokens others k alike 1 SpellsName name_keeps (from + 1)
+        let names = offered.list_keeps tokens others k alike 1 SpellsName name_keeps (from + 1)
         part.value.names.items.items h.0 h.3 (omega arith) in
         let behind : from < h.0 = omega (arith, names.0) in (
           omega (arith, h.5),
@@ -525,7 +524,7 @@ module _ (tokens others : List Token) (k : ℕ) (alike : AlikeBefore tokens othe
         (omega (arith, inner.0), (place from below ∙ h.0, what from below ∙ h.1, inner.1))
 
   statements_keep : (depth : ℕ) → Keeps tokens others k 0 (λ tokens. SpellsEach (SpellsStmt tokens depth))
-  statements_keep depth = lists.each_keeps tokens others k alike 1 (λ tokens. SpellsStmt tokens depth)
+  statements_keep depth = offered.each_keeps tokens others k alike 1 (λ tokens. SpellsStmt tokens depth)
       (stmt_keeps depth)
 
   pub branch_keeps : (depth word : ℕ) → Keeps tokens others k 1 (λ tokens. SpellsBranch tokens depth word)

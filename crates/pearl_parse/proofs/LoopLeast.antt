@@ -9,8 +9,8 @@ use Rattle.pearl_tree.specs.declared.word_code.TheConstants as w
 use Rattle.pearl_parse_expr.specs.declared.reading.Halt.{Halt}
 use Rattle.pearl_parse_expr.specs.Stops.{IsHalted, is_name}
 use Rattle.pearl_parse_expr.specs.Least.{GoesIn, HaltsIn}
-use Rattle.pearl_parse_expr.proofs.Reaching.{IsLocal}
-use Rattle.pearl_parse_decl.proofs.LocalLists.{local_of, maybe_keeps}
+use Rattle.pearl_parse_expr.proofs.Offered.{IsLocal}
+use Rattle.pearl_parse_decl.proofs.Offered.{local_of, maybe_keeps}
 use Rattle.pearl_parse.specs.Stops.{IsMissing}
 use Rattle.pearl_parse.specs.Bodies.{SpellsCondition, SpellsHeads}
 use Rattle.pearl_parse.specs.Reached.{GoesBehind, HaltsBehind}

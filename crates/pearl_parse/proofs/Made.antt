@@ -22,11 +22,10 @@ use Rattle.pearl_tree.specs.Statements.{HasBecomes, SpellsAfter, SpellsValue, Sp
 use Rattle.pearl_tree.specs.Statements.{task_word, sema_word, interrupt_word, SpellsBodyDecl, SpellsStmt}
 use Rattle.pearl_tree.specs.declared.symbol.TheConstants as s
 use Rattle.pearl_tree.specs.declared.word_code.TheConstants as w
-use Rattle.pearl_parse_expr.proofs.Reaching.{placed, placed_within}
-use Rattle.pearl_parse_expr.proofs.Trees.{boxed, parts_of}
-use Rattle.pearl_parse_decl.proofs.LocalLists.{after_of, list_long, maybe_bracketed_long}
-use Rattle.pearl_parse_decl.proofs.LocalLists as lists
-use Rattle.pearl_parse_decl.proofs.LocalDeclarations.{whole_keeps, own_ref_keeps, fmt_keeps, item_keeps}
+use Rattle.pearl_parse_expr.proofs.Offered.{placed, placed_within, boxed, parts_of}
+use Rattle.pearl_parse_decl.proofs.Offered.{after_of, list_long, maybe_bracketed_long, whole_keeps, own_ref_keeps}
+use Rattle.pearl_parse_decl.proofs.Offered.{fmt_keeps, item_keeps}
+use Rattle.pearl_parse_decl.proofs.Offered as lists
 use Rattle.pearl_parse.specs.Stops.{SpellsBefore, SpellsNameList, SpellsFormats, SpellsStation}
 use Rattle.pearl_parse.specs.Calls.{SpellsArguments}
 use Rattle.pearl_parse.proofs.Steps.{Rest, Ends, Then}

@@ -16,9 +16,9 @@ use Rattle.pearl_tree.specs.declared.word_code.TheConstants as w
 use Rattle.pearl_parse_expr.specs.declared.reading.Halt.{Halt}
 use Rattle.pearl_parse_expr.specs.Stops.{IsHalted, is_word, is_symbol, is_name}
 use Rattle.pearl_parse_expr.specs.Least.{ReachesIn, GoesIn, HaltsIn}
-use Rattle.pearl_parse_expr.proofs.Local as local
-use Rattle.pearl_parse_expr.proofs.Reaching.{IsLocal}
-use Rattle.pearl_parse_decl.proofs.LocalLists.{Kept, local_of, each_keeps, maybe_keeps, symbol_flag_keeps}
+use Rattle.pearl_parse_expr.proofs.Offered as local
+use Rattle.pearl_parse_expr.proofs.Offered.{IsLocal}
+use Rattle.pearl_parse_decl.proofs.Offered.{Kept, local_of, each_keeps, maybe_keeps, symbol_flag_keeps}
 use Rattle.pearl_parse.specs.Stops.{IsMissing}
 use Rattle.pearl_parse.specs.Modules.{SpellsOptionalName, SpellsHead, SpellsOpening, SpellsClose, SpellsSource, is_end}
 use Rattle.pearl_parse.specs.Modules.{begins_module_name}

@@ -15,8 +15,7 @@ use Rattle.pearl_tree.specs.Modules.{SpellsDecl, SpellsModuleName, SpellsSystem,
 use Rattle.pearl_tree.specs.declared.symbol.TheConstants as s
 use Rattle.pearl_tree.specs.declared.word_code.TheConstants as w
 use Rattle.pearl_parse_expr.specs.Stops.{IsLongest, IsOnly, is_name, is_symbol, is_word}
-use Rattle.pearl_parse_expr.proofs.PastEnd.{no_token}
-use Rattle.pearl_parse_expr.proofs.Primaries.{clash}
+use Rattle.pearl_parse_expr.proofs.Offered.{no_token, clash}
 use Rattle.pearl_parse.specs.Modules.{begins_declaration, begins_module_name, SpellsOptionalName, SpellsHead}
 use Rattle.pearl_parse.specs.Modules.{SpellsOptionalSystem, SpellsOpening, SpellsEnding, SpellsSource, is_end}
 use Rattle.pearl_parse.proofs.Steps.{Rest, Ends, Then, Goes, Avoids, past, past_only}

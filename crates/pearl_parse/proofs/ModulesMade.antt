@@ -19,11 +19,10 @@ use Rattle.pearl_tree.specs.declared.symbol.TheConstants as s
 use Rattle.pearl_tree.specs.declared.word_code.TheConstants as w
 use Rattle.pearl_parse.specs.Refusals.{Begins}
 use Rattle.pearl_parse_expr.specs.Least.{AlikeBefore, LawfulFrom, ReachesIn}
-use Rattle.pearl_parse_expr.proofs.Reaching.{order, placed, placed_within}
-use Rattle.pearl_parse_expr.proofs.Trees.{parts_of}
-use Rattle.pearl_parse_decl.proofs.LocalLists.{after_of, each_long, list_long, maybe_bracketed_long}
-use Rattle.pearl_parse_decl.proofs.LocalLists as lists
-use Rattle.pearl_parse_decl.proofs.LocalDeclarations.{spec_keeps, param_keeps, returns_keep}
+use Rattle.pearl_parse_expr.proofs.Offered.{order, placed, placed_within, parts_of}
+use Rattle.pearl_parse_decl.proofs.Offered.{after_of, each_long, list_long, maybe_bracketed_long, spec_keeps}
+use Rattle.pearl_parse_decl.proofs.Offered.{param_keeps, returns_keep}
+use Rattle.pearl_parse_decl.proofs.Offered as lists
 use Rattle.pearl_parse.specs.Bodies.{SpellsInner}
 use Rattle.pearl_parse.specs.Modules.{SpellsSource}
 use Rattle.pearl_parse.proofs.Steps.{Ends, Then}

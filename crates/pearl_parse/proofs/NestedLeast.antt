@@ -15,9 +15,9 @@ use Rattle.pearl_parse_expr.specs.declared.reading.Halt.{Halt}
 use Rattle.pearl_parse_expr.specs.declared.reading.Halt.TheVariants.{Refused, NoMemory}
 use Rattle.pearl_parse_expr.specs.Stops.{IsHalted}
 use Rattle.pearl_parse_expr.specs.Least.{ReachesIn, GoesIn, HaltsIn}
-use Rattle.pearl_parse_expr.proofs.Local as local
-use Rattle.pearl_parse_expr.proofs.Reaching.{IsLocal}
-use Rattle.pearl_parse_decl.proofs.LocalLists.{Kept, local_of, maybe_keeps, each_keeps, some_keeps}
+use Rattle.pearl_parse_expr.proofs.Offered as local
+use Rattle.pearl_parse_expr.proofs.Offered.{IsLocal}
+use Rattle.pearl_parse_decl.proofs.Offered.{Kept, local_of, maybe_keeps, each_keeps, some_keeps}
 use Rattle.pearl_parse.specs.declared.loops.Heads.{Heads}
 use Rattle.pearl_parse.specs.Bodies.{SpellsStatements, SpellsCondition, SpellsClosing, SpellsHeads, SpellsInner}
 use Rattle.pearl_parse.specs.Reached.{GoesBehind, HaltsBehind}

@@ -12,10 +12,9 @@ use Rattle.pearl_tree.specs.declared.token.Token.{Token}
 use Rattle.pearl_tree.specs.Standing.{Spelling, IsAt, SpellsEach, SpellsSome, SpellsMaybe}
 use Rattle.pearl_tree.specs.Statements.{SpellsAfter, SpellsBodyDecl, SpellsStmt, SpellsBranch, SpellsBody}
 use Rattle.pearl_tree.specs.declared.word_code.TheConstants as w
-use Rattle.pearl_parse_expr.proofs.Reaching.{placed, placed_within}
-use Rattle.pearl_parse_expr.proofs.Trees.{boxed, parts_of}
-use Rattle.pearl_parse_decl.proofs.LocalLists.{after_of, each_long}
-use Rattle.pearl_parse_decl.proofs.LocalLists as lists
+use Rattle.pearl_parse_expr.proofs.Offered.{placed, placed_within, boxed, parts_of}
+use Rattle.pearl_parse_decl.proofs.Offered.{after_of, each_long}
+use Rattle.pearl_parse_decl.proofs.Offered as lists
 use Rattle.pearl_parse.specs.Bodies.{SpellsStatements, SpellsCondition, SpellsHeads, SpellsInner}
 use Rattle.pearl_parse.proofs.Steps.{Ends, Then}
 use Rattle.pearl_parse.proofs.Comes.{BehindWord, Maybe, Makes}

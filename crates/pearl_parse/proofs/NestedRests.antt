@@ -21,12 +21,11 @@ use Rattle.pearl_tree.specs.Standing.{Spelling, what_at, IsAt, HasWord, HasSymbo
 use Rattle.pearl_tree.specs.Statements.{SpellsStmt, SpellsBranch, SpellsBody, SpellsAfter}
 use Rattle.pearl_tree.specs.declared.symbol.TheConstants as s
 use Rattle.pearl_tree.specs.declared.word_code.TheConstants as w
-use Rattle.pearl_tree.proofs.OneStatement.{group_of}
-use Rattle.pearl_tree.proofs.StatementLists.{spells_if, spells_case, spells_begin, spells_repeat}
+use Rattle.pearl_tree.proofs.Offered.{group_of, spells_if, spells_case, spells_begin, spells_repeat}
 use Rattle.pearl_parse_expr.specs.declared.reading.Halt.{Halt}
 use Rattle.pearl_parse_expr.specs.declared.reading.Halt.TheVariants.{Refused, NoMemory}
 use Rattle.pearl_parse_expr.specs.Stops.{IsOnly, IsHalted, is_word}
-use Rattle.pearl_parse_expr.proofs.Primaries.{clash}
+use Rattle.pearl_parse_expr.proofs.Offered.{clash}
 use Rattle.pearl_parse.specs.declared.loops.Heads.{Heads}
 use Rattle.pearl_parse.specs.Stops.{IsStopped, begins_statement}
 use Rattle.pearl_parse.specs.Bodies.{is_one, loop_words, SpellsStatements, SpellsOptionalHeaded, SpellsChoices}

@@ -5,10 +5,9 @@ use Rattle.pearl_tree.specs.Standing.{Spelling, SpellsEach}
 use Rattle.pearl_parse_expr.specs.declared.reading.Halt.{Halt}
 use Rattle.pearl_parse_expr.specs.declared.reading.Halt.TheVariants.{Refused}
 use Rattle.pearl_parse_expr.specs.Least.{ReachesIn, GoesIn, HaltsIn}
-use Rattle.pearl_parse_expr.proofs.Reaching.{order, reached_halt}
-use Rattle.pearl_parse_decl.proofs.LocalLists.{Kept}
+use Rattle.pearl_parse_expr.proofs.Offered.{order, reached_halt, each_goes_on}
+use Rattle.pearl_parse_decl.proofs.Offered.{Kept}
 use Rattle.pearl_parse.specs.Reached.{GoesBehind}
-use Rattle.pearl_parse_expr.proofs.ListReach.{each_goes_on}
 
 module _ {X : Type 0} (spells : List Token → Spelling X) (tokens : List Token) (from low : ℕ) where
   abbrev pub Each : List Token → Spelling (List X)

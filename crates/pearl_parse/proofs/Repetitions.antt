@@ -6,7 +6,7 @@ use Rattle.pearl_tree.specs.declared.token.Token.{Token}
 use Rattle.pearl_tree.specs.Standing.{Spelling, what_at, SpellsEach}
 use Rattle.pearl_tree.specs.Stops.{BeginAlike}
 use Rattle.pearl_parse_expr.specs.Stops.{IsLongest, IsOnly, Stuck, EndsEarly}
-use Rattle.pearl_parse_expr.proofs.Parts.{shorter}
+use Rattle.pearl_parse_expr.proofs.Offered.{shorter}
 
 module _ {X : Type 0} (spells : List Token → Spelling X) (begins : Option What → Bool) where
   -- a list from `from` ends early, or goes through `end`

@@ -14,9 +14,9 @@ use Rattle.pearl_tree.specs.declared.word_code.TheConstants as w
 use Rattle.pearl_parse_expr.specs.declared.reading.Halt.{Halt}
 use Rattle.pearl_parse_expr.specs.Stops.{is_word, is_name}
 use Rattle.pearl_parse_expr.specs.Least.{AlikeBefore, ReachesIn}
-use Rattle.pearl_parse_expr.proofs.Local as local
-use Rattle.pearl_parse_expr.proofs.Reaching.{IsLocal, placed}
-use Rattle.pearl_parse_decl.proofs.LocalLists.{Keeps, local_of, maybe_keeps}
+use Rattle.pearl_parse_expr.proofs.Offered as local
+use Rattle.pearl_parse_expr.proofs.Offered.{IsLocal, placed}
+use Rattle.pearl_parse_decl.proofs.Offered.{Keeps, local_of, maybe_keeps}
 use Rattle.pearl_parse.specs.Stops.{IsMissing}
 use Rattle.pearl_parse.specs.Reached.{GoesBehind, HaltsBehind}
 use Rattle.pearl_parse.specs.Schedules.{SpellsOptionalPriority, SpellsActivation, SpellsAnyBegun, time_word}

@@ -12,7 +12,7 @@ use Rattle.pearl_tree.specs.declared.token.Token.{Token}
 use Rattle.pearl_tree.specs.Standing.{Spelling, SpellsName}
 use Rattle.pearl_tree.specs.Statements.{SpellsAfter, SpellsPeriodEnd, SpellsPeriod, SpellsStart, SpellsOnce, SpellsStmt}
 use Rattle.pearl_tree.specs.declared.word_code.TheConstants as w
-use Rattle.pearl_parse_expr.proofs.Reaching.{placed}
+use Rattle.pearl_parse_expr.proofs.Offered.{placed}
 use Rattle.pearl_parse.specs.Schedules.{time_word}
 use Rattle.pearl_parse.proofs.Steps.{Rest, Ends, Then}
 use Rattle.pearl_parse.proofs.Comes.{BehindWord, Maybe, Makes}

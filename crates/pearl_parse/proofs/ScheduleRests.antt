@@ -14,13 +14,12 @@ use Rattle.pearl_tree.specs.Standing.{HasWord, HasSymbol, IsName, SpellsMaybe, w
 use Rattle.pearl_tree.specs.Statements.{SpellsAfter, SpellsStmt, SpellsStart, SpellsOnce}
 use Rattle.pearl_tree.specs.declared.symbol.TheConstants as s
 use Rattle.pearl_tree.specs.declared.word_code.TheConstants as w
-use Rattle.pearl_tree.proofs.Meeting.{same_word}
-use Rattle.pearl_tree.proofs.OneSchedule.{start_word, start_begins, once_word, once_begins}
+use Rattle.pearl_tree.proofs.Offered.{same_word, start_word, start_begins, once_word, once_begins}
 use Rattle.pearl_parse_expr.specs.declared.reading.Halt.{Halt}
 use Rattle.pearl_parse_expr.specs.declared.reading.Halt.TheVariants.{Refused, NoMemory}
 use Rattle.pearl_parse_expr.specs.Stops.{IsLongest, extends_expression, is_name, is_word}
-use Rattle.pearl_parse_expr.proofs.Parts.{shorter}
-use Rattle.pearl_parse_decl.proofs.Lists.{settled}
+use Rattle.pearl_parse_expr.proofs.Offered.{shorter}
+use Rattle.pearl_parse_decl.proofs.Offered.{settled}
 use Rattle.pearl_parse.specs.Stops.{IsStopped}
 use Rattle.pearl_parse.specs.Schedules.{SpellsOptionalEnd, SpellsLongPeriod, SpellsOptionalPeriod}
 use Rattle.pearl_parse.specs.Schedules.{SpellsOptionalPriority, SpellsActivation, SpellsBegun}

@@ -10,7 +10,7 @@ use Rattle.pearl_parse_expr.specs.declared.reading.Reading.{Reading}
 use Rattle.pearl_parse_expr.specs.Stops.{IsOnly, is_symbol}
 use Rattle.pearl_parse_expr.specs.Least.{GoesIn}
 use Rattle.pearl_parse_expr.specs.Reads.{ReadsOnly}
-use Rattle.pearl_parse_expr.proofs.Reaching.{IsLocal}
+use Rattle.pearl_parse_expr.proofs.Offered.{IsLocal}
 use Rattle.pearl_parse.specs.Stops.{IsMissing, IsStopped}
 use Rattle.pearl_parse.specs.Reached.{HaltsBehind}
 use Rattle.pearl_parse.specs.Reads.{ReadsOnlyBehind}

@@ -15,9 +15,8 @@ use Rattle.pearl_tree.specs.declared.word_code.TheConstants as w
 use Rattle.pearl_parse_expr.specs.declared.reading.Halt.{Halt}
 use Rattle.pearl_parse_expr.specs.Stops.{is_symbol, is_name, is_word}
 use Rattle.pearl_parse_expr.specs.Least.{GoesIn}
-use Rattle.pearl_parse_decl.proofs.LocalLists.{local_of, maybe_keeps, name_keeps}
-use Rattle.pearl_parse_decl.proofs.LocalDeclarations.{whole_keeps, own_ref_keeps}
-use Rattle.pearl_parse_expr.proofs.Reaching.{IsLocal}
+use Rattle.pearl_parse_decl.proofs.Offered.{local_of, maybe_keeps, name_keeps, whole_keeps, own_ref_keeps}
+use Rattle.pearl_parse_expr.proofs.Offered.{IsLocal}
 use Rattle.pearl_parse.specs.Stops.{IsMissing, SpellsBefore, SpellsNameList, SpellsStation}
 use Rattle.pearl_parse.specs.Reached.{GoesBehind, HaltsBehind}
 use Rattle.pearl_parse.specs.Calls.{SpellsArguments}

@@ -13,7 +13,7 @@ use Rattle.pearl_tree.specs.Expressions.{SpellsWhole}
 use Rattle.pearl_tree.specs.Statements.{SpellsStmt, task_word, interrupt_word}
 use Rattle.pearl_tree.specs.declared.symbol.TheConstants as s
 use Rattle.pearl_tree.specs.declared.word_code.TheConstants as w
-use Rattle.pearl_tree.proofs.OneStatement.{group_of}
+use Rattle.pearl_tree.proofs.Offered.{group_of}
 use Rattle.pearl_parse_expr.specs.Stops.{is_name}
 use Rattle.pearl_parse.specs.Stops.{SpellsOwnNamed, SpellsOptional}
 use Rattle.pearl_parse.proofs.ByFirst.{group, of_kind}

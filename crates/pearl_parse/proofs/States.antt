@@ -12,9 +12,8 @@ use Rattle.pearl_parse_expr.specs.declared.reading.Halt.{Halt}
 use Rattle.pearl_parse_expr.specs.declared.reading.Halt.TheVariants.{Refused, NoMemory}
 use Rattle.pearl_parse_expr.specs.Stops.{IsHalted}
 use Rattle.pearl_parse_expr.specs.Least.{AlikeBefore, ReachesIn, GoesIn, HaltsIn}
-use Rattle.pearl_parse_expr.proofs.Halts.{stuck_of}
-use Rattle.pearl_parse_expr.proofs.Local as local
-use Rattle.pearl_parse_expr.proofs.Reaching.{order, reached_halt, IsLocal}
+use Rattle.pearl_parse_expr.proofs.Offered.{stuck_of, order, reached_halt, IsLocal}
+use Rattle.pearl_parse_expr.proofs.Offered as local
 use Rattle.pearl_parse.specs.Stops.{IsMissing}
 use Rattle.pearl_parse.specs.Reached.{GoesBehind, HaltsBehind}
 use Rattle.pearl_parse.proofs.Steps.{Rest, Ends, Then}

@@ -13,10 +13,8 @@ use Rattle.pearl_parse_expr.specs.declared.reading.Reading.{Reading}
 use Rattle.pearl_parse_expr.specs.Stops.{IsHalted, is_word, is_symbol, is_name}
 use Rattle.pearl_parse_expr.specs.Reads.{ReadsMaybe}
 use Rattle.pearl_parse_expr.specs.Least.{GoesIn, HaltsIn}
-use Rattle.pearl_parse_expr.proofs.Reaching.{IsLocal}
-use Rattle.pearl_parse_expr.proofs.Trees.{parts_of}
-use Rattle.pearl_parse_decl.proofs.LocalLists.{local_of, after_of, each_long, each_keeps, maybe_keeps}
-use Rattle.pearl_parse_decl.proofs.LocalDeclarations.{device_keeps}
+use Rattle.pearl_parse_expr.proofs.Offered.{IsLocal, parts_of}
+use Rattle.pearl_parse_decl.proofs.Offered.{local_of, after_of, each_long, each_keeps, maybe_keeps, device_keeps}
 use Rattle.pearl_parse.specs.Stops.{IsMissing}
 use Rattle.pearl_parse.specs.Modules.{SpellsOptionalSystem, SpellsOpening}
 use Rattle.pearl_parse.specs.Reached.{HaltsBehind}

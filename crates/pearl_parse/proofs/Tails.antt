@@ -16,9 +16,7 @@ use Rattle.pearl_tree.specs.Statements.{HasBecomes, SpellsBranch}
 use Rattle.pearl_tree.specs.Modules.{SpellsBlock}
 use Rattle.pearl_tree.specs.declared.symbol.TheConstants as s
 use Rattle.pearl_tree.specs.declared.word_code.TheConstants as w
-use Rattle.pearl_parse_expr.proofs.Ids.{letter_token, letter_lawful}
-use Rattle.pearl_parse_expr.proofs.Reaching.{placed, token_of}
-use Rattle.pearl_parse_expr.proofs.Trees.{parts_of}
+use Rattle.pearl_parse_expr.proofs.Offered.{letter_token, letter_lawful, placed, token_of, parts_of}
 use Rattle.pearl_parse.specs.Stops.{SpellsFormats}
 use Rattle.pearl_parse.specs.Calls.{SpellsArguments}
 use Rattle.pearl_parse.specs.Bodies.{SpellsStatements, SpellsInner}

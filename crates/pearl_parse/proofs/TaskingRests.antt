@@ -17,12 +17,10 @@ use Rattle.pearl_tree.specs.Standing.{HasWord, HasSymbol, SpellsMaybe, what_at}
 use Rattle.pearl_tree.specs.Statements.{SpellsAfter, SpellsPeriodEnd, SpellsPeriod, SpellsStmt, SpellsStart, SpellsOnce}
 use Rattle.pearl_tree.specs.declared.symbol.TheConstants as s
 use Rattle.pearl_tree.specs.declared.word_code.TheConstants as w
-use Rattle.pearl_tree.proofs.Meeting.{same_word}
-use Rattle.pearl_tree.proofs.OneSchedule.{start_word, start_begins, once_word, once_begins}
-use Rattle.pearl_tree.proofs.OneStatement.{group_of}
+use Rattle.pearl_tree.proofs.Offered.{same_word, start_word, start_begins, once_word, once_begins, group_of}
 use Rattle.pearl_parse_expr.specs.declared.reading.Halt.{Halt}
 use Rattle.pearl_parse_expr.specs.Stops.{IsLongest, IsHalted, extends_expression, is_name, is_word}
-use Rattle.pearl_parse_expr.proofs.Primaries.{clash}
+use Rattle.pearl_parse_expr.proofs.Offered.{clash}
 use Rattle.pearl_parse.specs.Stops.{IsStopped}
 use Rattle.pearl_parse.specs.Schedules.{begins_end, time_word, SpellsOptionalEnd, SpellsOptionalPeriod}
 use Rattle.pearl_parse.specs.Schedules.{SpellsLongPeriod, SpellsActivation, SpellsBegun}

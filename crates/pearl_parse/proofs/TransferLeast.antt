@@ -11,9 +11,8 @@ use Rattle.pearl_parse_expr.specs.declared.reading.Halt.{Halt}
 use Rattle.pearl_parse_expr.specs.declared.reading.Halt.TheVariants.{Refused}
 use Rattle.pearl_parse_expr.specs.Stops.{IsHalted, is_word}
 use Rattle.pearl_parse_expr.specs.Least.{ReachesIn, GoesIn, HaltsIn}
-use Rattle.pearl_parse_expr.proofs.Reaching.{IsLocal}
-use Rattle.pearl_parse_decl.proofs.LocalLists.{Kept, local_of, list_keeps}
-use Rattle.pearl_parse_decl.proofs.LocalDeclarations.{fmt_keeps}
+use Rattle.pearl_parse_expr.proofs.Offered.{IsLocal}
+use Rattle.pearl_parse_decl.proofs.Offered.{Kept, local_of, list_keeps, fmt_keeps}
 use Rattle.pearl_parse.specs.Stops.{SpellsBefore, SpellsNameList, SpellsFormats, SpellsStation}
 use Rattle.pearl_parse.proofs.Steps.{Ends, Then}
 use Rattle.pearl_parse.proofs.LocalRests.{name_list_keeps, before_keeps, formats_keep, station_keeps}

@@ -24,7 +24,7 @@ use Rattle.pearl_parse.proofs.StatementLeast.{send_past, take_past, station_miss
 use Rattle.pearl_parse.proofs.StatementLeast.{name_missing, behind_name, semicolon_missing, semicolon_read}
 use Rattle.pearl_parse.proofs.Made.{station}
 use Rattle.pearl_parse.proofs.Comes.{Fills}
-use Rattle.pearl_parse_expr.proofs.Reaching.{IsLocal}
+use Rattle.pearl_parse_expr.proofs.Offered.{IsLocal}
 use Rattle.pearl_parse.proofs.TransferRests.{station_ends}
 use Rattle.pearl_parse.proofs.TransferLeast.{station_part_fills}
 use Rattle.pearl_parse.proofs.States.{State, past_first, halt_first}

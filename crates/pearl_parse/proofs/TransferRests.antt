@@ -11,8 +11,7 @@ use Rattle.pearl_tree.specs.Expressions.{SpellsWhole, SpellsOwnRef}
 use Rattle.pearl_tree.specs.Formats.{SpellsFmt}
 use Rattle.pearl_tree.specs.Statements.{SpellsStmt, sema_word}
 use Rattle.pearl_tree.specs.declared.word_code.TheConstants as w
-use Rattle.pearl_tree.proofs.OneStatement.{group_of}
-use Rattle.pearl_tree.proofs.OneSchedule.{no_expr_at}
+use Rattle.pearl_tree.proofs.Offered.{group_of, no_expr_at}
 use Rattle.pearl_parse_expr.specs.declared.reading.Halt.{Halt}
 use Rattle.pearl_parse_expr.specs.declared.reading.Halt.TheVariants.{Refused, NoMemory}
 use Rattle.pearl_parse.specs.Stops.{IsStopped, SpellsBefore, SpellsNameList, SpellsFormats, SpellsStation}

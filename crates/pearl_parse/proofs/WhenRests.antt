@@ -13,10 +13,9 @@ use Rattle.pearl_tree.specs.declared.token.Token.{Token}
 use Rattle.pearl_tree.specs.Standing.{HasWord, SpellsMaybe, what_at}
 use Rattle.pearl_tree.specs.Statements.{SpellsAfter, SpellsStmt, SpellsStart, SpellsOnce}
 use Rattle.pearl_tree.specs.declared.word_code.TheConstants as w
-use Rattle.pearl_tree.proofs.Meeting.{same_word}
-use Rattle.pearl_tree.proofs.OneSchedule.{start_word, start_begins, once_word, once_begins}
+use Rattle.pearl_tree.proofs.Offered.{same_word, start_word, start_begins, once_word, once_begins}
 use Rattle.pearl_parse_expr.specs.Stops.{extends_expression, is_name, is_word}
-use Rattle.pearl_parse_expr.proofs.Primaries.{clash}
+use Rattle.pearl_parse_expr.proofs.Offered.{clash}
 use Rattle.pearl_parse.specs.Schedules.{SpellsOptionalAfter, SpellsOptionalPeriod}
 use Rattle.pearl_parse.proofs.ByFirst.{group, of_kind}
 use Rattle.pearl_parse.proofs.Steps.{Rest, Then, Avoids, Goes}

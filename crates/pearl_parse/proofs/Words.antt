@@ -5,7 +5,7 @@ use Rattle.std.proofs.lemmas.Bool.{eqb-true}
 use Rattle.pearl_tree.specs.declared.token.What.{What}
 use Rattle.pearl_tree.specs.declared.token.What.TheVariants as what
 use Rattle.pearl_parse_expr.specs.Stops.{is_word}
-use Rattle.pearl_parse_expr.proofs.Parts.{or_first, or_second}
+use Rattle.pearl_parse_expr.proofs.Offered.{or_first, or_second}
 use Rattle.pearl_parse.specs.Stops.{is_among}
 use Rattle.pearl_parse.specs.Bodies.{is_one}
 use Rattle.pearl_parse.proofs.Steps.{itself}

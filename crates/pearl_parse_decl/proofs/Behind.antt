@@ -14,14 +14,11 @@ use Rattle.pearl_parse_expr.specs.Stops.{IsLongest, IsOnly, IsAhead, Stuck, Ends
 use Rattle.pearl_parse_expr.specs.Least.{AlikeBefore, ReachesIn, GoesIn, HaltsIn, Reaches, GoesToHalt, IsLeast}
 use Rattle.pearl_parse_expr.specs.Reads.{ReadsOnlyAs, ReadsOnly, ReadsAs, Reads, ReadsList, ReadsMaybe, ReadsMaybeList}
 use Rattle.pearl_parse_expr.specs.declared.reading.Reading.{Reading}
-use Rattle.pearl_parse_expr.proofs.Reaching.{IsLocal, goes, goes_as, goes_max, halts_as, reach_of, reaches_as}
-use Rattle.pearl_parse_expr.proofs.Reaching.{reaches_closed}
+use Rattle.pearl_parse_expr.proofs.Offered.{IsLocal, goes, goes_as, goes_max, halts_as, reach_of, reaches_as}
+use Rattle.pearl_parse_expr.proofs.Offered.{reaches_closed, reaches_max, shorter, or_first, or_second, clash}
 use Rattle.pearl_tree.specs.Tokens.{IsLawfulWhat}
 use Rattle.std.specs.Option.{option_map}
-use Rattle.pearl_parse_expr.proofs.Reaching.{reaches_max}
 use Rattle.pearl_parse_decl.specs.Readings.{behind, IsOptional, IsPast, ReadsMaybePart}
-use Rattle.pearl_parse_expr.proofs.Parts.{shorter, or_first, or_second}
-use Rattle.pearl_parse_expr.proofs.Primaries.{clash}
 
 -- ---- no part is read
 

@@ -7,7 +7,7 @@ use Rattle.pearl_tree.specs.declared.token.Token.{Token}
 use Rattle.pearl_tree.specs.Standing.{what_at}
 use Rattle.pearl_tree.specs.Expressions.{SpellsLiteral}
 use Rattle.pearl_parse_expr.specs.Stops.{EndsEarly, is_literal}
-use Rattle.pearl_parse_expr.proofs.Primaries.{literal_head}
+use Rattle.pearl_parse_expr.proofs.Offered.{literal_head}
 use Rattle.pearl_parse_decl.specs.Readings.{is_sign}
 
 literal_is_no_sign : (token : Option What) → is_literal token ≡ true → is_sign token ≡ true → ⊥

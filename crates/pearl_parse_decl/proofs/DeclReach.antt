@@ -30,19 +30,16 @@ use Rattle.pearl_tree.specs.Modules.{SpellsDecl}
 use Rattle.pearl_tree.specs.declared.symbol.TheConstants as s
 use Rattle.pearl_tree.specs.declared.word_code.TheConstants as w
 use Rattle.pearl_parse_expr.specs.Least.{AlikeBefore, Reaches, GoesTo}
-use Rattle.pearl_parse_expr.proofs.Ids.{x_name, x_token, x_lawful}
-use Rattle.pearl_parse_expr.proofs.Local as local
-use Rattle.pearl_parse_expr.proofs.Reaching.{IsLocal, Lawful, begun, completed, goes, goes_as, halts_as}
-use Rattle.pearl_parse_expr.proofs.Reaching.{reaches_max, reaches_as, reaches_as_in, one_lawful}
-use Rattle.pearl_parse_expr.proofs.Reaching.{none_lawful, placed_within, what_stands, place_stands}
-use Rattle.pearl_parse_expr.proofs.Trees.{parts_of}
+use Rattle.pearl_parse_expr.proofs.Offered.{x_name, x_token, x_lawful, IsLocal, Lawful, begun, completed, goes, goes_as}
+use Rattle.pearl_parse_expr.proofs.Offered.{halts_as, reaches_max, reaches_as, reaches_as_in, one_lawful, none_lawful}
+use Rattle.pearl_parse_expr.proofs.Offered.{placed_within, what_stands, place_stands, parts_of, shorter, or_first}
+use Rattle.pearl_parse_expr.proofs.Offered.{or_second, word_within}
+use Rattle.pearl_parse_expr.proofs.Offered as local
 use Rattle.pearl_parse_expr.specs.declared.reading.Halt.{Halt}
 use Rattle.pearl_parse_expr.specs.declared.reading.Halt.TheVariants.{Refused}
 use Rattle.pearl_parse_expr.specs.declared.reading.Reading.{Reading}
 use Rattle.pearl_parse_expr.specs.Reads.{Reads, ReadsMaybeList}
 use Rattle.pearl_parse_expr.specs.Stops.{IsLongest, EndsEarly, StopsWithin, is_name, is_word}
-use Rattle.pearl_parse_expr.proofs.Parts.{shorter, or_first, or_second}
-use Rattle.pearl_parse_expr.proofs.Primaries.{word_within}
 use Rattle.pearl_tree.specs.Stops.{BeginAlike}
 use Rattle.pearl_tree.specs.declared.token.What.{What}
 use Rattle.pearl_tree.specs.declared.literal.Const.{Const}

@@ -10,10 +10,9 @@ use Rattle.pearl_tree.specs.Standing.{what_at, IsName, IsNumber, HasSymbol, Spel
 use Rattle.pearl_tree.specs.Declarations.{IsDeviceWord, SpellsDevice}
 use Rattle.pearl_tree.specs.declared.symbol.TheConstants as s
 use Rattle.pearl_parse_expr.specs.Least.{AlikeBefore, Reaches}
-use Rattle.pearl_parse_expr.proofs.Ids.{x_name, x_token, letter_lawful}
-use Rattle.pearl_parse_expr.proofs.Local as local
-use Rattle.pearl_parse_expr.proofs.Reaching.{Lawful, begun, completed, one_lawful, none_lawful}
-use Rattle.pearl_parse_expr.proofs.Reaching.{what_stands, place_stands}
+use Rattle.pearl_parse_expr.proofs.Offered.{x_name, x_token, letter_lawful, Lawful, begun, completed, one_lawful}
+use Rattle.pearl_parse_expr.proofs.Offered.{none_lawful, what_stands, place_stands}
+use Rattle.pearl_parse_expr.proofs.Offered as local
 use Rattle.pearl_parse_decl.proofs.Behind.{Holds, closes_with}
 use Rattle.pearl_parse_decl.proofs.Leaves.{symbol, one, one_number, bracketed_number_is_local}
 

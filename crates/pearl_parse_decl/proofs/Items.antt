@@ -17,8 +17,7 @@ use Rattle.pearl_tree.specs.declared.word_code.TheConstants as w
 use Rattle.pearl_tree.specs.Stops.{BeginAlike}
 use Rattle.pearl_parse_expr.specs.Stops.{IsLongest, IsOnly, EndsEarly, is_word}
 use Rattle.pearl_parse_decl.specs.Readings.{by_bracket, extends_item}
-use Rattle.pearl_parse_expr.proofs.Primaries.{clash}
-use Rattle.pearl_parse_expr.proofs.Parts.{shorter}
+use Rattle.pearl_parse_expr.proofs.Offered.{clash, shorter}
 use Rattle.pearl_parse_decl.proofs.Lists.{settled}
 use Rattle.pearl_parse_decl.proofs.Behind.{last}
 use Rattle.pearl_parse_decl.proofs.Types.{typing_head, typing_no_inv, typing_no_sema}

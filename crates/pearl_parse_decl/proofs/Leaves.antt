@@ -28,7 +28,7 @@ use Rattle.pearl_tree.specs.Declarations.{SpellsClass, SpellsPrio}
 use Rattle.pearl_tree.specs.Modules.{SpellsTaskHead, SpellsReturns, SpellsDecl}
 use Rattle.pearl_tree.specs.declared.symbol.TheConstants as s
 use Rattle.pearl_tree.specs.declared.word_code.TheConstants as w
-use Rattle.pearl_tree.proofs.LiteralEnds.{literal_after}
+use Rattle.pearl_tree.proofs.Offered.{literal_after}
 use Rattle.pearl_tree.specs.Stops.{BeginAlike}
 use Rattle.pearl_tree.specs.declared.limit.TheConstants as limit
 use Rattle.pearl_tree.specs.declared.format.Fmt.{Fmt}
@@ -39,18 +39,14 @@ use Rattle.pearl_parse_expr.specs.Stops.{IsLongest, EndsEarly, SpellsNamed, is_n
 use Rattle.pearl_parse_expr.specs.Least.{Reaches, GoesTo}
 use Rattle.pearl_parse_expr.specs.Reads.{ReadsOnly}
 use Rattle.pearl_parse_decl.specs.Readings.{IsOptional, ReadsMaybePart, extends_head}
-use Rattle.pearl_parse_expr.proofs.Primaries.{clash}
-use Rattle.pearl_parse_expr.proofs.Parts.{shorter, or_first}
-use Rattle.pearl_parse_expr.proofs.Joining.{named, selectors_after}
+use Rattle.pearl_parse_expr.proofs.Offered.{clash, shorter, or_first, named, selectors_after, x_name, x_token, x_lawful}
+use Rattle.pearl_parse_expr.proofs.Offered.{letter_token, letter_lawful, IsLocal, Lawful, begun, completed, goes_as}
+use Rattle.pearl_parse_expr.proofs.Offered.{goes_max, reach_of, reaches_as, one_lawful, none_lawful, placed_within}
+use Rattle.pearl_parse_expr.proofs.Offered.{token_of, what_stands, place_stands, unread}
 use Rattle.pearl_parse_decl.proofs.Behind.{Holds, closes_with, ends_as, ends_with, last, maybe_reads, no_flag}
-use Rattle.pearl_parse_expr.proofs.Ids.{x_name, x_token, x_lawful, letter_token, letter_lawful}
-use Rattle.pearl_parse_expr.proofs.Local as local
-use Rattle.pearl_parse_expr.proofs.Reaching.{IsLocal, Lawful, begun, completed, goes_as, goes_max, reach_of, reaches_as}
-use Rattle.pearl_parse_expr.proofs.Reaching.{one_lawful, none_lawful, placed_within, token_of}
-use Rattle.pearl_parse_expr.proofs.Reaching.{what_stands, place_stands}
+use Rattle.pearl_parse_expr.proofs.Offered as local
 use Rattle.pearl_parse_decl.proofs.LocalLists.{local_of, maybe_keeps, bracketed_number_keeps}
 use Rattle.pearl_parse_decl.proofs.LocalDeclarations.{sign_keeps, int_keeps, basic_keeps, prio_keeps}
-use Rattle.pearl_parse_expr.proofs.Readings.{unread}
 
 -- ---- tokens that stand where some are missing
 

@@ -1,13 +1,14 @@
-pub mod Lists
-pub mod Behind
-pub mod Types
-pub mod Items
-pub mod Specifications
-pub mod Constants
-pub mod Leaves
-pub mod LocalLists
-pub mod LocalDeclarations
-pub mod Devices
-pub mod ListReach
-pub mod TypeReach
-pub mod DeclReach
+mod Lists
+mod Behind
+mod Types
+mod Items
+mod Specifications
+mod Constants
+mod Leaves
+mod LocalLists
+mod LocalDeclarations
+mod Devices
+mod ListReach
+mod TypeReach
+mod DeclReach
+pub mod Offered

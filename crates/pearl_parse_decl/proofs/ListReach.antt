@@ -11,10 +11,8 @@ use Rattle.pearl_parse_expr.specs.Least.{ReachesIn, GoesIn}
 use Rattle.pearl_parse_expr.specs.Reads.{ReadsMaybeList}
 use Rattle.pearl_parse_expr.specs.Readings.{IsList}
 use Rattle.pearl_parse_expr.specs.Stops.{IsLongest, StopsWithin}
-use Rattle.pearl_parse_expr.proofs.Lists.{listed}
-use Rattle.pearl_parse_expr.proofs.Local as local
-use Rattle.pearl_parse_expr.proofs.LocalLists as lists
-use Rattle.pearl_parse_expr.proofs.Reaching.{IsLocal, reaches_as_in, reaches_closed_in}
+use Rattle.pearl_parse_expr.proofs.Offered.{listed, IsLocal, reaches_as_in, reaches_closed_in}
+use Rattle.pearl_parse_expr.proofs.Offered as offered
 use Rattle.pearl_parse_decl.specs.Readings.{IsSelfContained}
 use Rattle.pearl_parse_decl.proofs.Behind.{Holds}
 use Rattle.pearl_parse_decl.proofs.Leaves.{symbol}
@@ -22,11 +20,11 @@ use Rattle.pearl_parse_decl.proofs.Leaves.{symbol}
 module _ {X : Type 0} (spells : List Token → Spelling X) (kept : IsSelfContained spells) where
   pub list_is_local : IsLocal (λ tokens. SpellsList tokens (spells tokens))
   list_is_local tokens others k alike from xs to h near =
-      (lists.list_keeps tokens others k alike 1 spells (kept tokens others k alike) from xs to h near).1
+      (offered.list_keeps tokens others k alike 1 spells (kept tokens others k alike) from xs to h near).1
 
   pub list_after : (tokens : List Token) (from : ℕ) (xs : List X) (to : ℕ) →
       SpellsList tokens (spells tokens) from xs to → from + length xs ≤ to
-  list_after tokens = lists.list_long tokens (spells tokens) (lists.after_of 1 spells kept tokens)
+  list_after tokens = offered.list_long tokens (spells tokens) (offered.after_of 1 spells kept tokens)
 
   -- a list behind the bracket that opens it
   pub bracketed_holds : (tokens : List Token) (from : ℕ) → HasSymbol tokens from s.LEFT_ROUND →
@@ -41,7 +39,7 @@ module _ {X : Type 0} (spells : List Token → Spelling X) (kept : IsSelfContain
           xs,
           (
             m,
-            local.what tokens others stop alike from (omega (arith, near)) ∙ bracket,
+            offered.what tokens others stop alike from (omega (arith, near)) ∙ bracket,
             h,
             ap (option_map (λ token. token.what)) end,
             refl,
@@ -92,5 +90,5 @@ module _ {X : Type 0} (spells : List Token → Spelling X) where
       (λ tokens. SpellsMaybeHeaded tokens word (spells tokens)) tokens from (from + 1) 9 9 stop (omega arith)
       (λ others alike long short xs h. (
         xs,
-        as_headed others word from xs (length others) (local.what tokens others stop alike from near ∙ stands) h,
+        as_headed others word from xs (length others) (offered.what tokens others stop alike from near ∙ stands) h,
       )) r

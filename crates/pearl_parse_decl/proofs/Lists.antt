@@ -9,8 +9,7 @@ use Rattle.pearl_tree.specs.Standing.{SpellsMaybeBracketed, SpellsMaybeHeaded}
 use Rattle.pearl_tree.specs.declared.symbol.TheConstants as s
 use Rattle.pearl_parse_expr.specs.Stops.{IsLongest, Stuck, IsOnly, EndsEarly, is_symbol, is_word, by_comma}
 use Rattle.pearl_parse_decl.specs.Readings.{by_bracket}
-use Rattle.pearl_parse_expr.proofs.Primaries.{clash}
-use Rattle.pearl_parse_expr.proofs.Parts.{shorter}
+use Rattle.pearl_parse_expr.proofs.Offered.{clash, shorter}
 
 -- where no token goes on with the part, it ends where it was read to
 pub settled : (extends : Option What → Bool) (others : List Token) (end m : ℕ) →

@@ -31,10 +31,9 @@ use Rattle.pearl_tree.specs.Declarations.{SpellsDeclared, SpellsClass, SpellsCon
 use Rattle.pearl_tree.specs.Modules.{SpellsTaskHead, SpellsReturns}
 use Rattle.pearl_tree.specs.declared.symbol.TheConstants as s
 use Rattle.pearl_tree.specs.declared.word_code.TheConstants as w
-use Rattle.pearl_tree.proofs.LiteralEnds.{literal_after}
-use Rattle.pearl_tree.proofs.ExpressionsForward.{terms_after, selector_after}
+use Rattle.pearl_tree.proofs.Offered.{literal_after, terms_after, selector_after}
 use Rattle.pearl_parse_expr.specs.Least.{AlikeBefore}
-use Rattle.pearl_parse_expr.proofs.Local as local
+use Rattle.pearl_parse_expr.proofs.Offered as local
 use Rattle.pearl_parse_decl.proofs.LocalLists.{Keeps}
 use Rattle.pearl_parse_decl.proofs.LocalLists as lists
 

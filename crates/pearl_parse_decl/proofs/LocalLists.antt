@@ -7,9 +7,9 @@ use Rattle.pearl_tree.specs.Standing.{Spelling, what_at, IsNumber, SpellsBracket
 use Rattle.pearl_tree.specs.Standing.{SpellsMaybeHeaded, SpellsMaybe, SpellsFlag, SpellsSymbolFlag, SpellsName}
 use Rattle.pearl_tree.specs.Standing.{SpellsNumber, SpellsBracketedNumber}
 use Rattle.pearl_parse_expr.specs.Least.{AlikeBefore}
-use Rattle.pearl_parse_expr.proofs.Local as local
-pub use Rattle.pearl_parse_expr.proofs.LocalLists.{Keeps, Kept, local_of, after_of, each_keeps, some_keeps}
-pub use Rattle.pearl_parse_expr.proofs.LocalLists.{more_keeps, list_keeps, each_long, more_long, list_long}
+use Rattle.pearl_parse_expr.proofs.Offered as local
+pub use Rattle.pearl_parse_expr.proofs.Offered.{Keeps, Kept, local_of, after_of, each_keeps, some_keeps, more_keeps}
+pub use Rattle.pearl_parse_expr.proofs.Offered.{list_keeps, each_long, more_long, list_long}
 use Rattle.pearl_parse_decl.specs.Readings.{IsSelfContained}
 
 pub contained_of : {X : Type 0} (n : ℕ) (spells : List Token → Spelling X) → 1 ≤ n → Kept n spells →

@@ -14,7 +14,7 @@ use Rattle.pearl_tree.specs.Declarations.{IsDeviceWord, SpellsClass, SpellsContr
 use Rattle.pearl_tree.specs.declared.word_code.TheConstants as w
 use Rattle.pearl_parse_expr.specs.Stops.{EndsEarly, is_name, is_word}
 use Rattle.pearl_parse_decl.specs.Readings.{by_bracket, extends_spec, is_device_word}
-use Rattle.pearl_parse_expr.proofs.Primaries.{clash}
+use Rattle.pearl_parse_expr.proofs.Offered.{clash}
 use Rattle.pearl_parse_decl.proofs.Behind.{last}
 
 module _ (others : List Token) where

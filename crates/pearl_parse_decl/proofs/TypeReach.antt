@@ -18,19 +18,16 @@ use Rattle.pearl_tree.specs.Standing.{SpellsBracketed, SpellsMaybeBracketed}
 use Rattle.pearl_tree.specs.Types.{SpellsNames, SpellsBound, SpellsBounds, SpellsBasic, SpellsTyping, SpellsField}
 use Rattle.pearl_tree.specs.declared.symbol.TheConstants as s
 use Rattle.pearl_tree.specs.declared.word_code.TheConstants as w
-use Rattle.pearl_tree.proofs.TypeLists.{spells_struct}
+use Rattle.pearl_tree.proofs.Offered.{spells_struct}
 use Rattle.pearl_parse_expr.specs.Least.{ReachesIn, Reaches, GoesTo}
-use Rattle.pearl_parse_expr.proofs.Ids.{x_name, x_token, x_lawful}
-use Rattle.pearl_parse_expr.proofs.Local as local
-use Rattle.pearl_parse_expr.proofs.Reaching.{IsLocal, Lawful, begun, completed, goes, reaches_max}
-use Rattle.pearl_parse_expr.proofs.Reaching.{reaches_as_in, reaches_closed_in, one_lawful, none_lawful}
-use Rattle.pearl_parse_expr.proofs.Reaching.{placed, placed_within, what_stands, place_stands}
-use Rattle.pearl_parse_expr.proofs.Trees.{parts_of}
+use Rattle.pearl_parse_expr.proofs.Offered.{x_name, x_token, x_lawful, IsLocal, Lawful, begun, completed, goes}
+use Rattle.pearl_parse_expr.proofs.Offered.{reaches_max, reaches_as_in, reaches_closed_in, one_lawful, none_lawful}
+use Rattle.pearl_parse_expr.proofs.Offered.{placed, placed_within, what_stands, place_stands, parts_of, shorter}
+use Rattle.pearl_parse_expr.proofs.Offered as local
 use Rattle.pearl_parse_expr.specs.declared.reading.Halt.{Halt}
 use Rattle.pearl_parse_expr.specs.declared.reading.Reading.{Reading}
 use Rattle.pearl_parse_expr.specs.Reads.{Reads, ReadsOnly}
 use Rattle.pearl_parse_expr.specs.Stops.{IsLongest}
-use Rattle.pearl_parse_expr.proofs.Parts.{shorter}
 use Rattle.pearl_tree.specs.Stops.{BeginAlike}
 use Rattle.pearl_parse_decl.specs.Readings.{IsSelfContained, ReadsMaybePart, by_bracket, behind}
 use Rattle.pearl_parse_decl.proofs.Behind.{Holds, closes_with, ends_with, longest_is_read, maybe_is_read}

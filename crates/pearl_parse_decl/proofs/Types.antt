@@ -23,8 +23,7 @@ use Rattle.pearl_tree.specs.declared.word_code.TheConstants as w
 use Rattle.pearl_tree.specs.Stops.{BeginAlike}
 use Rattle.pearl_parse_expr.specs.Stops.{IsLongest, Stuck, IsOnly, is_symbol, is_word, is_name, by_comma}
 use Rattle.pearl_parse_decl.specs.Readings.{by_bracket}
-use Rattle.pearl_parse_expr.proofs.Primaries.{clash}
-use Rattle.pearl_parse_expr.proofs.Parts.{shorter}
+use Rattle.pearl_parse_expr.proofs.Offered.{clash, shorter}
 use Rattle.pearl_parse_decl.proofs.Lists.{settled}
 
 module _ (tokens : List Token) where

@@ -5,7 +5,7 @@ ghost use Rattle.pearl_tree.specs.Expressions.{SpellsWhole, SpellsOwnRef};
 ghost use Rattle.pearl_tree.specs.declared.limit.TheConstants as limit;
 ghost use Rattle.pearl_parse_expr.specs.Stops as stops;
 ghost use Rattle.pearl_parse_expr.specs.Reads.{Reads, ReadsAs};
-ghost use Rattle.pearl_parse_expr.proofs.PartsBegin as parts;
+ghost use Rattle.pearl_parse_expr.proofs.Offered as parts;
 
 use crate::list::Readable;
 use pearl_parse_expr::expression::{expression_at_depth, reference};

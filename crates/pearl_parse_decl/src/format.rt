@@ -7,7 +7,7 @@ ghost use Rattle.pearl_tree.specs.declared.format.FreeCode.{FreeCode};
 ghost use Rattle.pearl_tree.specs.declared.format.WideCode.{WideCode};
 ghost use Rattle.pearl_parse_expr.specs.declared.reading.Halt.{Halt};
 ghost use Rattle.pearl_parse_expr.specs.Reads.{Reads};
-ghost use Rattle.pearl_parse_expr.proofs.PartsBegin as parts;
+ghost use Rattle.pearl_parse_expr.proofs.Offered as parts;
 ghost use Rattle.pearl_parse_decl.specs.Readings as spec;
 
 use crate::list::Readable;

@@ -5,7 +5,7 @@ ghost use Rattle.pearl_tree.specs.Standing.{SpellsMaybe};
 ghost use Rattle.pearl_tree.specs.Expressions as grammar;
 ghost use Rattle.pearl_parse_expr.specs.Stops as stops;
 ghost use Rattle.pearl_parse_expr.specs.Reads.{Reads};
-ghost use Rattle.pearl_parse_expr.proofs.PartsBegin as parts;
+ghost use Rattle.pearl_parse_expr.proofs.Offered as parts;
 ghost use Rattle.pearl_parse_decl.specs.Readings as spec;
 
 use crate::list::{Readable, behind};

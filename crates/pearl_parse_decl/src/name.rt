@@ -5,7 +5,7 @@ ghost use Rattle.pearl_tree.specs.Standing.{SpellsName, SpellsNumber, SpellsMayb
 ghost use Rattle.pearl_tree.specs.Types as grammar;
 ghost use Rattle.pearl_parse_expr.specs.declared.reading.Halt.{Halt};
 ghost use Rattle.pearl_parse_expr.specs.Reads.{ReadsOnly};
-ghost use Rattle.pearl_parse_expr.proofs.PartsBegin as parts;
+ghost use Rattle.pearl_parse_expr.proofs.Offered as parts;
 ghost use Rattle.pearl_parse_decl.specs.Readings as spec;
 
 use crate::flag::optional;

@@ -8,7 +8,7 @@ ghost use Rattle.pearl_tree.specs.declared.typing.Field.{Field};
 ghost use Rattle.pearl_tree.specs.declared.word_code.TheConstants as w;
 ghost use Rattle.pearl_parse_expr.specs.declared.reading.Halt.{Halt};
 ghost use Rattle.pearl_parse_expr.specs.Reads.{Reads, ReadsOnly, ReadsList};
-ghost use Rattle.pearl_parse_expr.proofs.PartsBegin as parts;
+ghost use Rattle.pearl_parse_expr.proofs.Offered as parts;
 ghost use Rattle.pearl_parse_decl.specs.Readings as spec;
 
 use crate::flag::optional;

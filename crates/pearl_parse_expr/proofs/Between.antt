@@ -23,7 +23,7 @@ use Rattle.pearl_tree.specs.Standing.{what_at, place_at, IsName, IsNumber, Spell
 use Rattle.pearl_tree.specs.Expressions.{SpellsSecs, SpellsSeconds, SpellsMinutes, SpellsDuration, SpellsLiteral}
 use Rattle.pearl_tree.specs.Expressions.{SpellsMonadic, SpellsTerms, SpellsPrimary, SpellsSelectors, SpellsSelector}
 use Rattle.pearl_tree.specs.Expressions.{SpellsSubscripts, SpellsMoreSubscripts, HasDyad, dyad_of}
-use Rattle.pearl_tree.proofs.ExpressionsForward.{terms_after, primary_after, selector_after, monadics_after}
+use Rattle.pearl_tree.proofs.Offered.{terms_after, primary_after, selector_after, monadics_after}
 
 module _ (tokens others : List Token) (low k : ℕ) (alike : (j : ℕ) → low ≤ j → j < k →
     slice_get tokens j ≡ slice_get others j) where

@@ -25,8 +25,8 @@ use Rattle.pearl_tree.specs.Expressions.{SpellsMonadic, SpellsTerms, SpellsExpr,
 use Rattle.pearl_tree.specs.Expressions.{SpellsRef, HasDyad, dyad_count, side_word}
 use Rattle.pearl_tree.specs.declared.symbol.TheConstants as s
 use Rattle.pearl_tree.specs.declared.word_code.TheConstants as w
-use Rattle.pearl_tree.proofs.ExpressionLists.{spells_ref, spells_limit, spells_subscripts}
-use Rattle.pearl_tree.proofs.ExpressionsForward.{terms_after, selector_after, primary_after, monadics_after}
+use Rattle.pearl_tree.proofs.Offered.{spells_ref, spells_limit, spells_subscripts, terms_after, selector_after}
+use Rattle.pearl_tree.proofs.Offered.{primary_after, monadics_after}
 use Rattle.pearl_parse_expr.specs.Stops.{EndsEarly, IsAhead, SpellsSigned, SpellsOperand, SpellsNamed}
 use Rattle.pearl_parse_expr.specs.Stops.{SpellsSelectorsList, SpellsSubscriptsList, SomeGoesOn, extends_operand}
 use Rattle.pearl_parse_expr.specs.Stops.{extends_expression, extends_list, is_name}

@@ -1,26 +1,27 @@
-pub mod Literals
-pub mod Primaries
-pub mod Lists
-pub mod Parts
-pub mod Chains
-pub mod Halts
-pub mod Readings
-pub mod Limits
-pub mod Closings
-pub mod Loops
-pub mod Operands
-pub mod PastEnd
-pub mod Between
-pub mod Local
-pub mod Reaching
-pub mod Ids
-pub mod Trees
-pub mod Durations
-pub mod PrimariesBegin
-pub mod LocalLists
-pub mod ListReach
-pub mod CommaLists
-pub mod Joining
-pub mod PartsBegin
-pub mod OneStop
-pub mod Fields
+mod Literals
+mod Primaries
+mod Lists
+mod Parts
+mod Chains
+mod Halts
+mod Readings
+mod Limits
+mod Closings
+mod Loops
+mod Operands
+mod PastEnd
+mod Between
+mod Local
+mod Reaching
+mod Ids
+mod Trees
+mod Durations
+mod PrimariesBegin
+mod LocalLists
+mod ListReach
+mod CommaLists
+mod Joining
+mod PartsBegin
+mod OneStop
+mod Fields
+pub mod Offered

@@ -13,7 +13,7 @@ use Rattle.pearl_tree.specs.declared.expression.Side.{Side}
 use Rattle.pearl_tree.specs.declared.token.Token.{Token}
 use Rattle.pearl_tree.specs.Standing.{what_at, HasWord, SpellsMaybe, SpellsNumber}
 use Rattle.pearl_tree.specs.Expressions.{SpellsPrimary, SpellsRef, side_word}
-use Rattle.pearl_tree.proofs.ExpressionLists.{spells_ref}
+use Rattle.pearl_tree.proofs.Offered.{spells_ref}
 use Rattle.pearl_parse_expr.specs.declared.reading.Halt.{Halt}
 use Rattle.pearl_parse_expr.specs.declared.reading.Halt.TheVariants.{Refused}
 use Rattle.pearl_parse_expr.specs.declared.reading.Reading.{Reading}

@@ -25,7 +25,7 @@ use Rattle.pearl_tree.specs.Expressions.{SpellsExpr, side_word}
 use Rattle.pearl_tree.specs.declared.word_code.TheConstants as w
 use Rattle.pearl_tree.specs.declared.symbol.TheConstants as s
 use Rattle.pearl_tree.specs.Stops.{BeginAlike}
-use Rattle.pearl_tree.proofs.ExpressionLists.{selectors, subscripts}
+use Rattle.pearl_tree.proofs.Offered.{selectors, subscripts}
 use Rattle.pearl_parse_expr.specs.declared.reading.Halt.{Halt}
 use Rattle.pearl_parse_expr.specs.declared.reading.Halt.TheVariants.{Refused, NoMemory}
 use Rattle.pearl_parse_expr.specs.Stops.{IsHalted, is_literal, is_name, is_number, is_secs, is_plain, is_side}

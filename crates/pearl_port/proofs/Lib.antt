@@ -1,1 +1,1 @@
-pub mod Rooms
+mod Rooms

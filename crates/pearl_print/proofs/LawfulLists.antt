@@ -19,7 +19,7 @@ use Rattle.pearl_tree.specs.Symbols.{symbol_count}
 use Rattle.pearl_tree.specs.Words.{code_count, meanings, words}
 use Rattle.pearl_tree.specs.Tokens.{IsIdByte, IsLawfulWhat}
 use Rattle.pearl_tree.specs.Lawful.{IsLawfulName, IsLawfulNumber}
-use Rattle.pearl_lex.proofs.Passes.{and_front, and_back}
+use Rattle.pearl_lex.proofs.Offered.{and_front, and_back}
 use Rattle.pearl_print.specs.Lists.{word, symbol, id, name_tokens, number_tokens, after_commas, listed, bracketed, maybe_bracketed, maybe_headed, maybe, flag, bracketed_number}
 
 pub record AllLawful (whats : List What) : Type 0 where

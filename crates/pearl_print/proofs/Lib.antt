@@ -1,29 +1,30 @@
 pub mod Texts
-pub mod Rows
-pub mod StatementRows
-pub mod Reading
-pub mod WordsRead
-pub mod SymbolsRead
-pub mod NumbersRead
-pub mod TextsRead
-pub mod BitsRead
-pub mod ClocksRead
-pub mod LawfulRead
-pub mod LawfulLists
-pub mod LawfulParts
-pub mod ShownLists
-pub mod ShownExpressions
-pub mod ShownDeclarations
-pub mod ShownSchedules
-pub mod ShownStatements
-pub mod ShownModules
-pub mod TokenRanges
-pub mod PlainLists
-pub mod PlainLiterals
-pub mod PlainExpressions
-pub mod PlainDeclarations
-pub mod PlainSchedules
-pub mod PlainStatements
-pub mod PlainModules
-pub mod PlainTokens
-pub mod PrintedAgain
+mod Rows
+mod StatementRows
+mod Reading
+mod WordsRead
+mod SymbolsRead
+mod NumbersRead
+mod TextsRead
+mod BitsRead
+mod ClocksRead
+mod LawfulRead
+mod LawfulLists
+mod LawfulParts
+mod ShownLists
+mod ShownExpressions
+mod ShownDeclarations
+mod ShownSchedules
+mod ShownStatements
+mod ShownModules
+mod TokenRanges
+mod PlainLists
+mod PlainLiterals
+mod PlainExpressions
+mod PlainDeclarations
+mod PlainSchedules
+mod PlainStatements
+mod PlainModules
+mod PlainTokens
+mod PrintedAgain
+pub mod Offered

@@ -1,9 +1,8 @@
 -- A printed text is printed again to the same bytes.
 use Rattle.std.proofs.Common.{◌≡◌, refl, ap, subst, ◌∙◌}
 use Rattle.pearl_tree.specs.Modules.{Spells}
-use Rattle.pearl_tree.proofs.SpelledLawful.{spelled_lawful}
-use Rattle.pearl_lex.proofs.LawfulTokens.{lawful_tokens}
-use Rattle.pearl_lex.proofs.Unique.{one_reading}
+use Rattle.pearl_tree.proofs.Offered.{spelled_lawful}
+use Rattle.pearl_lex.proofs.Offered.{lawful_tokens, one_reading}
 use Rattle.pearl_print.specs.Modules.{tokens_of}
 use Rattle.pearl_print.specs.Spelled.{text_of_tokens}
 use Rattle.pearl_print.specs.Canonical.{PrintsAgain, SourcePrintsAgain}

@@ -9,7 +9,7 @@ use Rattle.pearl_tree.specs.declared.symbol.TheConstants as s
 use Rattle.pearl_lex.specs.Spelling.{space_len}
 use Rattle.pearl_lex.specs.Front.{front}
 use Rattle.pearl_lex.specs.Lexes.{IsSpace, IsToken, AreTokens}
-use Rattle.pearl_lex.proofs.Lexing.{no_space, more_space}
+use Rattle.pearl_lex.proofs.Offered.{no_space, more_space}
 use Rattle.pearl_print.specs.Spelled.{spelled, gap, text_of_tokens}
 use Rattle.pearl_print.specs.Reading.{IsReadBack, TextReads}
 use Rattle.pearl_print.proofs.Texts.{text_of_tokens-nil, text_of_tokens-cons}

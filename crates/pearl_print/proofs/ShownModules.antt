@@ -13,7 +13,7 @@ use Rattle.pearl_tree.specs.ShownStatements.{shown_body_decl, shown_stmt}
 use Rattle.pearl_tree.specs.ShownModules.{ShownBody, shown_body, ShownDecl, OfLength, OfType, OfDeclare, OfSpecify, OfTask, OfProc, shown_decl, shown_devices, ShownTree, shown_tree}
 use Rattle.pearl_tree.specs.declared.symbol.TheConstants as s
 use Rattle.pearl_tree.specs.declared.word_code.TheConstants as w
-use Rattle.pearl_tree.proofs.OneModule.{one_tree}
+use Rattle.pearl_tree.proofs.Offered.{one_tree}
 use Rattle.pearl_print.specs.Lists.{word, symbol, name_tokens, listed, maybe_bracketed, maybe, bracketed_number}
 use Rattle.pearl_print.specs.Declarations.{device_tokens, declared_tokens, spec_tokens, param_tokens}
 use Rattle.pearl_print.specs.Statements.{body_decl_tokens, stmt_tokens}

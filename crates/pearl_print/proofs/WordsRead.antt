@@ -11,7 +11,7 @@ use Rattle.pearl_tree.specs.declared.token.What.TheVariants as what
 use Rattle.pearl_lex.specs.declared.front.Front.{Front}
 use Rattle.pearl_lex.specs.Spelling.{is_id_byte, is_blank, space_len, sized, meaning, word_or_id, id_of}
 use Rattle.pearl_lex.specs.Front.{front}
-use Rattle.pearl_lex.proofs.Passes.{and_front, and_back}
+use Rattle.pearl_lex.proofs.Offered.{and_front, and_back}
 use Rattle.pearl_print.specs.Spelled.{spelled}
 use Rattle.pearl_print.specs.Reading.{IsReadBack}
 use Rattle.pearl_tree.specs.Tokens.{IsLetter, IsIdByte, IsId, BeginsWithLetter}

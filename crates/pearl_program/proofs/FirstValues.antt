@@ -7,7 +7,7 @@ use Rattle.std.proofs.lemmas.List.Elements.{All-nil, All-cons, All-append, All-r
 use Rattle.pearl_value.specs.declared.cell.Cell.{Cell}
 use Rattle.pearl_value.specs.Blanks.{blank_of, last_or}
 use Rattle.pearl_value.specs.WellFormed.{IsValueOf}
-use Rattle.pearl_value.proofs.Results.{blank_gives}
+use Rattle.pearl_value.proofs.Offered.{blank_gives}
 use Rattle.pearl_program.specs.PlainStatements.{PlainValues}
 use Rattle.pearl_program.specs.SoundStatements.{AreFirst}
 use Rattle.pearl_program.specs.FirstCells.{first_cells}

@@ -1,6 +1,7 @@
-pub mod OneKind
-pub mod FirstValues
-pub mod WholeProgram
-pub mod NotHidden
+mod OneKind
+mod FirstValues
+mod WholeProgram
+mod NotHidden
 mod Unsound
 mod UnsoundStatements
+pub mod Offered

@@ -1,1 +1,1 @@
-pub mod BestLaws
+mod BestLaws

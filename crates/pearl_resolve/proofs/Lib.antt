@@ -1,17 +1,18 @@
-pub mod Adding
-pub mod Examples
-pub mod Lookups
-pub mod Loops
-pub mod ModuleLeaves
-pub mod ModuleNumbers
-pub mod Numbering
-pub mod PlacingSteps
-pub mod PlainNodes
-pub mod Reached
-pub mod Renewing
-pub mod Resolving
-pub mod RoutineLists
-pub mod ScopeCells
-pub mod Sizes
-pub mod StatementNodes
-pub mod StatementParts
+mod Adding
+mod Examples
+mod Lookups
+mod Loops
+mod ModuleLeaves
+mod ModuleNumbers
+mod Numbering
+mod PlacingSteps
+mod PlainNodes
+mod Reached
+mod Renewing
+mod Resolving
+mod RoutineLists
+mod ScopeCells
+mod Sizes
+mod StatementNodes
+mod StatementParts
+pub mod Offered

@@ -10,7 +10,7 @@ use Rattle.pearl_program.specs.declared.expression.Expr.{Expr}
 use Rattle.pearl_program.specs.declared.expression.Argument.{Argument}
 use Rattle.pearl_program.specs.PlainExpressions.{PlainExprs, PlainArguments, MoreArguments, plain_expr, plain_exprs, plain_argument, plain_arguments}
 use Rattle.pearl_program.specs.PlainExpressions as plain
-use Rattle.pearl_names.proofs.Lists.{one_taken}
+use Rattle.pearl_names.proofs.Offered.{one_taken}
 use Rattle.pearl_resolve.specs.Expressions.{Numbered, Walk, along, step, handed, joined_exprs, resolve_expr, resolve_exprs, resolve_arguments}
 use Rattle.pearl_resolve.specs.Holding.{is_ident_at}
 use Rattle.pearl_resolve.proofs.PlainNodes.{exprs_push, joined_none, joined_arguments, arguments_push, joined_no_arguments, one_left}

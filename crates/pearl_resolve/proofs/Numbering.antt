@@ -17,7 +17,7 @@ use Rattle.pearl_tree.specs.declared.statement.Case as case_
 use Rattle.pearl_tree.specs.declared.statement.Case.{out-Case}
 use Rattle.pearl_tree.specs.ShownExpressions.{shown_expr}
 use Rattle.pearl_names.specs.Listed.{stmts_shown, branches_shown, otherwise_shown}
-use Rattle.pearl_names.proofs.StatementRows.{if_shown, case_shown, repeat_shown, begin_shown}
+use Rattle.pearl_names.proofs.Offered.{if_shown, case_shown, repeat_shown, begin_shown}
 use Rattle.pearl_tree.specs.ShownStatements.{shown_stmt, ShownStmt, ShownStmts, NoStmts, MoreStmts, ShownBranches, NoBranches, MoreBranches}
 use Rattle.pearl_tree.specs.ShownModules.{ShownDecl}
 use Rattle.pearl_resolve.specs.Laying.{cells_of_sense}

@@ -13,7 +13,7 @@ use Rattle.pearl_names.specs.declared.types.StructForm.{StructForm}
 use Rattle.pearl_names.specs.Holding.{HoldsSense}
 use Rattle.pearl_names.specs.Layout.{Leaf, elements, slots_of}
 use Rattle.pearl_names.specs.Tables.{Sense, Variable, Control, OwnParameter, NewType, Semaphore, Interrupt, AlphicDation, BasicDation, Task, Procedure}
-use Rattle.pearl_names.proofs.Lists.{one_taken}
+use Rattle.pearl_names.proofs.Offered.{one_taken}
 use Rattle.pearl_program.specs.declared.table.FirstValues.{FirstValues}
 use Rattle.pearl_program.specs.PlainStatements.{plain_values}
 use Rattle.pearl_resolve.specs.Cells.{sense_cells}

@@ -3,7 +3,7 @@ use Rattle.std.proofs.Common.{◌≡◌, ℕ, ◌+◌, ◌<◌, List, [], ◌∷
 use Rattle.std.proofs.lemmas.List.{map-append}
 use Rattle.pearl_tree.specs.declared.expression.Expr.{Expr}
 use Rattle.pearl_tree.specs.ShownExpressions.{MoreExprs, shown_expr, shown_expr_list}
-use Rattle.pearl_names.proofs.Lists.{one_taken}
+use Rattle.pearl_names.proofs.Offered.{one_taken}
 use Rattle.pearl_resolve.specs.Statements.{listed}
 
 pub listed_shown : (exprs : List Expr) → listed (map shown_expr exprs) ≡ shown_expr_list exprs

@@ -15,14 +15,14 @@ ghost use Rattle.pearl_resolve.specs.Laying.{cells_of_sense, leaves_of_sense, sl
 ghost use Rattle.pearl_resolve.specs.Numbers.{counts as does_count, senses_at};
 
 use crate::counter::counts;
-use pearl_resolve_tables::counts::sum;
-use pearl_resolve_tables::devices::kind_or_short;
-use pearl_resolve_tables::leaves::add_first_values;
 use pearl_names::length::Lengths;
 use pearl_names::sense::{Parameter, Sense};
 use pearl_names::table::SenseTable;
 use pearl_names::types::StructForm;
 use pearl_program::table::FirstValues;
+use pearl_resolve_tables::counts::sum;
+use pearl_resolve_tables::devices::kind_or_short;
+use pearl_resolve_tables::leaves::add_first_values;
 use pearl_tree::statement::Repeat;
 use pearl_tree::typing::Sort;
 use pearl_value::kind::{CellKind, Kind};

@@ -5,10 +5,10 @@ ghost use Rattle.pearl_names.specs.Holding.{HoldsForm, HoldsSense};
 ghost use Rattle.pearl_names.specs.Tables as tables;
 ghost use Rattle.pearl_resolve.specs.Laying as spec;
 
-use pearl_resolve_tables::counts::{sum, whole};
 use pearl_names::layout::form_counts;
 use pearl_names::sense::{Form, Sense};
 use pearl_names::types::StructForm;
+use pearl_resolve_tables::counts::{sum, whole};
 use std::alloc::AllocError;
 
 /// The number that lies so far behind another. Too large a one counts as want of memory.

@@ -13,11 +13,11 @@ ghost use Rattle.pearl_resolve.specs.Resolve as spec;
 ghost use Rattle.pearl_resolve.specs.Statements.{slots_of_meant};
 
 use crate::numbered::NumberedTable;
-use pearl_resolve_tables::leaves::add_leaves;
-use pearl_resolve_tables::values::left_behind;
 use pearl_names::meaning::Found;
 use pearl_names::scope::View;
 use pearl_program::table::Leaf;
+use pearl_resolve_tables::leaves::add_leaves;
+use pearl_resolve_tables::values::left_behind;
 use pearl_tree::declaration::Declared;
 use pearl_tree::literal::Const;
 use pearl_tree::name::Name;

@@ -10,10 +10,10 @@ ghost use Rattle.pearl_resolve.specs.Numbers as spec;
 
 use crate::counts::leaves_of_sense;
 use crate::numbered::number_or_zero;
-use pearl_resolve_tables::counts::sum;
 use pearl_names::scope::SortedName;
 use pearl_names::sense::Sense;
 use pearl_names::types::StructForm;
+use pearl_resolve_tables::counts::sum;
 use pearl_system::device::SpecifiedDevice;
 use std::alloc::{AllocError, Global};
 

@@ -12,13 +12,13 @@ ghost use Rattle.pearl_resolve.specs.Holding.{Becomes, values_renewals};
 ghost use Rattle.pearl_resolve.specs.Statements as spec;
 
 use crate::numbered::NumberedTable;
-use pearl_resolve_tables::counts::sum;
-use pearl_resolve_tables::leaves::add_first_values;
-use pearl_resolve_tables::values::left_behind;
 use pearl_names::meaning::Found;
 use pearl_names::scope::View;
 use pearl_program::statement::{Renewal, Stmt};
 use pearl_program::table::FirstValues;
+use pearl_resolve_tables::counts::sum;
+use pearl_resolve_tables::leaves::add_first_values;
+use pearl_resolve_tables::values::left_behind;
 use pearl_tree::declaration::Item;
 use pearl_tree::literal::Const;
 use pearl_tree::name::Name;

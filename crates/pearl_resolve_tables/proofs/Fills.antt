@@ -7,7 +7,7 @@ use Rattle.pearl_names.specs.declared.types.StructForm.{StructForm}
 use Rattle.pearl_names.specs.declared.sense.Bounds.{Bounds}
 use Rattle.pearl_names.specs.Forms.{pair_of}
 use Rattle.pearl_names.specs.Layout.{Leaf, elements}
-use Rattle.pearl_names.proofs.Counting.{elements-append}
+use Rattle.pearl_names.proofs.Offered.{elements-append}
 use Rattle.pearl_program.specs.PlainPrograms.{PlainLeaf}
 use Rattle.pearl_resolve_tables.specs.declared.walk.Frame.{Frame}
 use Rattle.pearl_resolve_tables.specs.declared.walk.Found.{Found}

@@ -10,7 +10,7 @@ use Rattle.pearl_tree.specs.declared.statement.Case as case_
 use Rattle.pearl_tree.specs.declared.statement.Case.{out-Case}
 use Rattle.pearl_tree.specs.ShownStatements.{shown_stmt}
 use Rattle.pearl_names.specs.Listed.{stmts_shown, branches_shown, otherwise_shown}
-use Rattle.pearl_names.proofs.StatementRows.{if_shown, case_shown, repeat_shown, begin_shown}
+use Rattle.pearl_names.proofs.Offered.{if_shown, case_shown, repeat_shown, begin_shown}
 use Rattle.pearl_resolve_tables.specs.Formats.{formats_in, formats_in_all, formats_in_branches, formats_in_otherwise}
 
 -- two parts one after the other

@@ -1,4 +1,4 @@
-pub mod Formatting
-pub mod Making
-pub mod Walking
-pub mod Fills
+mod Formatting
+mod Making
+mod Walking
+mod Fills

@@ -16,9 +16,7 @@ use Rattle.pearl_names.specs.Forms.{leaf_count, slot_count, StandsFor, FieldsSta
 use Rattle.pearl_names.specs.Layout.{Leaf, leaves_of, leaves_of_fields, elements}
 use Rattle.pearl_names.specs.Runs.{drop_fields}
 use Rattle.pearl_names.specs.Shapes.{Shape, OfKind, OfFields, Fields, NoField, MoreField}
-use Rattle.pearl_names.proofs.Counting.{elements-append}
-use Rattle.pearl_names.proofs.Standing.{stands_more, fields_all}
-use Rattle.pearl_names.proofs.Walking.{no_field}
+use Rattle.pearl_names.proofs.Offered.{elements-append, stands_more, fields_all, no_field}
 use Rattle.pearl_resolve_tables.specs.declared.walk.Frame.{Frame}
 use Rattle.pearl_resolve_tables.specs.declared.walk.Found.{Found}
 use Rattle.pearl_resolve_tables.specs.Laying.{path_name}

@@ -13,7 +13,7 @@ use Rattle.pearl_value.specs.declared.trap.Trap.{Trap}
 use Rattle.pearl_value.specs.WellFormed.{IsValue, IsValueOf, IsTyped}
 use Rattle.pearl_value.specs.Laws.{Gives}
 use Rattle.pearl_value.specs.Kinds.{IsKind}
-use Rattle.pearl_value.proofs.Results.{keeps_kinds}
+use Rattle.pearl_value.proofs.Offered.{keeps_kinds}
 use Rattle.pearl_value.specs.Conversions.{converted}
 use Rattle.pearl_rules.specs.declared.action.Action.{Action}
 use Rattle.pearl_rules.specs.declared.action.Action.TheVariants as action

@@ -1,20 +1,21 @@
-pub mod Firings
-pub mod Places
-pub mod PickLaws
-pub mod Serving
-pub mod ScanLaws
-pub mod EffectLaws
-pub mod ToldLaws
-pub mod EndsLaws
-pub mod TaskLaws
-pub mod CountLaws
-pub mod UrgencyLaws
-pub mod TimeLaws
-pub mod ActedLaws
-pub mod KeptLaws
-pub mod Simulation
-pub mod Settling
-pub mod Faithful
-pub mod EndLaws
-pub mod RunLaws
-pub mod MarkLaws
+mod Firings
+mod Places
+mod PickLaws
+mod Serving
+mod ScanLaws
+mod EffectLaws
+mod ToldLaws
+mod EndsLaws
+mod TaskLaws
+mod CountLaws
+mod UrgencyLaws
+mod TimeLaws
+mod ActedLaws
+mod KeptLaws
+mod Simulation
+mod Settling
+mod Faithful
+mod EndLaws
+mod RunLaws
+mod MarkLaws
+pub mod Offered

@@ -5,7 +5,7 @@ use Rattle.pearl_rules.specs.declared.entry.Entry.{Entry}
 use Rattle.pearl_rules.specs.declared.entry.Entry.TheVariants.{Run, Tick, Pass, Turn, State}
 use Rattle.pearl_rules.specs.Pick.{pick}
 use Rattle.pearl_rules.specs.Runs.{Mark, Acts, Turns, Tells, Passes, Arrives, Coming, next_mark, kept_at, Supplier, Source, source_offers, source_next, source_acts, source_mark, source_step_by, source_step, source_after}
-use Rattle.pearl_rules.proofs.Simulation.{step_source}
+use Rattle.pearl_rules.proofs.Offered.{step_source}
 use Rattle.pearl_rules_laws.specs.Runs.{RunAlike, turns_of}
 
 -- no mark comes of either, or the same of both, and what they leave is so related

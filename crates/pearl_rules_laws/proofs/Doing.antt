@@ -13,8 +13,7 @@ use Rattle.pearl_rules.specs.declared.row.TaskRow.{TaskRow}
 use Rattle.pearl_rules.specs.Core.{Core, Happened, cell_or_zero, row_of, mode_of_row, mode_of}
 use Rattle.pearl_rules.specs.Effect.{Hears, answering, declared_or_zero, effect}
 use Rattle.pearl_rules.specs.Laws.{ChangesTask}
-use Rattle.pearl_rules.proofs.Places.{set-same, set-other, there_at}
-use Rattle.pearl_rules.proofs.TaskLaws.{start_starts}
+use Rattle.pearl_rules.proofs.Offered.{set-same, set-other, there_at, start_starts}
 use Rattle.pearl_rules_laws.specs.Laws.{ChangesSlot}
 
 -- a start that names a priority

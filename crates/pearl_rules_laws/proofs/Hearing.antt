@@ -14,10 +14,8 @@ use Rattle.pearl_rules.specs.Pick.{turned, showing, last_if, can_turn}
 use Rattle.pearl_rules.specs.Plans.{millisecond}
 use Rattle.pearl_rules.specs.Devices.{arrived}
 use Rattle.pearl_rules.specs.Runs.{Mark, Acts, Turns, Tells, Passes, Arrives, Coming, kept, refreshed, dropped, flattened, kept_at, Supplier, Source, source_offers, source_next, heard_more, source_settled, source_acts, source_mark, source_step_by, source_step, source_start, source_after, source_run}
-use Rattle.pearl_rules.proofs.Places.{no_member, set-same, set-other}
-use Rattle.pearl_rules.proofs.EndsLaws.{millisecond-lasts, arrived-lasts}
-use Rattle.pearl_rules.proofs.KeptLaws.{begins_afresh}
-use Rattle.pearl_rules.proofs.Simulation.{step_source}
+use Rattle.pearl_rules.proofs.Offered.{no_member, set-same, set-other, millisecond-lasts, arrived-lasts, begins_afresh}
+use Rattle.pearl_rules.proofs.Offered.{step_source}
 use Rattle.pearl_rules_laws.specs.Runs.{HearsWhereActive, KeepsHeard}
 use Rattle.pearl_rules_laws.proofs.Marks.{turn_marks, state_marks}
 

@@ -19,7 +19,7 @@ use Rattle.pearl_rules.specs.Devices.{channel_of, items_of, bytes_at, without_by
 use Rattle.pearl_rules.specs.Effect.{Hears, answering, finished, ending, getting, taking, effect}
 use Rattle.pearl_rules.specs.Pick.{guard, is_some_value, is_complete}
 use Rattle.pearl_rules.specs.Scan.{Scanned, Short, Bad, Got, scan}
-use Rattle.pearl_rules.proofs.Places.{set-same, set-other}
+use Rattle.pearl_rules.proofs.Offered.{set-same, set-other}
 use Rattle.pearl_rules_laws.specs.Plans.{ChangesChannel, ChangesRow, ValueWaits, BreaksOff}
 use Rattle.pearl_rules_laws.proofs.Steps.{tells, step_changes, row_changed}
 

@@ -1,13 +1,13 @@
-pub mod Standing
-pub mod Doing
-pub mod Marks
-pub mod Times
-pub mod Steps
-pub mod Planning
-pub mod Rows
-pub mod Incoming
-pub mod Modes
-pub mod Reaching
-pub mod Alike
-pub mod Hearing
-pub mod Picking
+mod Standing
+mod Doing
+mod Marks
+mod Times
+mod Steps
+mod Planning
+mod Rows
+mod Incoming
+mod Modes
+mod Reaching
+mod Alike
+mod Hearing
+mod Picking

@@ -12,11 +12,7 @@ use Rattle.pearl_rules.specs.Core.{Core, row_of, mode_of_row, mode_of, is_active
 use Rattle.pearl_rules.specs.Effect.{Hears, Effect, effect}
 use Rattle.pearl_rules.specs.Pick.{pick, turned, states}
 use Rattle.pearl_rules.specs.Runs.{Acts, Turns, Tells, dropped, kept_at, mapped, Supplier, Source, source_offers, heard_more, source_settled, source_acts, source_step, source_after}
-use Rattle.pearl_rules.proofs.PickLaws.{picked}
-use Rattle.pearl_rules.proofs.EndsLaws.{effect-ends}
-use Rattle.pearl_rules.proofs.KeptLaws.{dropped_outside}
-use Rattle.pearl_rules.proofs.RunLaws.{step-entries}
-use Rattle.pearl_rules.proofs.Simulation.{step_source}
+use Rattle.pearl_rules.proofs.Offered.{picked, effect-ends, dropped_outside, step-entries, step_source}
 use Rattle.pearl_rules_laws.specs.Runs.{DoesOneAction}
 use Rattle.pearl_rules_laws.proofs.Standing.{can_act}
 use Rattle.pearl_rules_laws.proofs.Marks.{run_acts, turn_marks, state_marks}

@@ -4,7 +4,7 @@ use Rattle.std.proofs.lemmas.Bool.{true≢false}
 use Rattle.std.proofs.lemmas.Option.{none-some, same_Some}
 use Rattle.pearl_value.specs.declared.trap.Trap as traps
 use Rattle.pearl_rules.specs.Series.{fires_if}
-use Rattle.pearl_rules.proofs.Firings.{fires_as_said}
+use Rattle.pearl_rules.proofs.Offered.{fires_as_said}
 use Rattle.pearl_rules.specs.declared.action.Action.TheVariants as action
 use Rattle.pearl_rules.specs.declared.action.Answer.TheVariants.{Nothing}
 use Rattle.pearl_rules.specs.declared.action.Start.{Start}

@@ -15,7 +15,7 @@ use Rattle.pearl_rules.specs.Plans.{day, next_at, last_moment, series_from, cont
 use Rattle.pearl_rules.specs.Devices.{is_enabled, interrupted}
 use Rattle.pearl_rules.specs.declared.event.Event.TheVariants as event
 use Rattle.pearl_rules.specs.Laws.{happened_at}
-use Rattle.pearl_rules.proofs.Places.{there_at}
+use Rattle.pearl_rules.proofs.Offered.{there_at}
 use Rattle.pearl_rules_laws.specs.Plans.{mode_after, start_events, starts_now, served_row, served_events, serves_after, goes_after, starts_after, continuation_after, activation_after, reached_row, reached_events}
 use Rattle.pearl_rules_laws.proofs.Steps.{tells, tells_none, same_row, row_there, row_twice, mode_stays, went_on, began, serve_continuation_is, serve_activation_is, plan_continuation_is, plan_activation_is}
 

@@ -13,7 +13,7 @@ use Rattle.pearl_rules.specs.declared.setup.Setup.{Setup}
 use Rattle.pearl_rules.specs.declared.setup.TaskEntry.{TaskEntry}
 use Rattle.pearl_rules.specs.Core.{Core, Report, Shows, row_of, mode_of_row, mode_of, first_mode, first_row, opening}
 use Rattle.pearl_rules.specs.Pick.{Offered, guard, is_possible, is_ready, is_ready_row, is_eligible, is_last_of, pick, shown_active, shown_mode, shown_row, shown_of, states_first, states}
-use Rattle.pearl_rules.proofs.PickLaws.{picked}
+use Rattle.pearl_rules.proofs.Offered.{picked}
 use Rattle.pearl_rules_laws.specs.Laws.{CanAct, StandsAsDeclared, MayWait}
 
 -- WHO CAN ACT

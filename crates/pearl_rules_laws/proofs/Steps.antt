@@ -11,7 +11,7 @@ use Rattle.pearl_rules.specs.declared.row.TaskRow.{TaskRow}
 use Rattle.pearl_rules.specs.Core.{Core, note, row_of, with_row, mode_of_row, mode_of}
 use Rattle.pearl_rules.specs.Plans.{on_row, changed_row, with_continuation, continuation_in, activation_in, started_by, started, marked_mode, with_mark, serves_if, continued, serve_continuation, serve_activation_by, serve_activation, plan_continuation, plan_activation}
 use Rattle.pearl_rules.specs.Laws.{happened_at}
-use Rattle.pearl_rules.proofs.Places.{set-same, set-other}
+use Rattle.pearl_rules.proofs.Offered.{set-same, set-other}
 use Rattle.pearl_rules_laws.specs.Plans.{ChangesRow, mode_after, start_events, starts_now}
 
 -- the core with these events told now

@@ -21,7 +21,7 @@ use Rattle.pearl_format.specs.Fields.{width_or, right_field, left_field, bits_te
 use Rattle.pearl_format.specs.Items.{data_here, skip_count, SuitsItem, Suits}
 use Rattle.pearl_format.specs.Parts.{own_text, bits_item}
 use Rattle.pearl_format.specs.Texts.{joined_text, text_of}
-use Rattle.pearl_format.proofs.Digits.{counted, length-last_digits}
+use Rattle.pearl_format.proofs.Offered.{counted, length-last_digits}
 use Rattle.pearl_rules.specs.Literals.{bare, signed_number, bits_literal, clock_literal, span_literal}
 use Rattle.pearl_rules.specs.Scan.{Got, is_blank, field, lines_length, behind_line, if_fits, fits_span, good_or_bad, if_complete, if_skipped, scan_item, behind, followed_by, scan}
 use Rattle.pearl_scan.specs.Laws.{WritesAll, ReadsWhatIsWritten}

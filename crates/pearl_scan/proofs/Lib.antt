@@ -1,9 +1,10 @@
-pub mod Kept
-pub mod Numbers
-pub mod BitLaws
-pub mod Pieces
-pub mod Steps
-pub mod Completing
-pub mod Written
-pub mod Back
-pub mod Within
+mod Kept
+mod Numbers
+mod BitLaws
+mod Pieces
+mod Steps
+mod Completing
+mod Written
+mod Back
+mod Within
+pub mod Offered

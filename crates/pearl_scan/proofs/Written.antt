@@ -17,7 +17,7 @@ use Rattle.std.specs.List.{AllByRecursion, slice_split, prefix_len, suffix_len, 
 use Rattle.std.specs.Str.{all_ascii_digits}
 use Rattle.std.specs.Str.Parse.{digits_value, digits_value_after, AllDigits, IsNumeral}
 use Rattle.pearl_format.specs.Fields.{two_digits, three_digits, seconds_text, clock_text, hours_text, span_text, last_digits, bits_text, digit_count}
-use Rattle.pearl_format.proofs.Digits.{counted, length-last_digits}
+use Rattle.pearl_format.proofs.Offered.{counted, length-last_digits}
 use Rattle.pearl_rules.specs.Literals.{behind_blanks, before_blanks, bare, decimal_number, at_most, number_up_to, number_literal, signed_number, minus, thousandths, clock_value, with_point, with_colons, clock_literal, worded, whole_amount, decimal_value, decimal_amount, seconds_amount, from_amount, from_seconds, from_minutes, from_hours, span_literal, front_digits, behind_digits, bits_number, bits_within, bits_literal, is_bit_digit}
 use Rattle.pearl_rules.specs.Scan.{is_blank, is_line_end, field}
 

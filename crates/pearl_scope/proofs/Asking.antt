@@ -13,8 +13,7 @@ use Rattle.pearl_scope.specs.Rules.{part_faults, faults_in}
 use Rattle.pearl_names.specs.Known.{Known}
 use Rattle.pearl_names.specs.ScopeNames.{ScopeNames}
 use Rattle.pearl_names.specs.Shapes.{Shape}
-use Rattle.pearl_names.proofs.FieldsMade.{all_match_more, grows_more, grows_none}
-use Rattle.pearl_names.proofs.Lists.{one_taken}
+use Rattle.pearl_names.proofs.Offered.{all_match_more, grows_more, grows_none, one_taken}
 use Rattle.pearl_scope.proofs.PartLists.{parts_in-nil, parts_in-append, parts_in-cons}
 
 -- what was told of these parts

@@ -16,7 +16,7 @@ use Rattle.pearl_tree.specs.ShownStatements.{ShownStmt, OfRepeat, NoStmts}
 use Rattle.pearl_tree.specs.ShownModules.{ShownDecl, OfLength, OfType, OfDeclare, OfTask}
 use Rattle.pearl_names.specs.Sorts.{sorted_names, names_of_scopes}
 use Rattle.pearl_names.specs.FirstNames.{repeated}
-use Rattle.pearl_names.proofs.Examples.{name, number, source, upto, between, fixed, item, declare, constant, tabled}
+use Rattle.pearl_names.proofs.Offered.{name, number, source, upto, between, fixed, item, declare, constant, tabled}
 use Rattle.pearl_scope.specs.Rules.{broken, faults_in}
 
 abbrev fault : ℕ → ℕ → RuleFault

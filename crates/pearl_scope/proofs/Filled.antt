@@ -32,9 +32,8 @@ use Rattle.pearl_scope.specs.Rules.{slots_of_names, missing_of}
 use Rattle.pearl_names.specs.Runs.{shape_slots}
 use Rattle.pearl_names.specs.Shapes.{Shape}
 use Rattle.pearl_names.specs.Walks.{run_slots, HasSlots, Lists}
-use Rattle.pearl_names.proofs.Counting.{counts_of_variable, sound_counts}
-use Rattle.pearl_names.proofs.KindSets.{kinds-append}
-use Rattle.pearl_names.proofs.ShapeSlots.{slots_of_shape, few_in_shape, elements_some, same_kinds}
+use Rattle.pearl_names.proofs.Offered.{counts_of_variable, sound_counts, kinds-append, slots_of_shape, few_in_shape}
+use Rattle.pearl_names.proofs.Offered.{elements_some, same_kinds}
 
 and_same : (x : Bool) → (x && x) ≡ x
 and_same true = refl

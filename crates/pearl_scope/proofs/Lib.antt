@@ -1,10 +1,11 @@
 pub mod Placing
-pub mod PartsPlaced
+mod PartsPlaced
 pub mod PartLists
-pub mod Seen
-pub mod Unsound
-pub mod Asking
+mod Seen
+mod Unsound
+mod Asking
 mod Examples
-pub mod Fitting
-pub mod Filled
-pub mod Put
+mod Fitting
+mod Filled
+mod Put
+pub mod Offered

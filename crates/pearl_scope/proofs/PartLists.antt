@@ -19,7 +19,7 @@ use Rattle.pearl_names.specs.declared.scope.View.{View}
 use Rattle.pearl_scope.specs.declared.part.Part.{Part as CodePart}
 use Rattle.pearl_scope.specs.Parts.{Used, Bounds, Struct, expr_parts, primary_parts, selectors_parts, selector_parts, exprs_parts, ref_parts, typing_parts, fields_parts}
 use Rattle.pearl_names.specs.Forming.{fields_shown}
-use Rattle.pearl_names.proofs.FieldsMade.{struct_shown}
+use Rattle.pearl_names.proofs.Offered.{struct_shown}
 use Rattle.pearl_scope.specs.PartLists.{shown_part, parts_in, selector_list_parts, field_list_parts}
 
 pub parts_in-nil : parts_in [] ≡ []

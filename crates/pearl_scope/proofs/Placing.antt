@@ -9,7 +9,7 @@ use Rattle.pearl_names.specs.Scopes.{as_stmts, scopes_in, scopes_in_all, scopes_
 use Rattle.pearl_scope.specs.declared.places.Spot.{Spot}
 use Rattle.pearl_scope.specs.declared.places.Place.{Place}
 use Rattle.pearl_scope.specs.Placed.{Grows, Placed, placed_at, placed_in, placed_stmt, placed_all, placed_branches}
-use Rattle.pearl_names.proofs.Lists.{one_taken}
+use Rattle.pearl_names.proofs.Offered.{one_taken}
 
 pub placed_in-nil : placed_in [] ≡ []
 unfolding placed_in

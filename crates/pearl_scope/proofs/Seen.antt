@@ -12,8 +12,7 @@ use Rattle.pearl_names.specs.Shapes.{field_names}
 use Rattle.pearl_names.specs.FirstNames.{number_of, or_else, HasNoted}
 use Rattle.pearl_names.specs.Forming.{fields_shown}
 use Rattle.pearl_scope.specs.Seen.{Sees}
-use Rattle.pearl_names.proofs.FirstNames.{bytes_symm}
-use Rattle.pearl_names.proofs.Lists.{one_taken}
+use Rattle.pearl_names.proofs.Offered.{bytes_symm, one_taken}
 
 repeats_append : (number : ℕ) (before a b : List Name) → repeats number before (a ++ b) ≡ repeats number before a ++ repeats number (before ++ a) b
 repeats_append number before [] b = ap (λ l. repeats number l b) (sym (append-nil before))

@@ -4,7 +4,7 @@ use Rattle.std.proofs.lemmas.Option.{none-some, same_Some}
 use Rattle.pearl_names.specs.declared.types.Counts.{Counts}
 use Rattle.pearl_names.specs.Counts.{counts, has_sound_leaves}
 use Rattle.pearl_names.specs.Layout.{Leaf}
-use Rattle.pearl_names.proofs.Counting.{sound_counts}
+use Rattle.pearl_names.proofs.Offered.{sound_counts}
 use Rattle.pearl_scope.specs.Rules.{has_unsound_leaf}
 
 pub unsound_counts : (counted : Counts) (leaves : Option (List Leaf)) → Some counted ≡ option_map counts leaves → not (has_sound_leaves counted) ≡ has_unsound_leaf leaves

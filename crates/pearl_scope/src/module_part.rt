@@ -1,5 +1,5 @@
 // The parts of a module's declarations.
-#![tactic(auto, using(crate::proofs::PartLists::part_steps, crate::proofs::Placing::place_steps, pearl_names::proofs::Lists::list_steps, std::proofs::lemmas::Grind::common_steps))]
+#![tactic(auto, using(crate::proofs::PartLists::part_steps, crate::proofs::Placing::place_steps, pearl_names::proofs::Offered::list_steps, std::proofs::lemmas::Grind::common_steps))]
 
 ghost use Rattle.std.specs.Prelude.{◌≡◌, ◌+◌, ◌++◌, map, IfOk, OnOk, false};
 ghost use Rattle.std.specs.List.{flat_map};

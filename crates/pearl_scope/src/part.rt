@@ -1,6 +1,6 @@
 // The parts of a module in which a rule on names, types and declarations may be broken, in the order of the text: those of
 // expressions, types and declarations.
-#![tactic(auto, using(crate::proofs::PartLists::part_steps, pearl_names::proofs::Lists::list_steps, std::proofs::lemmas::Grind::common_steps))]
+#![tactic(auto, using(crate::proofs::PartLists::part_steps, pearl_names::proofs::Offered::list_steps, std::proofs::lemmas::Grind::common_steps))]
 
 ghost use Rattle.std.specs.Prelude.{◌≡◌, ◌++◌, ◌∷◌, [], map, option_map, OnOk};
 ghost use Rattle.std.specs.List.{flat_map};

@@ -1,5 +1,5 @@
 // The parts of statements, apart from those of the statements within them, and of declarations.
-#![tactic(auto, using(crate::proofs::PartLists::part_steps, pearl_names::proofs::Lists::list_steps, std::proofs::lemmas::Grind::common_steps))]
+#![tactic(auto, using(crate::proofs::PartLists::part_steps, pearl_names::proofs::Offered::list_steps, std::proofs::lemmas::Grind::common_steps))]
 
 ghost use Rattle.std.specs.Prelude.{◌≡◌, ◌++◌, ◌∷◌, [], map, option_map, OnOk};
 ghost use Rattle.std.specs.List.{flat_map};

@@ -3,7 +3,7 @@ use Rattle.std.proofs.Common.{◌≡◌, ℕ, zero, suc, ◌+◌, ◌-◌, ◌*�
 use Rattle.std.specs.Fmt.{digit_glyph}
 use Rattle.pearl_value.specs.Blanks.{widened}
 use Rattle.pearl_format.specs.Fields.{digit_count, last_digits, bits_text}
-use Rattle.pearl_format.proofs.Digits.{digit_more}
+use Rattle.pearl_format.proofs.Offered.{digit_more}
 
 glyph_of : (digit : ℕ) → digit < 2 → digit_glyph true digit ≡ 48 + digit
 glyph_of zero small = refl

@@ -1,3 +1,4 @@
-pub mod LineLemmas
-pub mod Bits
-pub mod Clocks
+mod LineLemmas
+mod Bits
+mod Clocks
+pub mod Offered

@@ -1,18 +1,19 @@
-pub mod Tops
-pub mod Made
-pub mod Applied
-pub mod InOrder
-pub mod OperatorRows
-pub mod CellRows
-pub mod FlowRows
-pub mod Filling
-pub mod Copies
-pub mod CallRows
-pub mod LoopRows
-pub mod AdvanceRows
-pub mod Standing
-pub mod Families
-pub mod Stands
-pub mod Indexed
-pub mod Settling
-pub mod Places
+mod Tops
+mod Made
+mod Applied
+mod InOrder
+mod OperatorRows
+mod CellRows
+mod FlowRows
+mod Filling
+mod Copies
+mod CallRows
+mod LoopRows
+mod AdvanceRows
+mod Standing
+mod Families
+mod Stands
+mod Indexed
+mod Settling
+mod Places
+pub mod Offered

@@ -24,7 +24,7 @@ use Rattle.pearl_silent.specs.Steps.{Stepped}
 use Rattle.pearl_silent.specs.Steps.{GoesOn, Halts}
 use Rattle.pearl_solo.specs.Plans.{begins_with, if_lasting, repeats_with, urgent_with, then_told, activation_of}
 use Rattle.pearl_silent.specs.Steps.{on_top, Applies, Does}
-use Rattle.pearl_silent.proofs.Applied.{needed_true}
+use Rattle.pearl_silent.proofs.Offered.{needed_true}
 
 -- what goes on with what is told, or the trap
 abbrev on_told : {A : Type 0} → (A → Step) → Frame → List Frame → Result A Trap → Step

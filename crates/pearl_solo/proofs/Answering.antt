@@ -39,7 +39,7 @@ use Rattle.pearl_solo.proofs.Begins.{depth_small}
 use Rattle.pearl_solo.proofs.Getting.{reads, kinds_few}
 use Rattle.pearl_solo.proofs.Hearing.{Heard, GoesOn, TakesUp}
 use Rattle.pearl_solo.proofs.Small.{puts}
-use Rattle.pearl_silent.proofs.Stands.{room_of_task, row_stays, task_is, same_room, frames_some}
+use Rattle.pearl_silent.proofs.Offered.{room_of_task, row_stays, task_is, same_room, frames_some}
 
 -- the stack after an answer that suits
 

@@ -18,8 +18,7 @@ use Rattle.pearl_instructions.specs.Rows.{fresh_cells, begun}
 use Rattle.pearl_instructions.specs.Stacks.{IsStack, depth_or_none, room}
 use Rattle.pearl_instructions.specs.Valid.{keep, judged_at, judged_whole, is_closed, unsound_in, IsValid}
 use Rattle.pearl_silent.specs.Steps.{top_cells, with_cells}
-use Rattle.pearl_silent.proofs.Filling.{all_given}
-use Rattle.pearl_silent.proofs.Stands.{keeps}
+use Rattle.pearl_silent.proofs.Offered.{all_given, keeps}
 
 behind : {A B C : Type 0} (f : A → C) (g : B → C) (xs : List A) (ys : List B) (k t : ℕ) → k ≡ length xs + t → slice_get (map f xs ++ map g ys) k ≡ slice_get (map g ys) t
 behind f g [] ys k t e = ap (slice_get (map g ys)) (omega (arith, e))

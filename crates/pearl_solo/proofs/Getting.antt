@@ -18,7 +18,7 @@ use Rattle.pearl_instructions.specs.Objects.{items_at}
 use Rattle.pearl_instructions.specs.Offers.{items_suit, value_kinds, cells_from, with_values, get_values}
 use Rattle.pearl_instructions.specs.Steps.{Step, Offers, given, needed, next, all_heard, value_kind}
 use Rattle.pearl_silent.specs.Steps.{on_top, top_cells, Applies}
-use Rattle.pearl_silent.proofs.Applied.{needed_true}
+use Rattle.pearl_silent.proofs.Offered.{needed_true}
 
 -- the kinds of cells
 

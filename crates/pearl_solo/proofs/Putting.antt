@@ -28,8 +28,7 @@ use Rattle.pearl_instructions.specs.Steps.{Offers, given, needed, taken, value_k
 use Rattle.pearl_instructions.specs.Valid.{plain_kinds, suits_format, values_suit}
 use Rattle.pearl_silent.specs.Steps.{on_top, Applies}
 use Rattle.pearl_solo.specs.Texts.{text_offered, MakesText}
-use Rattle.pearl_silent.proofs.Applied.{given_some, needed_true, and_true}
-use Rattle.pearl_silent.proofs.Filling.{all_given}
+use Rattle.pearl_silent.proofs.Offered.{given_some, needed_true, and_true, all_given}
 use mathlib.Core.List.{reverse_aux}
 
 -- an item of lawful width takes the kind that it suits

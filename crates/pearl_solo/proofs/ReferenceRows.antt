@@ -16,9 +16,7 @@ use Rattle.pearl_instructions.specs.Steps.{Step, Silent, Offers, given, next, le
 use Rattle.pearl_instructions.specs.Cells.{read_reference, write_reference}
 use Rattle.pearl_solo.specs.Answered.{place_in}
 use Rattle.pearl_silent.specs.Steps.{GoesOn, on_top, Applies, Does, IsSizes, made_on}
-use Rattle.pearl_silent.proofs.Applied.{given_some}
-use Rattle.pearl_silent.proofs.Made.{silent_does, made_room, same_applies}
-use Rattle.pearl_silent.proofs.Tops.{pushed_some}
+use Rattle.pearl_silent.proofs.Offered.{given_some, silent_does, made_room, same_applies, pushed_some}
 
 some_of : {A : Type 0} (o : Option A) (x : A) → o ≡ Some x → IsSome o
 some_of None x e = cc

@@ -11,7 +11,7 @@ use Rattle.pearl_instructions.specs.Steps as step
 use Rattle.pearl_instructions.specs.Steps.{Offers, acts, given, needed}
 use Rattle.pearl_instructions.specs.Flow.{call, called}
 use Rattle.pearl_silent.specs.Steps.{on_top, Applies}
-use Rattle.pearl_silent.proofs.Applied.{given_some, needed_true}
+use Rattle.pearl_silent.proofs.Offered.{given_some, needed_true}
 
 send_at : (f : Frame) (lower : List Frame) (d : ℕ) (xs : List Cell) (x : Cell) → slice_get xs 0 ≡ Some x →
     (go : Answer → List Frame) × (step.popped xs (λ x left. acts (action.Send d x) f lower left) ≡ Offers (action.Send d x) go)

@@ -8,7 +8,7 @@ use Rattle.pearl_instructions.specs.Rows.{row}
 use Rattle.pearl_instructions.specs.Stacks.{OffersWithin}
 use Rattle.pearl_instructions.specs.Steps.{Silent, Offers}
 use Rattle.pearl_silent.specs.Settling.{Silently}
-use Rattle.pearl_silent.proofs.Settling.{Run, rows_left, falls, within_all, left_no_more}
+use Rattle.pearl_silent.proofs.Offered.{Run, rows_left, falls, within_all, left_no_more}
 use Rattle.pearl_solo.specs.Settling.{Settles}
 
 some_left : (o : Object) (n : ℕ) (now : List Frame) → OffersWithin o n now → 0 < n

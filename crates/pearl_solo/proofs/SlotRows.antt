@@ -16,7 +16,7 @@ use Rattle.pearl_instructions.specs.Steps.{Step, Offers, given, leaves, acts, tr
 use Rattle.pearl_instructions.specs.Cells.{writes, slot_reference}
 use Rattle.pearl_instructions.specs.Slots.{IsLeafAt}
 use Rattle.pearl_silent.specs.Steps.{on_top, Applies, made_on, offset_below}
-use Rattle.pearl_silent.proofs.CellRows.{within_some, within_none}
+use Rattle.pearl_silent.proofs.Offered.{within_some_of_cell_rows as within_some, within_none}
 
 -- writing at an offset
 

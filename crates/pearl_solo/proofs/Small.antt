@@ -23,7 +23,7 @@ use Rattle.pearl_solo.specs.Owners.{lowest_of}
 use Rattle.pearl_silent.specs.Standing.{act_on, StandsAt}
 use Rattle.pearl_silent.specs.Steps.{on_top, Applies}
 use Rattle.pearl_solo.specs.Texts.{MakesText}
-use Rattle.pearl_silent.proofs.Applied.{given_some, needed_true, and_true}
+use Rattle.pearl_silent.proofs.Offered.{given_some, needed_true, and_true}
 use Rattle.pearl_solo.proofs.Putting.{format_few, makes_text}
 
 -- rules of the instruction, where it is told to be another

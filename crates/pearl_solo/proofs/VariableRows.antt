@@ -17,7 +17,7 @@ use Rattle.pearl_instructions.specs.Steps.{Step, Offers, given, leaves, asks, ac
 use Rattle.pearl_instructions.specs.Cells.{reads, writes, slot_reference}
 use Rattle.pearl_instructions.specs.Slots.{IsLeafAt}
 use Rattle.pearl_silent.specs.Steps.{on_top, Applies, IsSizes, made_on, offset_below}
-use Rattle.pearl_silent.proofs.CellRows.{within_some, within_none}
+use Rattle.pearl_silent.proofs.Offered.{within_some_of_cell_rows as within_some, within_none}
 
 -- the leaf is there
 leaf_row : (o : Object) (v : ℕ) (leaf : Leaf) (first : ℕ) (go : Leaf → Step) → IsLeafAt o v leaf first → given (slice_get o.leaves v) go ≡ go leaf

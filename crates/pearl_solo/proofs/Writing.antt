@@ -3,7 +3,7 @@ use Rattle.std.proofs.Common.{◌≡◌, ℕ, zero, suc, ◌+◌, ◌-◌, ◌<�
 use Rattle.std.proofs.lemmas.List.{take-append-drop, take_all, append-nil}
 use Rattle.pearl_value.specs.declared.cell.Cell.{Cell}
 use Rattle.pearl_instructions.specs.Offers.{with_values}
-use Rattle.pearl_silent.proofs.InOrder.{take_last}
+use Rattle.pearl_silent.proofs.Offered.{take_last}
 
 drop_set : (xs : List Cell) (m : ℕ) (x : Cell) → m < length xs → drop m (slice_set xs m x) ≡ x ∷ drop (suc m) xs
 drop_set [] m x less = absurd (omega (arith, less))

@@ -19,7 +19,7 @@ use Rattle.pearl_names.specs.Sorts.{sorted_names, names_of_scopes}
 use Rattle.pearl_names.specs.Tables.{table_of}
 use Rattle.pearl_program.specs.PlainPrograms.{PlainTask}
 use Rattle.pearl_resolve.specs.Resolve.{resolve}
-use Rattle.pearl_resolve.proofs.Examples.{source, item}
+use Rattle.pearl_resolve.proofs.Offered.{source, item}
 use Rattle.pearl_sound.proofs.WholeModule.{name, number, literal, to, terminal}
 
 -- t:TASK;FOR i TO 2 REPEAT DCL b BIT;GET b FROM tty BY B;END;END;

@@ -24,8 +24,7 @@ use Rattle.pearl_names.specs.Known.{Known, known_of, around}
 use Rattle.pearl_names.specs.Scopes.{Entry, Scope, scopes_of, as_stmts, entries_as, item_entries, body_decl_entries, body_entries, param_entries, control_entries, declared_entries, spec_entries, decl_entries, decls_entries, scopes_in, scopes_in_all, scopes_in_branches, scopes_in_decl, types_in, stmt_scopes, all_scopes, branch_scopes, otherwise_scopes, decl_scopes, decls_scopes}
 use Rattle.pearl_names.specs.Scopes as scopes
 use Rattle.pearl_names.specs.Tables.{Parameter, parameters_of, senses_of, senses_in, table_of}
-use Rattle.pearl_names.proofs.Collecting.{length-stmt_scopes, length-all_scopes, length-branch_scopes}
-use Rattle.pearl_names.proofs.DeclLists.{length-decl_scopes}
+use Rattle.pearl_names.proofs.Offered.{length-stmt_scopes, length-all_scopes, length-branch_scopes, length-decl_scopes}
 use Rattle.pearl_scope.specs.Parts.{Item, Bounds, expr_parts, basic_parts, typing_parts, const_parts, item_parts, body_decl_parts, loop_parts, parts_if, stmt_parts, all_parts, branches_parts, otherwise_parts, body_parts, declared_parts, class_parts, spec_parts, param_parts, decl_parts, decls_parts, parts_of}
 use Rattle.pearl_scope.specs.Rules.{s1, s5, s7, s8, fault_at_names, has_unsound_leaf, faults_in, broken}
 use Rattle.pearl_sound.specs.KnownNames.{IsThereIn, HasKnownResult, IsComplete}

@@ -11,8 +11,7 @@ use Rattle.pearl_names.specs.Shapes.{Shape, OfKind, OfFields, Fields, NoField, M
 use Rattle.pearl_names.specs.Layout.{Leaf, leaves_of, leaves_of_fields, elements}
 use Rattle.pearl_names.specs.Forms.{Component, component, leaf_count, slot_count}
 use Rattle.pearl_names.specs.Runs.{shape_slots, field_slots}
-use Rattle.pearl_names.proofs.Counting.{elements-append, leaves_behind, behind}
-use Rattle.pearl_names.proofs.ShapeSlots.{slots_of_shape}
+use Rattle.pearl_names.proofs.Offered.{elements-append, leaves_behind, behind, slots_of_shape}
 use Rattle.pearl_resolve.specs.Laying.{slots}
 use Rattle.pearl_sound.specs.Laws.{LiesIn}
 use Rattle.pearl_sound.proofs.Going.{slots_length}

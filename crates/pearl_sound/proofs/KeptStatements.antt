@@ -11,7 +11,7 @@ use Rattle.pearl_scope.specs.Parts.{basic_parts, body_decl_parts, param_parts, p
 use Rattle.pearl_scope.specs.Placed.{Placed, placed_body, parts_at}
 use Rattle.pearl_scope.specs.Rules.{s1, faults_in}
 use Rattle.pearl_scope.specs.Rules as names
-use Rattle.pearl_scope.proofs.PartsPlaced.{all_placed}
+use Rattle.pearl_scope.proofs.Offered.{all_placed}
 use Rattle.pearl_system.specs.Rules as devices
 use Rattle.pearl_check.specs.Asked.{asked_at}
 use Rattle.pearl_check.specs.Routines.{Routine, decl_routines, decls_routines, routines_of, statements_of}

@@ -17,7 +17,7 @@ use Rattle.pearl_names.specs.Tables.{table_of}
 use Rattle.pearl_program.specs.declared.expression.Target.TheVariants.{Leaf, Own, Param}
 use Rattle.pearl_program.specs.Typing.{Around, IsLeafOf}
 use Rattle.pearl_program.specs.SoundStatements.{IsIf, within}
-use Rattle.pearl_program.proofs.WholeProgram.{short, program, counter, around_task, around_procedure, free}
+use Rattle.pearl_program.proofs.Offered.{short, program, counter, around_task, around_procedure, free}
 use Rattle.pearl_resolve.specs.Expressions.{Numbered, meant_at, begun}
 use Rattle.pearl_resolve.specs.Resolve.{numbered_of}
 use Rattle.pearl_sound.specs.SoundNames.{IsThere, IsTerminal, LeadNames}

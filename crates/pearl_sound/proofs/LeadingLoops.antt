@@ -25,10 +25,10 @@ use Rattle.pearl_program.specs.PlainPrograms.{PlainRoutine, PlainTask, PlainProg
 use Rattle.pearl_program.specs.Typing.{Around}
 use Rattle.pearl_program.specs.SoundStatements.{IsIf, within}
 use Rattle.pearl_program.specs.Sound.{around_of}
-use Rattle.pearl_program.proofs.WholeProgram.{short, number, alone}
+use Rattle.pearl_program.proofs.Offered.{short, number, alone}
 use Rattle.pearl_resolve.specs.Expressions.{Numbered, meant_at}
 use Rattle.pearl_resolve.specs.Resolve.{numbered_of, resolve}
-use Rattle.pearl_resolve.proofs.Examples.{source, item, fixed}
+use Rattle.pearl_resolve.proofs.Offered.{source, item, fixed}
 use Rattle.pearl_sound.specs.SoundNames.{LeadNames}
 use Rattle.pearl_sound.proofs.Leading.{Leads, lead_all, reaches}
 use Rattle.pearl_sound.proofs.WholeModule.{name, literal, read}

@@ -42,7 +42,7 @@ use Rattle.pearl_system.specs.Laws.{sort_of_role, IsSpecifiedAs, HasWordAndNumbe
 use Rattle.pearl_system.specs.Rising.{Lists}
 use Rattle.pearl_system.specs.Rules.{is_twin, twins, s10, s11, s12, s13, s14, broken}
 use Rattle.pearl_system.specs.Specified.{as_form, specified_by, specified_in, specified}
-use Rattle.pearl_system.proofs.DeviceLaws.{devices_are_specified, specified_means}
+use Rattle.pearl_system.proofs.Offered.{devices_are_specified, specified_means}
 use Rattle.pearl_program.specs.SoundStatements.{IsInterruptDevice}
 use Rattle.pearl_resolve.specs.Numbers.{device_number}
 use Rattle.pearl_resolve.specs.Resolve.{kind_or_short, device_of, resolve}

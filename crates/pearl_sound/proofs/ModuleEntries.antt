@@ -21,8 +21,7 @@ use Rattle.pearl_names.specs.Known.{Known, known_of}
 use Rattle.pearl_names.specs.Scopes.{Entry, decls_entries}
 use Rattle.pearl_names.specs.Sorts.{sorted_name, sorted_names, names_of_scopes}
 use Rattle.pearl_names.specs.Tables.{Sense, Variable, Control, OwnParameter, NewType, Semaphore, Interrupt, AlphicDation, BasicDation, Task, Procedure, sense_of, senses_of, table_of}
-use Rattle.pearl_names.proofs.FirstNames.{bytes_symm}
-use Rattle.pearl_names.proofs.Sorting.{sorted_names-append, sorted_names-cons}
+use Rattle.pearl_names.proofs.Offered.{bytes_symm, sorted_names-append, sorted_names-cons}
 use Rattle.pearl_system.specs.declared.device.SpecifiedDevice.{SpecifiedDevice}
 use Rattle.pearl_resolve.specs.Laying.{leaves_of_sense}
 use Rattle.pearl_resolve.specs.Numbers.{Before, behind, module_number, module_numbers}

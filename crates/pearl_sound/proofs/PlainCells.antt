@@ -32,7 +32,7 @@ use Rattle.pearl_names.specs.Scopes.{Entry, Scope, scopes_of, as_stmts, entries_
 use Rattle.pearl_names.specs.Scopes as scopes
 use Rattle.pearl_names.specs.Shapes.{Shape, OfKind, OfFields, Fields, NoField, MoreField}
 use Rattle.pearl_names.specs.Tables.{Sense, Variable, Control, OwnParameter, NewType, Semaphore, Interrupt, AlphicDation, BasicDation, Task, Procedure, sense_at, senses_of, table_of, leaves_in}
-use Rattle.pearl_names.proofs.Collecting.{length-stmt_scopes, length-all_scopes, length-branch_scopes}
+use Rattle.pearl_names.proofs.Offered.{length-stmt_scopes, length-all_scopes, length-branch_scopes}
 use Rattle.pearl_program.specs.Sound.{IsCellKind, IsPlain}
 use Rattle.pearl_program.specs.SoundStatements.{IsIf}
 use Rattle.pearl_resolve.specs.Laying.{cells_of_sense}

@@ -8,7 +8,7 @@ use Rattle.pearl_names.specs.Known.{Known, known_of}
 use Rattle.pearl_names.specs.Scopes.{Scope, scopes_of, scopes_in_decl, as_stmts, decl_scopes, decls_scopes, types_in}
 use Rattle.pearl_names.specs.Sorts.{scope_names, names_of_scopes}
 use Rattle.pearl_names.specs.Tables.{senses_of, senses_in, table_of}
-use Rattle.pearl_names.proofs.DeclLists.{length-decl_scopes}
+use Rattle.pearl_names.proofs.Offered.{length-decl_scopes}
 use Rattle.pearl_resolve.specs.Numbers.{At, senses_at, in_body, decl_numbers, after_decl}
 use Rattle.pearl_resolve.specs.Expressions.{Numbered}
 use Rattle.pearl_sound.proofs.Going.{all_go}

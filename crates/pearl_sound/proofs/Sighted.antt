@@ -26,7 +26,7 @@ use Rattle.pearl_names.specs.Lengths.{length_at}
 use Rattle.pearl_names.specs.Scopes.{Entry, Scope, scopes_of, as_stmts, entries_as, item_entries, body_decl_entries, body_entries, control_entries, scopes_in, scopes_in_all, scopes_in_branches, stmt_scopes, all_scopes, branch_scopes, otherwise_scopes}
 use Rattle.pearl_names.specs.Scopes as scopes
 use Rattle.pearl_names.specs.Tables.{Sense, Table, senses_of, table_of}
-use Rattle.pearl_names.proofs.Collecting.{length-stmt_scopes, length-all_scopes, length-branch_scopes}
+use Rattle.pearl_names.proofs.Offered.{length-stmt_scopes, length-all_scopes, length-branch_scopes}
 use Rattle.pearl_program.specs.declared.expression.Target.TheVariants.{Own}
 use Rattle.pearl_program.specs.PlainExpressions as plain
 use Rattle.pearl_program.specs.PlainExpressions.{OfVariable}

@@ -27,7 +27,7 @@ use Rattle.pearl_program.specs.PlainExpressions.{PlainExpr, PlainVariable}
 use Rattle.pearl_check_expr.specs.Senses.{is_fixed}
 use Rattle.pearl_check_expr.specs.Judged.{misfits, expr_place}
 use Rattle.pearl_check_expr.specs.Subjects.{OfValue, OfTarget, OfCallStatement}
-use Rattle.pearl_value.proofs.Suiting.{suits_both}
+use Rattle.pearl_value.proofs.Offered.{suits_both}
 use Rattle.pearl_check.specs.declared.asked.Role.{Role}
 use Rattle.pearl_check.specs.declared.asked.Role.TheVariants.{Plain, Condition, Count, Moment, Lapse, Priority}
 use Rattle.pearl_check.specs.declared.asked.NameRole.{NameRole}

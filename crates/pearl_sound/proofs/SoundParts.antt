@@ -26,7 +26,7 @@ use Rattle.pearl_check_expr.specs.Kinds.{is_kind}
 use Rattle.pearl_check_expr.specs.Senses.{Callee, callee_of, is_fixed}
 use Rattle.pearl_check_expr.specs.Standings.{Judged, Standing, Broken, Open, is_fixed_or_unknown, faulty}
 use Rattle.pearl_check_expr.specs.Judged.{result_of, monadic_result, dyadic_result, with_monadics, try_judged, limit_of, variable_argument, value_argument, if_well}
-use Rattle.pearl_value.proofs.Suiting.{suits_both}
+use Rattle.pearl_value.proofs.Offered.{suits_both}
 use Rattle.pearl_program.specs.declared.expression.Bound.{Bound}
 use Rattle.pearl_program.specs.PlainExpressions.{PlainExpr, OfRead, PlainVariable}
 use Rattle.pearl_program.specs.Typing.{Around, IsBound, HasKind, IsVariable, SuitsParam}

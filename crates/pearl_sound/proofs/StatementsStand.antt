@@ -12,7 +12,7 @@ use Rattle.pearl_names.specs.declared.scope.View.TheVariants.{Within}
 use Rattle.pearl_names.specs.Lengths.{length_at}
 use Rattle.pearl_names.specs.Scopes.{Scope, control_entries, body_entries, scopes_in, scopes_in_all, scopes_in_branches, stmt_scopes, all_scopes, branch_scopes, otherwise_scopes}
 use Rattle.pearl_names.specs.Tables.{table_of}
-use Rattle.pearl_names.proofs.Collecting.{length-stmt_scopes, length-all_scopes, length-branch_scopes}
+use Rattle.pearl_names.proofs.Offered.{length-stmt_scopes, length-all_scopes, length-branch_scopes}
 use Rattle.pearl_scope.specs.declared.places.Spot.{Spot}
 use Rattle.pearl_scope.specs.Placed.{Placed, placed_stmt, placed_all, placed_branches, placed_otherwise}
 use Rattle.pearl_check.specs.Asked.{asked_at}

@@ -11,7 +11,7 @@ use Rattle.pearl_tree.specs.ShownModules.{ShownDecl, OfDeclare, OfTask, ShownTre
 use Rattle.pearl_names.specs.Sorts.{sorted_names, names_of_scopes}
 use Rattle.pearl_names.specs.Tables.{table_of}
 use Rattle.pearl_resolve.specs.Numbers.{numbers_of}
-use Rattle.pearl_resolve.proofs.Examples.{source, variable, item, fixed}
+use Rattle.pearl_resolve.proofs.Offered.{source, variable, item, fixed}
 
 abbrev name : String → Name
 name text = record { text = record { items = codes text }; place = 0 }

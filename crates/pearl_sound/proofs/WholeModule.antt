@@ -21,9 +21,9 @@ use Rattle.pearl_names.specs.Tables.{table_of}
 use Rattle.pearl_system.specs.declared.device.SpecifiedDevice.{SpecifiedDevice}
 use Rattle.pearl_system.specs.declared.device.Role.TheVariants.{Terminal}
 use Rattle.pearl_program.specs.Sound.{IsSound}
-use Rattle.pearl_program.proofs.WholeProgram.{program, program_sound}
+use Rattle.pearl_program.proofs.Offered.{program, program_sound}
 use Rattle.pearl_resolve.specs.Resolve.{resolve}
-use Rattle.pearl_resolve.proofs.Examples.{source, variable, item, fixed}
+use Rattle.pearl_resolve.proofs.Offered.{source, variable, item, fixed}
 
 abbrev pub name : String → Name
 name text = record { text = record { items = codes text }; place = 0 }

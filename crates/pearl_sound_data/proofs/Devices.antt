@@ -17,8 +17,7 @@ use Rattle.pearl_system.specs.Devices.{rank, device_key, is_number, sort_of, spe
 use Rattle.pearl_system.specs.declared.specified.Specified.{Specified}
 use Rattle.pearl_system.specs.Laws.{IsSpecifiedBy}
 use Rattle.pearl_system.specs.Rising.{IsLess, IsRising, Lists}
-use Rattle.pearl_system.proofs.DeviceLaws.{devices_are_specified}
-use Rattle.pearl_system.proofs.Lists.{pairs_head, pairs_tail}
+use Rattle.pearl_system.proofs.Offered.{devices_are_specified, pairs_head, pairs_tail}
 use Rattle.pearl_value.specs.Devices as device_list
 use Rattle.pearl_value.specs.Devices.{sort_rank, own_number, HasKindOfValues, IsBefore, AreRising}
 use Rattle.pearl_resolve_tables.specs.Devices.{kind_or_short, device_of}

@@ -17,7 +17,7 @@ use Rattle.pearl_names.specs.Tables.{table_of}
 use Rattle.pearl_program.specs.PlainPrograms.{PlainLeaf, PlainProg}
 use Rattle.pearl_program.specs.FirstCells.{first_cells}
 use Rattle.pearl_resolve.specs.Resolve.{resolve}
-use Rattle.pearl_resolve.proofs.Examples.{source, fixed}
+use Rattle.pearl_resolve.proofs.Offered.{source, fixed}
 use Rattle.pearl_sound_data.specs.Filling.{filled}
 
 abbrev number : ℕ → Number

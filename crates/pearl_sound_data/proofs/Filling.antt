@@ -27,7 +27,7 @@ use Rattle.pearl_scope.specs.Laws as law
 use Rattle.pearl_scope.specs.Laws.{Becomes}
 use Rattle.pearl_scope.specs.Parts.{Item}
 use Rattle.pearl_scope.specs.Rules.{slots_of_names, missing_of, s7}
-use Rattle.pearl_scope.proofs.Put.{fits_where_put}
+use Rattle.pearl_scope.proofs.Offered.{fits_where_put}
 use Rattle.pearl_program.specs.PlainPrograms.{PlainLeaf}
 use Rattle.pearl_program.specs.FirstCells.{first_cells}
 use Rattle.pearl_resolve_tables.specs.Laying.{value_of, or_blank, constant_in, values_of_leaf, slots, left_behind, filled_leaves}

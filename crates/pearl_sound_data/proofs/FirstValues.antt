@@ -12,14 +12,14 @@ use Rattle.pearl_value.specs.Cells.{FitsFixed}
 use Rattle.pearl_value.specs.WellFormed.{FitsSpan, IsValue, IsValueOf}
 use Rattle.pearl_value.specs.Conversions.{converted}
 use Rattle.pearl_value.specs.Laws.{Gives}
-use Rattle.pearl_value.proofs.Results.{blank_gives, keeps_kinds}
+use Rattle.pearl_value.proofs.Offered.{blank_gives, keeps_kinds}
 use Rattle.pearl_tree.specs.declared.literal.Sign.{Sign}
 use Rattle.pearl_tree.specs.declared.literal.Sign.TheVariants.{Plus, Minus}
 use Rattle.pearl_tree.specs.Durations.{milliseconds_of}
 use Rattle.pearl_tree.specs.ShownLiterals.{ShownLiteral, OfNumber, OfBits, OfText, OfClock, OfDuration, ShownConst}
 use Rattle.pearl_names.specs.Durations.{is_too_long}
 use Rattle.pearl_names.specs.Layout.{Leaf, elements}
-use Rattle.pearl_names.proofs.ShapeSlots.{elements_some}
+use Rattle.pearl_names.proofs.Offered.{elements_some}
 use Rattle.pearl_scope.specs.Laws.{has_value}
 use Rattle.pearl_program.specs.PlainPrograms.{PlainLeaf}
 use Rattle.pearl_program.specs.SoundStatements.{AreFirst}

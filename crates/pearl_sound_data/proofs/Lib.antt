@@ -1,16 +1,17 @@
-pub mod Faults
-pub mod FirstValues
-pub mod Shapes
-pub mod Meant
-pub mod Unbroken
-pub mod ModuleConstants
-pub mod ModuleLeaves
-pub mod LawfulNames
-pub mod LeafNames
-pub mod Presets
-pub mod Devices
-pub mod Formats
-pub mod Filling
-pub mod Renewed
-pub mod Tables
+mod Faults
+mod FirstValues
+mod Shapes
+mod Meant
+mod Unbroken
+mod ModuleConstants
+mod ModuleLeaves
+mod LawfulNames
+mod LeafNames
+mod Presets
+mod Devices
+mod Formats
+mod Filling
+mod Renewed
+mod Tables
 mod Examples
+pub mod Offered

@@ -10,7 +10,7 @@ use Rattle.std.proofs.lemmas.Map.Steps.{length-le_from_distinct_below}
 use Rattle.pearl_calls.specs.Callers.{Caller}
 use Rattle.pearl_calls.specs.Numberings.{waits, GetNext, IsNumbering}
 use Rattle.pearl_calls.specs.Numbers.{AreNumbers}
-use Rattle.pearl_calls.proofs.Following.{only_procedures}
+use Rattle.pearl_calls.proofs.Offered.{only_procedures}
 use Rattle.pearl_resolve.specs.Resolve.{if_there, by_number}
 use Rattle.pearl_sound_sizes.proofs.Basics.{some_one, all_at, both, neither}
 

@@ -27,7 +27,7 @@ use Rattle.pearl_names.specs.Scopes.{Meaning, Entry, Scope, as_stmts, entries_as
 use Rattle.pearl_names.specs.Scopes as scopes
 use Rattle.pearl_names.specs.Sorts.{sorted_names, names_of_scopes}
 use Rattle.pearl_names.specs.Tables.{Sense, sense_of, senses_of, senses_in, sense_at, table_of}
-use Rattle.pearl_names.proofs.FirstNames.{bytes_symm}
+use Rattle.pearl_names.proofs.Offered.{bytes_symm}
 use Rattle.pearl_system.specs.declared.device.SpecifiedDevice.{SpecifiedDevice}
 use Rattle.pearl_check.specs.Calls as calls
 use Rattle.pearl_check.specs.Routines.{Routine, is_procedure, decl_routines, decls_routines, routines_of}

@@ -30,8 +30,7 @@ use Rattle.pearl_names.specs.Scopes.{Meaning, Entry, entries_as, declared_entrie
 use Rattle.pearl_names.specs.Scopes as scopes
 use Rattle.pearl_names.specs.Sorts.{sorted_name, sorted_names, names_of_scopes}
 use Rattle.pearl_names.specs.Tables.{Form, Sense, Variable, NewType, Semaphore, Interrupt, AlphicDation, BasicDation, form_of, sense_of, senses_of, table_of}
-use Rattle.pearl_names.proofs.FirstNames.{bytes_symm}
-use Rattle.pearl_names.proofs.Sorting.{sorted_names-append, sorted_names-cons}
+use Rattle.pearl_names.proofs.Offered.{bytes_symm, sorted_names-append, sorted_names-cons}
 use Rattle.pearl_scope.specs.Parts.{parts_of}
 use Rattle.pearl_scope.specs.Rules.{s1, faults_in}
 use Rattle.pearl_scope.specs.Rules as names

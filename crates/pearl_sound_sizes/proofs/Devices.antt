@@ -14,7 +14,7 @@ use Rattle.pearl_system.specs.declared.specified.Specified.{Specified}
 use Rattle.pearl_system.specs.Devices.{devices_of, named, spelling, sort_of, is_number, role_of, numbered, specified_as, meant, rank, device_key, has_key, IsDevice}
 use Rattle.pearl_system.specs.Rising.{IsLess, IsRising, Lists}
 use Rattle.pearl_system.specs.Specified.{specified}
-use Rattle.pearl_system.proofs.Lists.{pairs_head, pairs_tail, contains_here, contains_later}
+use Rattle.pearl_system.proofs.Offered.{pairs_head, pairs_tail, contains_here, contains_later}
 use Rattle.pearl_sound_sizes.proofs.Basics.{some_one, both}
 
 abbrev IsNumbered : SpecifiedDevice → Type 0

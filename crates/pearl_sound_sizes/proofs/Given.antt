@@ -9,7 +9,7 @@ use Rattle.pearl_names.specs.Tables.{table_of}
 use Rattle.pearl_calls.specs.Callers.{Caller, callees, calls}
 use Rattle.pearl_calls.specs.Cycles.{IsWay, SomeCallsItself}
 use Rattle.pearl_calls.specs.Numberings.{IsNumbering}
-use Rattle.pearl_calls.proofs.Following.{only_procedures}
+use Rattle.pearl_calls.proofs.Offered.{only_procedures}
 use Rattle.pearl_check.specs.declared.callers.Weighed.{Weighed as HeldWeighed}
 use Rattle.pearl_check.specs.Calls.{Weighed, callers_of}
 use Rattle.pearl_check.specs.Routines.{routines_of}

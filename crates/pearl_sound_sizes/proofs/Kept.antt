@@ -27,7 +27,7 @@ use Rattle.pearl_scope.specs.Parts.{Part, Used, basic_parts, body_decl_parts, pa
 use Rattle.pearl_scope.specs.Placed.{Placed, placed_body, parts_at}
 use Rattle.pearl_scope.specs.Rules.{s1, part_faults, faults_in}
 use Rattle.pearl_scope.specs.Rules as names
-use Rattle.pearl_scope.proofs.PartsPlaced.{all_placed}
+use Rattle.pearl_scope.proofs.Offered.{all_placed}
 use Rattle.pearl_system.specs.Rules as devices
 use Rattle.pearl_check_expr.specs.Judged.{judged_all}
 use Rattle.pearl_check_expr.specs.Senses.{callee_of}

@@ -1,18 +1,19 @@
-pub mod Basics
-pub mod Measures
-pub mod Scopes
-pub mod MeasuredStatements
-pub mod Cells
-pub mod Called
-pub mod ByNumber
-pub mod Kept
-pub mod Routines
-pub mod Bounds
-pub mod Counts
-pub mod Limits
-pub mod Whole
-pub mod Devices
-pub mod Tasks
-pub mod Given
-pub mod Sized
-pub mod Examples
+mod Basics
+mod Measures
+mod Scopes
+mod MeasuredStatements
+mod Cells
+mod Called
+mod ByNumber
+mod Kept
+mod Routines
+mod Bounds
+mod Counts
+mod Limits
+mod Whole
+mod Devices
+mod Tasks
+mod Given
+mod Sized
+mod Examples
+pub mod Offered

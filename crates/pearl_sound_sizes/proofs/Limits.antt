@@ -11,12 +11,12 @@ use Rattle.pearl_names.specs.Tables.{table_of}
 use Rattle.pearl_calls.specs.Callers.{Caller}
 use Rattle.pearl_calls.specs.Cycles.{calls_itself, IsWay, CallsItself, SomeCallsItself}
 use Rattle.pearl_calls.specs.Weights.{whole_weight}
-use Rattle.pearl_calls.proofs.Ways.{cycles, inside}
+use Rattle.pearl_calls.proofs.Offered.{cycles, inside}
 use Rattle.pearl_check.specs.Calls.{Weighed, callers_of, cycles_from, s28}
 use Rattle.pearl_check.specs.Routines.{routines_of}
 use Rattle.pearl_check.specs.Rules.{whole_broken}
 use Rattle.pearl_check.specs.Sizes.{declared_in, size_of, passed, task_count, procedure_count, semaphore_count, slot_count, long_leaf_fault, counted_sizes, overweight, weights, weighed_procedures, weighed_tasks}
-use Rattle.pearl_check.proofs.Limits.{within_limit}
+use Rattle.pearl_check.proofs.Offered.{within_limit}
 use Rattle.pearl_sound_sizes.specs.ByRule.{module_callers}
 use Rattle.pearl_sound_sizes.proofs.Basics.{left_none, right_none, not_broken, each_none, all_as}
 

@@ -12,7 +12,7 @@ use Rattle.pearl_tree.specs.declared.tree.TaskHead.{TaskHead}
 use Rattle.pearl_tree.specs.declared.tree.TaskHead.TheVariants.{PrioFirst, MainFirst}
 use Rattle.pearl_tree.specs.Lawful.{IsLawfulDecl}
 use Rattle.pearl_tree.specs.ShownModules.{ShownTree, shown_decl}
-use Rattle.pearl_tree.proofs.Ids.{ids_are_names}
+use Rattle.pearl_tree.proofs.Offered.{ids_are_names}
 use Rattle.pearl_names.specs.Tables.{table_of}
 use Rattle.pearl_system.specs.declared.device.SpecifiedDevice.{SpecifiedDevice}
 use Rattle.pearl_check.specs.Routines.{Routine, is_task, routines_of}

@@ -13,8 +13,7 @@ use Rattle.pearl_names.specs.Tables.{Table, table_of}
 use Rattle.pearl_system.specs.declared.device.SpecifiedDevice.{SpecifiedDevice}
 use Rattle.pearl_calls.specs.Callers.{Caller, callees_of, callees, calls}
 use Rattle.pearl_calls.specs.Weights.{called, greatest, whole_weight}
-use Rattle.pearl_calls.proofs.Adding.{add_up}
-use Rattle.pearl_calls.proofs.Following.{callees_first}
+use Rattle.pearl_calls.proofs.Offered.{add_up, callees_first}
 use Rattle.pearl_check.specs.Calls.{Weighed, calls_of, number_of}
 use Rattle.pearl_check.specs.Routines.{Routine, is_procedure, is_task, routines_of}
 use Rattle.pearl_check.specs.Sizes.{caller_of, weighed_of, procedure_names, weighed_procedures, weighed_tasks}

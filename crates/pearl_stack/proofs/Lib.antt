@@ -1,8 +1,9 @@
-pub mod Written
-pub mod Halves
-pub mod Heads
-pub mod Shown
-pub mod Spots
-pub mod Holds
-pub mod StackLaws
-pub mod Keeps
+mod Written
+mod Halves
+mod Heads
+mod Shown
+mod Spots
+mod Holds
+mod StackLaws
+mod Keeps
+pub mod Offered

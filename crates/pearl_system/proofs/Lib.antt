@@ -1,9 +1,10 @@
-pub mod Broken
-pub mod FirstDevices
-pub mod Found
-pub mod Lists
-pub mod Once
-pub mod Said
-pub mod Tests
-pub mod DeviceLaws
-pub mod Walks
+mod Broken
+mod FirstDevices
+mod Found
+mod Lists
+mod Once
+mod Said
+mod Tests
+mod DeviceLaws
+mod Walks
+pub mod Offered

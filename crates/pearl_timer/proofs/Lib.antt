@@ -1,2 +1,2 @@
-pub mod NextMoments
-pub mod TimetableLaws
+mod NextMoments
+mod TimetableLaws

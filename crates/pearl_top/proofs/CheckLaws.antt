@@ -3,8 +3,8 @@ use Rattle.std.proofs.Common.{◌≡◌, ◌≤◌, ℕ, List, [], Some, length,
 use Rattle.pearl_tree.specs.declared.fault.RuleFault.{RuleFault}
 use Rattle.pearl_tree.specs.Modules.{Spells}
 use Rattle.pearl_tree.specs.ShownModules.{shown_tree}
-use Rattle.pearl_tree.proofs.OneModule.{one_tree}
-use Rattle.pearl_lex.proofs.Unique.{one_reading}
+use Rattle.pearl_tree.proofs.Offered.{one_tree}
+use Rattle.pearl_lex.proofs.Offered.{one_reading}
 use Rattle.pearl_check.specs.Checks.{sizes_of}
 use Rattle.pearl_check.specs.Rules.{all_broken, first}
 use Rattle.pearl_script.specs.declared.refusal.Refusal.TheVariants as refusal

@@ -10,7 +10,7 @@ use Rattle.pearl_machine.specs.Seen.{Seen}
 use Rattle.pearl_journal.specs.Entries.{All, Bad, Entries, entries}
 use Rattle.pearl_journal.specs.Lines.{journal_lines, ended_lines}
 use Rattle.pearl_journal.specs.Pieces.{HasNoWhole, Kept, begin, ended_on, read_on}
-use Rattle.pearl_journal.proofs.PieceLaws.{none_ended, none_read}
+use Rattle.pearl_journal.proofs.Offered.{none_ended, none_read}
 use Rattle.pearl_top.specs.declared.failure.Failure.{Failure}
 use Rattle.pearl_top.specs.declared.failure.Failure.TheVariants as failure
 use Rattle.pearl_top.specs.declared.limits.TheConstants.{JOURNAL_LIMIT}

@@ -5,7 +5,7 @@ use Rattle.pearl_rules.specs.Entries.{AreFitting}
 use Rattle.pearl_rules.specs.Core.{Report, first_events}
 use Rattle.pearl_rules.specs.Pick.{pick, states}
 use Rattle.pearl_rules.specs.Runs.{Machine, machine_after, machine_next, machine_offers, unsettled}
-use Rattle.pearl_rules.proofs.PickLaws.{pick-offers, states-offers}
+use Rattle.pearl_rules.proofs.Offered.{pick-offers, states-offers}
 use Rattle.pearl_program.specs.PlainPrograms.{PlainProg}
 use Rattle.pearl_instructions.specs.declared.object.Object.{Object}
 use Rattle.pearl_stack.specs.Frames.{Frame}

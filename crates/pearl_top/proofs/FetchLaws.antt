@@ -3,7 +3,7 @@ use Rattle.std.proofs.Common.{◌≡◌, ◌≤◌, ◌<◌, ◌+◌, ℕ, List,
 use Rattle.std.specs.Prelude.{OnOk, IfErr}
 use Rattle.std.proofs.lemmas.List.{length-take, take_all}
 use Rattle.pearl_io.specs.Outside.{Files, IsPiece, content}
-use Rattle.pearl_io.proofs.Pieces.{read_on as read_more}
+use Rattle.pearl_io.proofs.Offered.{read_on as read_more}
 use Rattle.pearl_rules.specs.declared.setup.Setup.{Setup}
 use Rattle.pearl_instructions.specs.Setups.{setup_of}
 use Rattle.pearl_script.specs.declared.refusal.Refusal.TheVariants.{Read, TooLong}

@@ -1,22 +1,22 @@
-pub mod RightRenewals
-pub mod SoundPrograms
-pub mod TakenLaws
-pub mod SourceLaws
-pub mod CheckLaws
-pub mod CheckEnds
-pub mod PrintLaws
-pub mod PrintEnds
-pub mod PrintsItsText
-pub mod ReplayLaws
-pub mod RunEnds
-pub mod TranscriptLaws
-pub mod DueLaws
-pub mod Endings
-pub mod LineLaws
-pub mod ReplayEnds
-pub mod WordLaws
-pub mod Completeness
-pub mod OneProgram
-pub mod OneOutcome
-pub mod Explained
-pub mod FetchLaws
+mod RightRenewals
+mod SoundPrograms
+mod TakenLaws
+mod SourceLaws
+mod CheckLaws
+mod CheckEnds
+mod PrintLaws
+mod PrintEnds
+mod PrintsItsText
+mod ReplayLaws
+mod RunEnds
+mod TranscriptLaws
+mod DueLaws
+mod Endings
+mod LineLaws
+mod ReplayEnds
+mod WordLaws
+mod Completeness
+mod OneProgram
+mod OneOutcome
+mod Explained
+mod FetchLaws

@@ -3,7 +3,7 @@ use Rattle.std.proofs.Common.{◌≡◌, ◌⊎◌, ◌<◌, ℕ, zero, suc, Boo
 use Rattle.std.proofs.lemmas.Bool.{eqb-true}
 use Rattle.std.proofs.lemmas.List.{take-append-drop}
 use Rattle.pearl_io.specs.Outside.{Takes, TakesFront}
-use Rattle.pearl_io.proofs.Pieces.{takes_more, takes_front_more}
+use Rattle.pearl_io.proofs.Offered.{takes_more, takes_front_more}
 use Rattle.pearl_rules.specs.declared.entry.Entry.{Entry}
 use Rattle.pearl_rules.specs.declared.setup.Setup.{Setup}
 use Rattle.pearl_rules.specs.Core.{Report}
@@ -14,7 +14,7 @@ use Rattle.pearl_script.specs.Lines.{lines_of}
 use Rattle.pearl_script.specs.declared.refusal.Refusal.TheVariants.{Journal}
 use Rattle.pearl_machine.specs.Seen.{Seen, Handles}
 use Rattle.pearl_machine.specs.Told.{IsCutOff}
-use Rattle.pearl_machine.proofs.Taken.{cut_front}
+use Rattle.pearl_machine.proofs.Offered.{cut_front}
 use Rattle.pearl_journal.specs.Entries.{Bad, Entries}
 use Rattle.pearl_journal.specs.declared.lines.BadLine.{BadLine}
 use Rattle.pearl_journal.specs.declared.lines.Next.{Next}

@@ -7,19 +7,18 @@ use Rattle.std.proofs.lemmas.Option.{get_or_from_slice_get}
 use Rattle.pearl_calls.specs.Callers.{Caller}
 use Rattle.pearl_calls.specs.Numberings.{IsNumbering}
 use Rattle.pearl_calls.specs.Numbers.{AreNumbers}
-use Rattle.pearl_calls.proofs.Following.{agrees}
+use Rattle.pearl_calls.proofs.Offered.{agrees}
 use Rattle.pearl_tree.specs.ShownModules.{ShownTree, shown_tree}
 use Rattle.pearl_names.specs.Tables.{table_of}
 use Rattle.pearl_system.specs.Devices.{device_key, IsDevice}
-use Rattle.pearl_system.proofs.Once.{lists_once}
+use Rattle.pearl_system.proofs.Offered.{lists_once}
 use Rattle.pearl_check.specs.Checks.{module_callers}
 use Rattle.pearl_rules.specs.declared.entry.Entry.{Entry}
 use Rattle.pearl_rules.specs.Runs.{Source, source_next}
-use Rattle.pearl_rules.proofs.EndLaws.{one_end}
+use Rattle.pearl_rules.proofs.Offered.{one_end}
 use Rattle.pearl_program.specs.PlainPrograms.{PlainProg}
 use Rattle.pearl_resolve.specs.Resolve.{resolve}
-use Rattle.pearl_sound_sizes.proofs.Basics.{all_at, some_one}
-use Rattle.pearl_sound_sizes.proofs.ByNumber.{something, placed, numbers_whole, order_differs}
+use Rattle.pearl_sound_sizes.proofs.Offered.{all_at, some_one, something, placed, numbers_whole, order_differs}
 use Rattle.pearl_top.specs.Programs.{IsProgramOf}
 use Rattle.pearl_meaning.specs.Programs.{offer}
 use Rattle.pearl_meaning.specs.ProgramRuns.{source_run, setup_of}

@@ -2,13 +2,12 @@
 use Rattle.std.proofs.Common.{◌≡◌, ◌⊎◌, ℕ, List, length, ap, sym, ◌∙◌, subst, inl, inr, arith}
 use Rattle.pearl_tree.specs.Modules.{Spells}
 use Rattle.pearl_tree.specs.Stops.{NoneBegins, IsFirstStop}
-use Rattle.pearl_tree.proofs.FirstStop.{one_stop, stops_have_no_tree}
+use Rattle.pearl_tree.proofs.Offered.{one_stop, stops_have_no_tree}
 use Rattle.pearl_lex.specs.Lexes.{IsStuck}
-use Rattle.pearl_lex.proofs.LawfulTokens.{lawful_tokens}
-use Rattle.pearl_lex.proofs.Unique.{one_reading, one_place, never_both}
+use Rattle.pearl_lex.proofs.Offered.{lawful_tokens, one_reading, one_place, never_both}
 use Rattle.pearl_parse.specs.Refusals.{place_or_end}
 use Rattle.pearl_print.specs.Spelled.{text_of_tokens}
-use Rattle.pearl_print.proofs.ShownModules.{source_has_one_text}
+use Rattle.pearl_print.proofs.Offered.{source_has_one_text}
 use Rattle.pearl_script.specs.declared.refusal.Refusal.TheVariants as refusal
 use Rattle.pearl_script.specs.Refusals.{refusal_line}
 use Rattle.pearl_top.specs.PrintDue.{HasStop, IsPrinted, IsSpelled, IsUnspelled}

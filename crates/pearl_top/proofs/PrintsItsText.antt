@@ -4,7 +4,7 @@ use Rattle.pearl_lex.specs.Lexes.{Lexes}
 use Rattle.pearl_print.specs.Modules.{tokens_of}
 use Rattle.pearl_print.specs.Spelled.{text_of_tokens}
 use Rattle.pearl_print.specs.Canonical.{IsCanonical}
-use Rattle.pearl_print.proofs.PrintedAgain.{source_prints_again}
+use Rattle.pearl_print.proofs.Offered.{source_prints_again}
 use Rattle.pearl_top.specs.declared.limits.TheConstants.{SOURCE_LIMIT}
 use Rattle.pearl_top.specs.Laws.{HoursFit, PrintsItsText}
 use Rattle.pearl_top.specs.PrintDue.{IsPrinted, IsSpelled}

@@ -1,7 +1,7 @@
 -- How a run over a journal ends, from how its lines ended.
 use Rattle.std.proofs.Common.{◌≡◌, ℕ, ◌+◌, ◌≤◌, List, [], ◌++◌, Option, None, Err, Bool, true, false, length, nat_le, take, refl, ap, sym, ◌∙◌, subst, append_assoc}
 use Rattle.pearl_io.specs.Outside.{Takes, TakesFront}
-use Rattle.pearl_io.proofs.Pieces.{takes_more}
+use Rattle.pearl_io.proofs.Offered.{takes_more}
 use Rattle.pearl_rules.specs.declared.entry.Entry.{Entry}
 use Rattle.pearl_rules.specs.declared.setup.Setup.{Setup}
 use Rattle.pearl_rules.specs.Entries.{AreFitting}
@@ -25,7 +25,7 @@ use Rattle.pearl_top.specs.declared.status.Status.TheVariants as statuses
 use Rattle.pearl_top.specs.Status.{status_of}
 use Rattle.pearl_journal.specs.Entries.{Ending, Entries, All, Bad, entries}
 use Rattle.pearl_journal.specs.Readings as readings
-use Rattle.pearl_journal.proofs.FitLaws.{entries-fit}
+use Rattle.pearl_journal.proofs.Offered.{entries-fit}
 use Rattle.pearl_journal.specs.Lines.{ended_lines}
 use Rattle.pearl_top.specs.declared.limits.TheConstants.{JOURNAL_LIMIT}
 use Rattle.pearl_top.specs.JournalDue.{handled, IsRun, JournalDue}

@@ -4,7 +4,7 @@ use Rattle.pearl_rules.specs.declared.entry.Entry.{Entry}
 use Rattle.pearl_rules.specs.Core.{Report}
 use Rattle.pearl_rules.specs.Runs.{next_mark}
 use Rattle.pearl_machine.specs.Seen.{Seen, retold, Goes, Handles}
-use Rattle.pearl_machine.proofs.Going.{handles_none, handles_then, handles_on, handles_retold}
+use Rattle.pearl_machine.proofs.Offered.{handles_none, handles_then, handles_on, handles_retold}
 use Rattle.pearl_top.specs.Replay.{Advances, Breaks}
 
 -- with more entries behind

@@ -23,11 +23,10 @@ use Rattle.pearl_resolve.specs.Laying.{leaves_of_sense, left_behind, filled_leav
 use Rattle.pearl_resolve.specs.Resolve.{numbered_of}
 use Rattle.pearl_resolve.specs.Statements.{joined, renewals, variable_renewals, slots_of_meant, names_renewals, items_renewals, declared_renewals}
 use Rattle.pearl_sound_data.specs.Constants.{IsConstant, ItemHasConstants, BodyDeclHasConstants, HasConstants, AllHaveConstants, BranchesHaveConstants, OtherwiseHasConstants, DeclHasConstants}
-use Rattle.pearl_sound_data.proofs.FirstValues.{filled_first, left_constants}
-use Rattle.pearl_sound_data.proofs.Meant.{ThingIs, meant_so}
-use Rattle.pearl_sound_data.proofs.Shapes.{IfThere, SenseHasKinds, table_kinds}
+use Rattle.pearl_sound_data.proofs.Offered.{filled_first, left_constants, ThingIs, meant_so, IfThere, SenseHasKinds}
+use Rattle.pearl_sound_data.proofs.Offered.{table_kinds}
 use Rattle.pearl_sound.specs.Ready.{AreRightFirst, RenewsRight, RoutineRenewsRight}
-use Rattle.pearl_sound.proofs.SoundForms.{all_append}
+use Rattle.pearl_sound.proofs.Offered.{all_append}
 
 both_right : (one two : PlainStmts) → AreRightFirst one → AreRightFirst two → AreRightFirst (joined one two)
 both_right NoStmts two first second = second

@@ -8,9 +8,7 @@ use Rattle.pearl_rules.specs.Pick.{pick, states}
 use Rattle.pearl_rules.specs.Runs.{Source, source_next, source_offers, Machine, machine_after, machine_offers, machine_next, next_mark, unsettled, marked}
 use Rattle.pearl_rules.specs.Runs as runs
 use Rattle.pearl_rules.specs.Laws.{EndsAlike, EndsTelling}
-use Rattle.pearl_rules.proofs.EndLaws.{ends_alike}
-use Rattle.pearl_rules.proofs.RunLaws.{last_tells}
-use Rattle.pearl_rules.proofs.PickLaws.{pick-offers, states-offers}
+use Rattle.pearl_rules.proofs.Offered.{ends_alike, last_tells, pick-offers, states-offers}
 use Rattle.pearl_program.specs.PlainPrograms.{PlainProg}
 use Rattle.pearl_meaning.specs.Programs.{offer}
 use Rattle.pearl_meaning.specs.ProgramRuns.{source_run}

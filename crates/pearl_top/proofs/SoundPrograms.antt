@@ -14,14 +14,10 @@ use Rattle.pearl_system.specs.Rules as devices_rules
 use Rattle.pearl_check.specs.Rules.{statements_broken, whole_broken, all_broken}
 use Rattle.pearl_program.specs.Sound.{IsSound}
 use Rattle.pearl_resolve.specs.Resolve.{resolve}
-use Rattle.pearl_sound_data.proofs.ModuleConstants.{module_constants}
-use Rattle.pearl_sound_data.proofs.Tables.{module_tables}
-use Rattle.pearl_sound.proofs.RuleNumbers.{numbers_given}
-use Rattle.pearl_sound.proofs.SimpleStatements.{left_none}
-use Rattle.pearl_sound.proofs.SoundRoutines.{routines_sound}
+use Rattle.pearl_sound_data.proofs.Offered.{module_constants, module_tables}
+use Rattle.pearl_sound.proofs.Offered.{numbers_given, left_none, routines_sound}
 use Rattle.pearl_sound_sizes.specs.ByRule.{AreByRule}
-use Rattle.pearl_sound_sizes.proofs.Sized.{smaller_called, sizes_within}
-use Rattle.pearl_sound_sizes.proofs.Whole.{whole}
+use Rattle.pearl_sound_sizes.proofs.Offered.{smaller_called, sizes_within, whole}
 use Rattle.pearl_top.proofs.RightRenewals.{bodies_right}
 
 pub program_sound : (tree : Tree) (tokens : List Token) → Spells tree tokens → IsLawful tree → all_broken (shown_tree tree) ≡ [] →

@@ -1,32 +1,33 @@
-pub mod Rising
-pub mod Orders
-pub mod TableOfOperators
-pub mod TableOfWords
-pub mod Shown
-pub mod ExpressionLists
-pub mod TypeLists
-pub mod StatementLists
+mod Rising
+mod Orders
+mod TableOfOperators
+mod TableOfWords
+mod Shown
+mod ExpressionLists
+mod TypeLists
+mod StatementLists
 mod Examples
-pub mod SpelledLists
-pub mod SpelledLawful
-pub mod Meeting
-pub mod LiteralEnds
-pub mod LongestLiterals
-pub mod ListEnds
-pub mod ExpressionsForward
-pub mod OperandEnds
-pub mod Chains
-pub mod Operands
-pub mod OneList
-pub mod Passing
-pub mod OneGrouping
-pub mod OneLiteral
-pub mod OneExpression
-pub mod OneType
-pub mod OneSchedule
-pub mod OneStatement
-pub mod OneModule
-pub mod FirstStop
-pub mod FaultOrder
-pub mod Ids
-pub mod OneFaultList
+mod SpelledLists
+mod SpelledLawful
+mod Meeting
+mod LiteralEnds
+mod LongestLiterals
+mod ListEnds
+mod ExpressionsForward
+mod OperandEnds
+mod Chains
+mod Operands
+mod OneList
+mod Passing
+mod OneGrouping
+mod OneLiteral
+mod OneExpression
+mod OneType
+mod OneSchedule
+mod OneStatement
+mod OneModule
+mod FirstStop
+mod FaultOrder
+mod Ids
+mod OneFaultList
+pub mod Offered

@@ -1,8 +1,8 @@
-pub mod Shapes
-pub mod Numbering
-pub mod Fronts
-pub mod Tables
-pub mod Flowing
-pub mod Judging
-pub mod Asking
-pub mod Fitting
+mod Shapes
+mod Numbering
+mod Fronts
+mod Tables
+mod Flowing
+mod Judging
+mod Asking
+mod Fitting

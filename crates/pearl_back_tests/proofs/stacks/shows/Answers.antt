@@ -1,5 +1,5 @@
 use Rattle.std.proofs.Common.{arith}
-use Rattle.pearl_stack.proofs.StackLaws.{numbers_frames}
+use Rattle.pearl_stack.proofs.Offered.{numbers_frames}
 use Rattle.pearl_back_tests.proofs.stacks.shows.Goals as goal
 
 pub is_frame-requires : goal.is_frame-requires

@@ -7,7 +7,7 @@ use Rattle.pearl_tree.specs.declared.statement.If.{out-If}
 use Rattle.pearl_tree.specs.declared.statement.Repeat.{Repeat}
 use Rattle.pearl_tree.specs.ShownExpressions.{shown_expr}
 use Rattle.pearl_tree.specs.ShownStatements.{ShownStmt, shown_stmt}
-use Rattle.pearl_names.proofs.StatementRows.{if_shown, case_shown, repeat_shown}
+use Rattle.pearl_names.proofs.Offered.{if_shown, case_shown, repeat_shown}
 use Rattle.pearl_scope.specs.Placed.{placed_at}
 use Rattle.pearl_check.specs.declared.asked.Role.TheVariants.{Condition, Count}
 use Rattle.pearl_check.specs.Asked.{value, loop_asked, asked_at, asked_in}

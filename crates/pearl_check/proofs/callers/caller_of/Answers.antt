@@ -4,7 +4,7 @@ use Rattle.pearl_names.specs.Counts.{cut}
 use Rattle.pearl_names.specs.Listed.{stmts_shown}
 use Rattle.pearl_names.specs.Scopes.{scopes_in_all}
 use Rattle.pearl_scope.specs.Placed.{placed_in, placed_body}
-use Rattle.pearl_scope.proofs.Placing.{placed_in-nil}
+use Rattle.pearl_scope.proofs.Offered.{placed_in-nil}
 use Rattle.pearl_check.specs.Calling.{calls_of_place}
 use Rattle.pearl_check.specs.Sizes.{greatest_need, all_hidden}
 use Rattle.pearl_check.proofs.Tallying.{calls_listed, own_joined}

@@ -1,5 +1,5 @@
 use Rattle.std.proofs.Common.{subst}
-use Rattle.pearl_names.proofs.Lists.{all_taken}
+use Rattle.pearl_names.proofs.Offered.{all_taken}
 use Rattle.pearl_check.specs.Asked.{asked_in}
 use Rattle.pearl_check.specs.Roles.{asked_faults}
 use Rattle.pearl_check.proofs.Adding.{Adds, adds_none, adds_more}

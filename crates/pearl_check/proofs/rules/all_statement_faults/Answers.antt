@@ -1,7 +1,7 @@
 use Rattle.std.proofs.Common.{subst}
-use Rattle.pearl_names.proofs.Lists.{all_taken}
+use Rattle.pearl_names.proofs.Offered.{all_taken}
 use Rattle.pearl_scope.specs.Placed.{placed_in}
-use Rattle.pearl_scope.proofs.Placing.{placed_in-nil}
+use Rattle.pearl_scope.proofs.Offered.{placed_in-nil}
 use Rattle.pearl_check.specs.Routines.{shown_sort}
 use Rattle.pearl_check.specs.Rules.{statement_faults}
 use Rattle.pearl_check.proofs.Adding.{Adds, adds_none, adds_more, placed_taken}

@@ -2,7 +2,7 @@ use Rattle.std.proofs.Common.{◌≡◌, ◌++◌, ap, ◌∙◌}
 use Rattle.std.specs.List.{flat_map}
 use Rattle.pearl_names.specs.Listed.{stmts_shown}
 use Rattle.pearl_scope.specs.Placed.{placed_in, placed_body}
-use Rattle.pearl_scope.proofs.Placing.{placed_in-nil}
+use Rattle.pearl_scope.proofs.Offered.{placed_in-nil}
 use Rattle.pearl_check.specs.Routines.{shown_sort}
 use Rattle.pearl_check.specs.Rules.{statement_faults}
 use Rattle.pearl_check.proofs.rules.body_faults.Goals as goal

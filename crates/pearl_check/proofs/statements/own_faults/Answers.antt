@@ -1,6 +1,6 @@
 use Rattle.std.proofs.Common.{◌≡◌, ◌++◌, [], ap, sym, ◌∙◌, append-nil}
 use Rattle.pearl_tree.specs.ShownStatements.{ShownStmt, shown_stmt}
-use Rattle.pearl_names.proofs.StatementRows.{if_shown, case_shown}
+use Rattle.pearl_names.proofs.Offered.{if_shown, case_shown}
 use Rattle.pearl_scope.specs.Placed.{placed_at}
 use Rattle.pearl_check.specs.Routines.{shown_sort}
 use Rattle.pearl_check.specs.Rules.{own_faults}

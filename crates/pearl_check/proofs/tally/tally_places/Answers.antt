@@ -1,9 +1,9 @@
 use Rattle.std.proofs.Common.{[], refl, ap, sym, ◌∙◌}
 use Rattle.std.specs.List.{flat_map}
 use Rattle.pearl_names.specs.Counts.{cut}
-use Rattle.pearl_names.proofs.Lists.{all_taken}
+use Rattle.pearl_names.proofs.Offered.{all_taken}
 use Rattle.pearl_scope.specs.Placed.{placed_at, placed_in}
-use Rattle.pearl_scope.proofs.Placing.{placed_in-nil}
+use Rattle.pearl_scope.proofs.Offered.{placed_in-nil}
 use Rattle.pearl_check.specs.Calling.{calls_of_place}
 use Rattle.pearl_check.specs.Sizes.{need, greatest_need, hidden_cells, all_hidden}
 use Rattle.pearl_check.proofs.Adding.{placed_taken}

@@ -5,7 +5,7 @@ use Rattle.pearl_tree.specs.ShownExpressions.{shown_expr, shown_primary, shown_s
 use Rattle.pearl_tree.specs.ShownLiterals.{shown_literal}
 use Rattle.pearl_names.specs.Holding.{parameter_of}
 use Rattle.pearl_names.specs.Tables.{sense_from}
-use Rattle.pearl_names.proofs.Lists.{one_taken, all_taken}
+use Rattle.pearl_names.proofs.Offered.{one_taken, all_taken}
 use Rattle.pearl_check_expr.specs.Standings.{walked_on, behind, variable_start, faults_of, subscripted}
 use Rattle.pearl_check_expr.specs.Literals.{literal_kind}
 use Rattle.pearl_check_expr.specs.Judged.{judged, judged_primary, judged_ref, along, step, judged_all, beyond, beyond_one, first_applied, arguments, argument_of, called, judged_limit}

@@ -1,7 +1,7 @@
 use Rattle.std.proofs.Common.{◌≡◌, ◌++◌, ◌+◌, [], ◌∷◌, subst}
 use Rattle.pearl_instructions.specs.declared.instr.Instr.TheVariants as instr
 use Rattle.pearl_gen_stmt.specs.Emission.{setting_of}
-use Rattle.pearl_gen_expr.proofs.Emitted.{extends_more}
+use Rattle.pearl_gen_expr.proofs.Offered.{extends_more}
 use Rattle.pearl_gen_stmt.proofs.Getting.{filled_more, filled_done}
 use Rattle.pearl_gen_stmt.proofs.get.emit_filled.Goals as goal
 

@@ -2,7 +2,7 @@ use Rattle.std.proofs.Common.{◌≡◌, subst, arith, true, ◌==◌}
 use Rattle.std.specs.Vec.{vec_len}
 use Rattle.pearl_program.specs.PlainExpressions.{plain_exprs}
 use Rattle.pearl_gen_stmt.specs.Emission.{setting_of}
-use Rattle.pearl_gen_expr.proofs.Emitted.{some_are}
+use Rattle.pearl_gen_expr.proofs.Offered.{some_are}
 use Rattle.pearl_gen_stmt.proofs.Settling.{none_there}
 use Rattle.pearl_gen_stmt.proofs.Getting.{zero_found_adds, found_adds}
 use Rattle.pearl_gen_stmt.proofs.get.emit_found.Goals as goal

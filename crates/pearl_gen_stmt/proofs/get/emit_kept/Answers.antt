@@ -1,5 +1,5 @@
 use Rattle.pearl_gen_stmt.specs.Emission.{setting_of}
-use Rattle.pearl_gen_expr.proofs.Emitted.{extends_more}
+use Rattle.pearl_gen_expr.proofs.Offered.{extends_more}
 use Rattle.pearl_gen_stmt.proofs.Getting.{kept_more, kept_done}
 use Rattle.pearl_gen_stmt.proofs.get.emit_kept.Goals as goal
 

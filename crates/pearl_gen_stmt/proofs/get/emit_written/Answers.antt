@@ -1,6 +1,6 @@
 use Rattle.std.proofs.Common.{◌≡◌, ◌++◌, ◌+◌, [], ◌∷◌, subst}
 use Rattle.pearl_instructions.specs.declared.instr.Instr.TheVariants as instr
-use Rattle.pearl_gen_expr.proofs.Emitted.{extends_more}
+use Rattle.pearl_gen_expr.proofs.Offered.{extends_more}
 use Rattle.pearl_gen_stmt.proofs.Getting.{written_more, written_done}
 use Rattle.pearl_gen_stmt.proofs.get.emit_written.Goals as goal
 

@@ -1,4 +1,4 @@
-use Rattle.pearl_gen_expr.proofs.Emitted.{extends_more}
+use Rattle.pearl_gen_expr.proofs.Offered.{extends_more}
 use Rattle.pearl_gen_stmt.proofs.Storing.{repeats_more, repeats_done}
 use Rattle.pearl_gen_stmt.proofs.renewal.emit_repeats.Goals as goal
 

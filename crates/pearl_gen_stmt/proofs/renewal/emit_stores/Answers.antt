@@ -1,6 +1,6 @@
 use Rattle.std.proofs.Common.{◌≡◌, ◌++◌, ◌+◌, [], ◌∷◌, ◌∙◌, subst}
 use Rattle.pearl_instructions.specs.declared.instr.Instr.TheVariants as instr
-use Rattle.pearl_gen_expr.proofs.Emitted.{extends_more}
+use Rattle.pearl_gen_expr.proofs.Offered.{extends_more}
 use Rattle.pearl_gen_stmt.proofs.Storing.{stores_more, stores_done}
 use Rattle.pearl_gen_stmt.proofs.renewal.emit_stores.Goals as goal
 

@@ -23,7 +23,7 @@ use Rattle.pearl_program.specs.PlainPrograms.{plain_prog}
 use Rattle.pearl_meaning.specs.Setting.{Setting}
 use Rattle.pearl_instructions.specs.declared.instr.Instr.TheVariants as instr
 use Rattle.pearl_gen_expr.specs.ExprCode.{Is}
-use Rattle.pearl_gen_expr.proofs.Emitted.{extends_more, some_are}
+use Rattle.pearl_gen_expr.proofs.Offered.{extends_more, some_are}
 use Rattle.pearl_gen_stmt.specs.StmtCode.{on_task, RenewAt, AssignAt, CallOfAt, ReturnAt, ActivateAt, ContinueAt, ResumeAt, ListAt, PutAt, GetAt, SendAt, TakeAt, AdvanceAt}
 use Rattle.pearl_gen_stmt.specs.Emission.{setting_of, plain_if, plain_case, plain_repeat, Adds, AddsStmt, AddsStmts, AddsElse, AddsBranches}
 use Rattle.pearl_gen_stmt.proofs.Adding.{alone_adds}

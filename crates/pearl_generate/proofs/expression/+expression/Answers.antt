@@ -3,7 +3,7 @@ use Rattle.pearl_program.specs.declared.expression.Variable.{Variable}
 use Rattle.pearl_program.specs.declared.expression.Call.{Call}
 use Rattle.pearl_program.specs.PlainExpressions.{plain_expr, plain_argument, plain_variable, plain_arguments}
 use Rattle.pearl_program.specs.Weights.{of_expr, of_variable, of_argument}
-use Rattle.pearl_gen_expr.proofs.Nodes.{read_plain, call_plain, ident_plain}
+use Rattle.pearl_gen_expr.proofs.Offered.{read_plain, call_plain, ident_plain}
 use Rattle.pearl_generate.specs.Needs.{need_of, of_call}
 use Rattle.pearl_generate.proofs.Sums.{value_beside}
 use Rattle.pearl_generate.proofs.expression.«+expression».Goals as goal

@@ -5,7 +5,7 @@ use Rattle.pearl_program.specs.declared.statement.Repeat.{Repeat}
 use Rattle.pearl_program.specs.PlainStatements.{plain_stmt}
 use Rattle.pearl_program.specs.Weights.{greatest}
 use Rattle.pearl_gen_stmt.specs.Emission.{plain_if, plain_case, plain_repeat}
-use Rattle.pearl_gen_stmt.proofs.StatementRows.{if_plain, case_plain, repeat_plain}
+use Rattle.pearl_gen_stmt.proofs.Offered.{if_plain, case_plain, repeat_plain}
 use Rattle.pearl_generate.specs.Needs.{need_of}
 use Rattle.pearl_generate.proofs.statement.«+statement».Goals as goal
 

@@ -4,7 +4,7 @@ use Rattle.pearl_tree.specs.Statements.{SpellsBodyDecl}
 use Rattle.pearl_tree.specs.declared.symbol.TheConstants as s
 use Rattle.pearl_parse_expr.specs.Stops.{is_symbol}
 use Rattle.pearl_parse_decl.specs.Readings.{by_comma, extends_item}
-use Rattle.pearl_parse_expr.proofs.Fields.{reading_is}
+use Rattle.pearl_parse_expr.proofs.Offered.{reading_is}
 use Rattle.pearl_parse.proofs.Steps.{past, missing}
 use Rattle.pearl_parse.proofs.Made.{semicolon}
 use Rattle.pearl_parse.proofs.DeclarationLeast.{Items, no_dcl, items_halt, past_items, no_end, declared_goes}

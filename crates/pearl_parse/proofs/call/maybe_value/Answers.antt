@@ -3,8 +3,7 @@ use Rattle.std.proofs.Common.{rules, sym, refl, inl, arith, Some}
 use Rattle.pearl_tree.specs.Statements.{SpellsValue}
 use Rattle.pearl_tree.specs.declared.symbol.TheConstants as s
 use Rattle.pearl_parse_expr.specs.Stops.{is_symbol}
-use Rattle.pearl_parse_expr.proofs.Halts.{residual}
-use Rattle.pearl_parse_expr.proofs.Fields.{reading_is}
+use Rattle.pearl_parse_expr.proofs.Offered.{residual, reading_is}
 use Rattle.pearl_parse.proofs.Steps.{optional_is_only, optional_is_halted}
 use Rattle.pearl_parse.proofs.Comes.{Maybe}
 use Rattle.pearl_parse.proofs.States.{some_reaches, goes_as, halts_as}

@@ -1,7 +1,7 @@
 -- That an assignment, or a call without CALL, is read, or the least stop is told.
 use Rattle.std.proofs.Common.{◌+◌, sym, ◌<◌, ◌^◌, length, rules, refl, arith, ℕ, max}
 use Rattle.pearl_tree.specs.Expressions.{SpellsWhole}
-use Rattle.pearl_parse_expr.proofs.Fields.{reading_is}
+use Rattle.pearl_parse_expr.proofs.Offered.{reading_is}
 use Rattle.pearl_tree.specs.declared.statement.Stmt.TheVariants as stmt
 use Rattle.pearl_parse.specs.Calls.{SpellsArguments}
 use Rattle.pearl_parse.proofs.Steps.{no_part}

@@ -1,7 +1,7 @@
 -- That RETURN is read, with its value if it has one, or the least stop is told.
 use Rattle.std.proofs.Common.{◌+◌, ◌<◌, ◌^◌, length, rules, arith, ℕ, max}
 use Rattle.pearl_tree.specs.Statements.{SpellsValue}
-use Rattle.pearl_parse_expr.proofs.Fields.{reading_is}
+use Rattle.pearl_parse_expr.proofs.Offered.{reading_is}
 use Rattle.pearl_tree.specs.declared.statement.Stmt.TheVariants as stmt
 use Rattle.pearl_parse.specs.Calls.{SpellsOptionalValue}
 use Rattle.pearl_parse.proofs.Steps.{no_first}

@@ -1,7 +1,6 @@
 -- That a list that may be missing is read with the word behind it, or the least stop is told.
 use Rattle.std.proofs.Common.{ℕ, ◌+◌, max, sym, ◌<◌, ◌≤◌, ◌^◌, length, rules, refl, arith, inl}
-use Rattle.pearl_parse_expr.proofs.Halts.{residual}
-use Rattle.pearl_parse_expr.proofs.Fields.{reading_is}
+use Rattle.pearl_parse_expr.proofs.Offered.{residual, reading_is}
 use Rattle.pearl_parse.proofs.Steps.{itself}
 use Rattle.pearl_parse.proofs.Before.{maybe_list, behind_list, no_word_behind, no_list}
 use Rattle.pearl_parse.proofs.TransferLeast.{no_list_least, no_word_least, before_least}

@@ -1,7 +1,7 @@
 -- That as many parts are read as begin here, one after the other.
 use Rattle.std.proofs.Common.{refl, arith}
 use Rattle.pearl_parse_expr.specs.Readings.{ended}
-use Rattle.pearl_parse_expr.proofs.Lists.{listed}
+use Rattle.pearl_parse_expr.proofs.Offered.{listed}
 use Rattle.pearl_parse.proofs.EachReads.{EachRead, each_none, each_more, each_ended, each_maybe}
 use Rattle.pearl_parse.proofs.lists.each.Goals as goal
 

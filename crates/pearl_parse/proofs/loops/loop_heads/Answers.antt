@@ -2,7 +2,7 @@
 use Rattle.std.proofs.Common.{◌+◌, ap, ◌<◌, ◌^◌, length, rules, arith, ℕ, max}
 use Rattle.pearl_tree.specs.declared.word_code.TheConstants as w
 use Rattle.pearl_parse_expr.specs.Stops.{is_word}
-use Rattle.pearl_parse_expr.proofs.Fields.{reading_is}
+use Rattle.pearl_parse_expr.proofs.Offered.{reading_is}
 use Rattle.pearl_parse.specs.Bodies.{SpellsOptionalFor, SpellsHeads}
 use Rattle.pearl_parse.proofs.Steps.{missing, no_first, ends, Ends}
 use Rattle.pearl_parse.proofs.LoopRests.{from_rest, by_rest, to_rest, while_rest, repeat_word, heads_goes}

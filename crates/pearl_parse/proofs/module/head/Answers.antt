@@ -4,7 +4,7 @@ use Rattle.pearl_tree.specs.declared.symbol.TheConstants as s
 use Rattle.pearl_tree.specs.declared.word_code.TheConstants as w
 use Rattle.pearl_tree.specs.Modules.{SpellsModuleName}
 use Rattle.pearl_parse_expr.specs.Stops.{is_symbol, is_word}
-use Rattle.pearl_parse_expr.proofs.Fields.{reading_is}
+use Rattle.pearl_parse_expr.proofs.Offered.{reading_is}
 use Rattle.pearl_parse.specs.Modules.{SpellsOptionalName, SpellsHead, begins_module_name}
 use Rattle.pearl_parse.proofs.Steps.{err_told, missing_is_refused, past_only, missing, no_first, ends}
 use Rattle.pearl_parse.proofs.Optional.{maybe_of}

@@ -1,9 +1,8 @@
 -- That the tree is told that the tokens spell, or the place of the first token with which no module begins.
 use Rattle.std.proofs.Common.{length, refl}
 use Rattle.pearl_tree.specs.Stops.{NoneBegins}
-use Rattle.pearl_tree.proofs.SpelledLawful.{spelled_lawful}
-use Rattle.pearl_parse_expr.proofs.Halts.{stuck_of}
-use Rattle.pearl_parse_expr.proofs.Reaching.{reached_halt}
+use Rattle.pearl_tree.proofs.Offered.{spelled_lawful}
+use Rattle.pearl_parse_expr.proofs.Offered.{stuck_of, reached_halt}
 use Rattle.pearl_parse.specs.Modules.{SpellsSource}
 use Rattle.pearl_parse.proofs.ModuleRests.{source_spells}
 use Rattle.pearl_parse.proofs.ModulesMade.{begins, some_begins}

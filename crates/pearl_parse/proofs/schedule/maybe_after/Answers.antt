@@ -1,7 +1,6 @@
 -- That an expression is read behind a word where the word stands.
 use Rattle.std.proofs.Common.{rules, arith, Some}
-use Rattle.pearl_parse_expr.proofs.Halts.{residual}
-use Rattle.pearl_parse_expr.proofs.Fields.{reading_is}
+use Rattle.pearl_parse_expr.proofs.Offered.{residual, reading_is}
 use Rattle.pearl_parse.proofs.Comes.{Maybe}
 use Rattle.pearl_parse.proofs.ScheduleMade.{After}
 use Rattle.pearl_parse.proofs.States.{some_reaches, told_none, told_as, halts_behind_as}

@@ -2,8 +2,7 @@
 use Rattle.std.proofs.Common.{rules, arith, Some}
 use Rattle.pearl_tree.specs.Statements.{SpellsPeriodEnd}
 use Rattle.pearl_tree.specs.declared.word_code.TheConstants as w
-use Rattle.pearl_parse_expr.proofs.Halts.{residual}
-use Rattle.pearl_parse_expr.proofs.Fields.{reading_is}
+use Rattle.pearl_parse_expr.proofs.Offered.{residual, reading_is}
 use Rattle.pearl_tree.specs.declared.statement.PeriodEnd.TheVariants as period_end
 use Rattle.pearl_parse.proofs.Comes.{Maybe}
 use Rattle.pearl_parse.proofs.ScheduleMade.{After}

@@ -2,8 +2,7 @@
 use Rattle.std.proofs.Common.{rules, sym, arith, Some}
 use Rattle.pearl_tree.specs.declared.word_code.TheConstants as w
 use Rattle.pearl_parse_expr.specs.Stops.{extends_expression, is_word}
-use Rattle.pearl_parse_expr.proofs.Halts.{residual}
-use Rattle.pearl_parse_expr.proofs.Fields.{reading_is}
+use Rattle.pearl_parse_expr.proofs.Offered.{residual, reading_is}
 use Rattle.pearl_parse.specs.Schedules.{SpellsLongPeriod}
 use Rattle.pearl_parse.proofs.Steps.{optional_is_longest, optional_is_stopped}
 use Rattle.pearl_tree.specs.Statements.{SpellsPeriod}

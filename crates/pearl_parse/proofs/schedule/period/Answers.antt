@@ -1,6 +1,6 @@
 -- That a period is read, or the least stop is told.
 use Rattle.std.proofs.Common.{◌<◌, ◌^◌, length, rules, arith}
-use Rattle.pearl_parse_expr.proofs.Fields.{reading_is}
+use Rattle.pearl_parse_expr.proofs.Offered.{reading_is}
 use Rattle.pearl_parse.proofs.Steps.{Ends, Then}
 use Rattle.pearl_parse.proofs.ScheduleRests.{period_stopped}
 use Rattle.pearl_tree.specs.Statements.{SpellsPeriodEnd, SpellsPeriod}

@@ -5,7 +5,7 @@ use Rattle.pearl_tree.specs.Standing.{SpellsEach, SpellsSome, SpellsMaybe}
 use Rattle.pearl_tree.specs.Statements.{SpellsAfter, SpellsBranch, SpellsBodyDecl}
 use Rattle.pearl_tree.specs.declared.word_code.TheConstants as w
 use Rattle.pearl_parse_expr.specs.Stops.{is_word}
-use Rattle.pearl_parse_expr.proofs.Lists.{listed}
+use Rattle.pearl_parse_expr.proofs.Offered.{listed}
 use Rattle.pearl_parse.specs.Stops.{begins_statement}
 use Rattle.pearl_parse.specs.Bodies.{SpellsStatements, SpellsHeaded, SpellsOptionalHeaded, SpellsBlock, SpellsCondition}
 use Rattle.pearl_parse.specs.Bodies.{SpellsHeads, SpellsInner}

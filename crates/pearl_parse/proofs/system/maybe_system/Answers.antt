@@ -3,8 +3,7 @@ use Rattle.std.proofs.Common.{rules, sym, inl, refl, arith, Some}
 use Rattle.pearl_tree.specs.Modules.{SpellsSystem}
 use Rattle.pearl_tree.specs.declared.word_code.TheConstants as w
 use Rattle.pearl_parse_expr.specs.Stops.{is_name, is_word}
-use Rattle.pearl_parse_expr.proofs.Halts.{residual}
-use Rattle.pearl_parse_expr.proofs.Fields.{reading_is}
+use Rattle.pearl_parse_expr.proofs.Offered.{residual, reading_is}
 use Rattle.pearl_parse.specs.Modules.{SpellsOptionalSystem}
 use Rattle.pearl_parse.proofs.Steps.{only_is_longest, optional_is_none, optional_is_longest, optional_is_halted}
 use Rattle.pearl_parse.proofs.ModuleRests.{system_begins}

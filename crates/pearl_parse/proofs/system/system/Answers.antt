@@ -3,7 +3,7 @@ use Rattle.std.proofs.Common.{◌+◌, ap, ◌<◌, ◌^◌, length, rules, arit
 use Rattle.pearl_tree.specs.Modules.{SpellsSystem}
 use Rattle.pearl_tree.specs.declared.symbol.TheConstants as s
 use Rattle.pearl_parse_expr.specs.Stops.{is_symbol}
-use Rattle.pearl_parse_expr.proofs.Fields.{reading_is}
+use Rattle.pearl_parse_expr.proofs.Offered.{reading_is}
 use Rattle.pearl_parse.proofs.Steps.{missing}
 use Rattle.pearl_parse.proofs.ModuleRests.{devices_rest, devices_go, system_is_longest}
 use Rattle.pearl_parse.proofs.SystemLeast.{no_devices, system_goes}

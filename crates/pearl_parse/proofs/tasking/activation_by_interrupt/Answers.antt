@@ -1,6 +1,6 @@
 -- That an activation is read that begins with WHEN, or the least stop is told.
 use Rattle.std.proofs.Common.{◌+◌, ◌<◌, ◌^◌, length, rules, arith}
-use Rattle.pearl_parse_expr.proofs.Fields.{reading_is}
+use Rattle.pearl_parse_expr.proofs.Offered.{reading_is}
 use Rattle.pearl_tree.specs.declared.statement.Stmt.TheVariants as stmt
 use Rattle.pearl_parse.specs.Schedules.{SpellsOptionalAfter, SpellsBegun, SpellsAnyBegun}
 use Rattle.pearl_parse.proofs.Steps.{Ends, no_part, Then}

@@ -1,6 +1,6 @@
 -- That a period and an activation are read, or the least stop is told.
 use Rattle.std.proofs.Common.{◌<◌, ◌^◌, length, rules, arith}
-use Rattle.pearl_parse_expr.proofs.Fields.{reading_is}
+use Rattle.pearl_parse_expr.proofs.Offered.{reading_is}
 use Rattle.pearl_parse.specs.Schedules.{SpellsOptionalPeriod, SpellsActivation, SpellsBegun, SpellsAnyBegun}
 use Rattle.pearl_parse.proofs.Steps.{Ends, past_only, no_part_behind, Then}
 use Rattle.pearl_parse.proofs.ScheduleRests.{activation_rest, begun_goes, begun_goes_on}

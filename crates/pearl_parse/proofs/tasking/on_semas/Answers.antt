@@ -1,6 +1,6 @@
 -- That REQUEST or RELEASE is read with its names, or the least stop is told.
 use Rattle.std.proofs.Common.{◌+◌, ◌<◌, ◌^◌, length, rules, arith, ℕ, max}
-use Rattle.pearl_parse_expr.proofs.Fields.{reading_is}
+use Rattle.pearl_parse_expr.proofs.Offered.{reading_is}
 use Rattle.pearl_tree.specs.declared.statement.Stmt.TheVariants as stmt
 use Rattle.pearl_parse.specs.Stops.{SpellsNameList}
 use Rattle.pearl_parse.proofs.Steps.{no_first}

@@ -3,7 +3,7 @@ use Rattle.std.proofs.Common.{◌+◌, ap, ◌<◌, ◌^◌, length, rules, inl,
 use Rattle.pearl_tree.specs.Standing.{SpellsName}
 use Rattle.pearl_tree.specs.declared.symbol.TheConstants as s
 use Rattle.pearl_parse_expr.specs.Stops.{is_symbol, is_name}
-use Rattle.pearl_parse_expr.proofs.Fields.{reading_is}
+use Rattle.pearl_parse_expr.proofs.Offered.{reading_is}
 use Rattle.pearl_tree.specs.declared.statement.Stmt.TheVariants as stmt
 use Rattle.pearl_parse.specs.Stops.{SpellsOptional}
 use Rattle.pearl_parse.proofs.Steps.{past_only, missing, ends}

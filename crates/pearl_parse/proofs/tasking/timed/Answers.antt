@@ -1,6 +1,6 @@
 -- That a statement is read that begins with AT or AFTER, or the least stop is told.
 use Rattle.std.proofs.Common.{◌+◌, refl, sym, ◌<◌, ◌^◌, length, rules, arith, ℕ, max}
-use Rattle.pearl_parse_expr.proofs.Fields.{reading_is}
+use Rattle.pearl_parse_expr.proofs.Offered.{reading_is}
 use Rattle.pearl_tree.specs.declared.statement.Stmt.TheVariants as stmt
 use Rattle.pearl_parse.specs.Schedules.{SpellsBegun, SpellsAnyBegun}
 use Rattle.pearl_parse.proofs.StatementRests.{Spelled}

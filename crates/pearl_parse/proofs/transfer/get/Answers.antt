@@ -5,7 +5,7 @@ use Rattle.pearl_tree.specs.declared.word_code.TheConstants as w
 use Rattle.pearl_parse.specs.Stops.{SpellsStation}
 use Rattle.pearl_parse.proofs.StatementRests.{Spelled}
 use Rattle.pearl_parse.proofs.TransferRests.{get_goes}
-use Rattle.pearl_parse_decl.proofs.LocalDeclarations.{own_ref_keeps}
+use Rattle.pearl_parse_decl.proofs.Offered.{own_ref_keeps}
 use Rattle.pearl_parse.proofs.TransferLeast.{before_is_local, station_is_local}
 use Rattle.pearl_parse.proofs.StatementLeast.{get_begun}
 use Rattle.pearl_parse.proofs.TransferReads.{no_list, past_list}

@@ -5,7 +5,7 @@ use Rattle.pearl_tree.specs.declared.word_code.TheConstants as w
 use Rattle.pearl_parse.specs.Stops.{SpellsStation}
 use Rattle.pearl_parse.proofs.StatementRests.{Spelled}
 use Rattle.pearl_parse.proofs.TransferRests.{no_value, put_goes}
-use Rattle.pearl_parse_decl.proofs.LocalDeclarations.{whole_keeps}
+use Rattle.pearl_parse_decl.proofs.Offered.{whole_keeps}
 use Rattle.pearl_parse.proofs.TransferLeast.{before_is_local, station_is_local}
 use Rattle.pearl_parse.proofs.StatementLeast.{put_begun}
 use Rattle.pearl_parse.proofs.TransferReads.{no_list, past_list}

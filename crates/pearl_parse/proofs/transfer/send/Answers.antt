@@ -2,7 +2,7 @@
 use Rattle.std.proofs.Common.{◌+◌, max, ◌<◌, ◌^◌, length, rules, arith, ℕ, refl}
 use Rattle.pearl_tree.specs.Expressions.{SpellsWhole}
 use Rattle.pearl_tree.specs.declared.word_code.TheConstants as w
-use Rattle.pearl_parse_expr.proofs.Fields.{reading_is}
+use Rattle.pearl_parse_expr.proofs.Offered.{reading_is}
 use Rattle.pearl_tree.specs.declared.statement.Stmt.TheVariants as stmt
 use Rattle.pearl_parse.proofs.Steps.{no_part}
 use Rattle.pearl_parse.proofs.StatementRests.{Spelled, station_rest, send_goes}

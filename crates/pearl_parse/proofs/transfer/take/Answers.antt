@@ -1,7 +1,7 @@
 -- That TAKE is read, or the least stop is told.
 use Rattle.std.proofs.Common.{◌+◌, max, ◌<◌, ◌^◌, length, rules, arith, ℕ, refl}
 use Rattle.pearl_tree.specs.Expressions.{SpellsOwnRef}
-use Rattle.pearl_parse_expr.proofs.Fields.{reading_is}
+use Rattle.pearl_parse_expr.proofs.Offered.{reading_is}
 use Rattle.pearl_tree.specs.declared.statement.Stmt.TheVariants as stmt
 use Rattle.pearl_parse.specs.Stops.{SpellsOwnNamed}
 use Rattle.pearl_tree.specs.declared.word_code.TheConstants as w

@@ -1,6 +1,6 @@
 -- What `declare` answers: the list behind DCL isn't read, no semicolon closes it, or it is read.
 use Rattle.std.proofs.Common.{rules, ◌≡◌, ap, refl}
-use Rattle.pearl_parse_expr.proofs.Halts.{residual}
+use Rattle.pearl_parse_expr.proofs.Offered.{residual}
 use Rattle.pearl_parse_decl.proofs.Behind.{list_is_read, part_closed, part_unclosed, part_unread}
 use Rattle.pearl_parse_decl.proofs.DeclReach.{declare_holds, declared_list, declared_list_is_local}
 use Rattle.pearl_parse_decl.proofs.declaration.declare.Goals as goal

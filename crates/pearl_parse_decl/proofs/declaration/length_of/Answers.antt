@@ -4,8 +4,7 @@ use Rattle.pearl_tree.specs.declared.word_code.TheConstants as w
 use Rattle.pearl_tree.specs.Standing.{SpellsBracketedNumber}
 use Rattle.pearl_tree.specs.Modules.{SpellsDecl}
 use Rattle.pearl_parse_expr.specs.Least.{Reaches}
-use Rattle.pearl_parse_expr.proofs.Halts.{halted, residual}
-use Rattle.pearl_parse_expr.proofs.Primaries.{word_within}
+use Rattle.pearl_parse_expr.proofs.Offered.{halted, residual, word_within}
 use Rattle.pearl_parse_decl.proofs.Behind.{none_only, only_is_read, part_unread, unclosed}
 use Rattle.pearl_parse_decl.proofs.Leaves.{bracketed_number_is_local, length_begins, length_holds, only_length}
 use Rattle.pearl_parse_decl.proofs.declaration.length_of.Goals as goal

@@ -1,6 +1,6 @@
 -- What `specify` answers: the list behind SPC isn't read, no semicolon closes it, or it is read.
 use Rattle.std.proofs.Common.{rules, ◌≡◌, ap, refl}
-use Rattle.pearl_parse_expr.proofs.Halts.{residual}
+use Rattle.pearl_parse_expr.proofs.Offered.{residual}
 use Rattle.pearl_parse_decl.proofs.Behind.{list_is_read, part_closed, part_unclosed, part_unread}
 use Rattle.pearl_parse_decl.proofs.DeclReach.{spec_list, spec_list_is_local, specify_holds}
 use Rattle.pearl_parse_decl.proofs.declaration.specify.Goals as goal

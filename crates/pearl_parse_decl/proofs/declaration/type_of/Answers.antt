@@ -10,9 +10,7 @@ use Rattle.pearl_tree.specs.Types.{SpellsWholeTyping}
 use Rattle.pearl_tree.specs.Modules.{SpellsDecl}
 use Rattle.pearl_tree.specs.declared.word_code.TheConstants as w
 use Rattle.pearl_parse_expr.specs.Stops.{is_name, is_word}
-use Rattle.pearl_parse_expr.proofs.Parts.{shorter}
-use Rattle.pearl_parse_expr.proofs.Primaries.{clash, word_within}
-use Rattle.pearl_parse_expr.proofs.Halts.{residual}
+use Rattle.pearl_parse_expr.proofs.Offered.{shorter, clash, word_within, residual}
 use Rattle.pearl_parse_decl.specs.Readings.{by_bracket}
 use Rattle.pearl_parse_decl.proofs.Behind.{longest_is_read, none_only, part_closed, part_unclosed, part_unread}
 use Rattle.pearl_parse_decl.proofs.DeclReach.{type_begins, type_holds}

@@ -2,8 +2,7 @@
 use Rattle.std.proofs.Common.{rules, ◌+◌, refl, ◌∙◌, arith}
 use Rattle.pearl_tree.specs.Standing.{SpellsBracketedNumber}
 use Rattle.pearl_tree.specs.Formats.{SpellsFmt}
-use Rattle.pearl_parse_expr.proofs.Halts.{halted}
-use Rattle.pearl_parse_expr.proofs.Readings.{longest_read}
+use Rattle.pearl_parse_expr.proofs.Offered.{halted, longest_read}
 use Rattle.pearl_parse_decl.proofs.Behind.{maybe_is_read, none_read, part_ends, part_unread}
 use Rattle.pearl_parse_decl.proofs.Leaves.{fmt_begins, free_holds, only_wide, wide_holds}
 use Rattle.pearl_parse_decl.proofs.format.fmt.Goals as goal

@@ -5,10 +5,7 @@ use Rattle.pearl_tree.specs.Declarations.{SpellsParam}
 use Rattle.pearl_tree.specs.Standing.{SpellsFlag}
 use Rattle.pearl_tree.specs.declared.word_code.TheConstants as w
 use Rattle.pearl_parse_expr.specs.Stops.{is_word}
-use Rattle.pearl_parse_expr.proofs.Parts.{shorter}
-use Rattle.pearl_parse_expr.proofs.Readings.{longest_read}
-use Rattle.pearl_parse_expr.proofs.Reaching.{goes_max, reaches_max}
-use Rattle.pearl_parse_expr.proofs.Halts.{residual}
+use Rattle.pearl_parse_expr.proofs.Offered.{shorter, longest_read, goes_max, reaches_max, residual}
 use Rattle.pearl_parse_decl.specs.Readings.{by_bracket}
 use Rattle.pearl_parse_decl.proofs.Behind.{last, longest_is_read, no_flag, only_is_read, part_unread, unclosed}
 use Rattle.pearl_parse_decl.proofs.Behind.{unread_behind}

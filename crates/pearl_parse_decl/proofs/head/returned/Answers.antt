@@ -1,6 +1,6 @@
 -- What `returned` answers: RETURNS, a bracket, a type in it or the closing bracket is missing, or all stand there.
 use Rattle.std.proofs.Common.{rules, refl, arith}
-use Rattle.pearl_parse_expr.proofs.Halts.{residual}
+use Rattle.pearl_parse_expr.proofs.Offered.{residual}
 use Rattle.pearl_parse_decl.proofs.Behind.{longest_is_read, none_only, part_closed, part_unclosed, part_unread}
 use Rattle.pearl_parse_decl.proofs.Leaves.{basic_is_local, returns_begin, returns_hold, returns_named}
 use Rattle.pearl_parse_decl.proofs.head.returned.Goals as goal

@@ -1,7 +1,6 @@
 -- What `declared` answers: no names, or behind them a semaphore or a variable that is read, or isn't.
 use Rattle.std.proofs.Common.{rules, sym}
-use Rattle.pearl_parse_expr.proofs.Readings.{longest_read}
-use Rattle.pearl_parse_expr.proofs.Halts.{residual}
+use Rattle.pearl_parse_expr.proofs.Offered.{longest_read, residual}
 use Rattle.pearl_parse_decl.proofs.Behind.{part_unread}
 use Rattle.pearl_parse_decl.proofs.DeclReach.{declared_names, item_kind, kind_read, kind_unread, sema_kind}
 use Rattle.pearl_parse_decl.proofs.item.declared.Goals as goal

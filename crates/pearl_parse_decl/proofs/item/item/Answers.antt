@@ -1,6 +1,6 @@
 -- What `item` answers where no names stand there.
 use Rattle.std.proofs.Common.{rules}
-use Rattle.pearl_parse_expr.proofs.Readings.{longest_read}
+use Rattle.pearl_parse_expr.proofs.Offered.{longest_read}
 use Rattle.pearl_parse_decl.proofs.Behind.{part_unread}
 use Rattle.pearl_parse_decl.proofs.DeclReach.{item_names}
 use Rattle.pearl_parse_decl.proofs.item.item.Goals as goal

@@ -1,6 +1,6 @@
 -- What `item_behind` answers: want of memory, no type, or an item with INIT or without it.
 use Rattle.std.proofs.Common.{rules}
-use Rattle.pearl_parse_expr.proofs.Halts.{residual}
+use Rattle.pearl_parse_expr.proofs.Offered.{residual}
 use Rattle.pearl_parse_decl.proofs.Behind.{no_memory_read}
 use Rattle.pearl_parse_decl.proofs.DeclReach.{item_unread, item_ends, item_goes}
 use Rattle.pearl_parse_decl.proofs.item.item_behind.Goals as goal

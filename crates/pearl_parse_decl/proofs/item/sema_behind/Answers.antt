@@ -3,8 +3,7 @@ use Rattle.std.proofs.Common.{rules, refl}
 use Rattle.pearl_tree.specs.Standing.{SpellsMaybeHeaded, SpellsNumber}
 use Rattle.pearl_tree.specs.Declarations.{SpellsSema}
 use Rattle.pearl_tree.specs.declared.word_code.TheConstants as w
-use Rattle.pearl_parse_expr.proofs.Reaching.{goes, reaches_max}
-use Rattle.pearl_parse_expr.proofs.Halts.{residual}
+use Rattle.pearl_parse_expr.proofs.Offered.{goes, reaches_max, residual}
 use Rattle.pearl_parse_decl.proofs.Behind.{maybe_list_is_read, none_read, no_memory_read, only_is_read, unclosed}
 use Rattle.pearl_parse_decl.proofs.DeclReach.{presets_are_local, sema_names, sema_preset}
 use Rattle.pearl_parse_decl.proofs.TypeReach.{names_are_local}

@@ -1,7 +1,7 @@
 -- What `bracketed` answers: no bracket opens a list, no list is read, no bracket closes it, or it is read.
 use Rattle.std.proofs.Common.{rules, refl}
 use Rattle.pearl_tree.specs.Standing.{SpellsList}
-use Rattle.pearl_parse_expr.proofs.Halts.{residual}
+use Rattle.pearl_parse_expr.proofs.Offered.{residual}
 use Rattle.pearl_parse_decl.proofs.Behind.{list_is_read, none_only, part_closed, part_unclosed, part_unread}
 use Rattle.pearl_parse_decl.proofs.ListReach.{bracketed_holds, list_is_local}
 use Rattle.pearl_parse_decl.proofs.list.bracketed.Goals as goal

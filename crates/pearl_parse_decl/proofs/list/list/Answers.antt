@@ -1,8 +1,7 @@
 -- What `list` answers: no part stands there, the list so far, the list with one part more, or the whole list.
 use Rattle.std.proofs.Common.{refl, sym}
-use Rattle.pearl_parse_expr.proofs.Lists.{listed}
-use Rattle.pearl_parse_expr.proofs.CommaLists.{ListRead, list_first, list_more, list_done, list_ended, list_none}
-use Rattle.pearl_parse_expr.proofs.Halts.{residual}
+use Rattle.pearl_parse_expr.proofs.Offered.{listed, ListRead, list_first, list_more, list_done, list_ended, list_none}
+use Rattle.pearl_parse_expr.proofs.Offered.{residual}
 use Rattle.pearl_parse_decl.proofs.list.list.Goals as goal
 
 pub each-init : goal.each-init

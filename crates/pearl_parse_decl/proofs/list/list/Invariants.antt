@@ -1,6 +1,6 @@
 -- What the list is so far; its rest is shorter each time.
 use Rattle.std.proofs.Common.{◌-◌, length}
-use Rattle.pearl_parse_expr.proofs.CommaLists.{ListRead}
+use Rattle.pearl_parse_expr.proofs.Offered.{ListRead}
 use Rattle.pearl_parse_decl.proofs.list.list.Given as goal
 
 abbrev pub invariant-each : goal.invariant-each

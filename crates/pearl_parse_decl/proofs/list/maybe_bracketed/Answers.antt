@@ -2,8 +2,7 @@
 use Rattle.std.proofs.Common.{rules, refl, arith}
 use Rattle.pearl_tree.specs.Standing.{SpellsBracketed, SpellsMaybeBracketed}
 use Rattle.pearl_parse_decl.specs.Readings.{by_bracket}
-use Rattle.pearl_parse_expr.proofs.Halts.{stuck_of}
-use Rattle.pearl_parse_expr.proofs.Reaching.{goes, goes_as, reached_halt}
+use Rattle.pearl_parse_expr.proofs.Offered.{stuck_of, goes, goes_as, reached_halt}
 use Rattle.pearl_parse_decl.proofs.ListReach.{maybe_bracketed_reaches, maybe_list_none}
 use Rattle.pearl_parse_decl.proofs.Lists.{maybe_is_longest, maybe_is_none}
 use Rattle.pearl_parse_decl.proofs.list.maybe_bracketed.Goals as goal

@@ -2,8 +2,7 @@
 use Rattle.std.proofs.Common.{rules, ◌+◌, ◌<◌, inl, refl, sym, arith}
 use Rattle.pearl_tree.specs.Standing.{SpellsBracketed, SpellsMaybeHeaded}
 use Rattle.pearl_parse_expr.specs.Stops.{is_word}
-use Rattle.pearl_parse_expr.proofs.Halts.{stuck_of}
-use Rattle.pearl_parse_expr.proofs.Reaching.{goes, goes_as, reached_halt}
+use Rattle.pearl_parse_expr.proofs.Offered.{stuck_of, goes, goes_as, reached_halt}
 use Rattle.pearl_parse_decl.proofs.ListReach.{maybe_headed_reaches, maybe_list_none}
 use Rattle.pearl_parse_decl.proofs.Lists.{headed_is_longest, headed_is_none}
 use Rattle.pearl_parse_decl.proofs.list.maybe_headed.Goals as goal

@@ -2,7 +2,7 @@
 use Rattle.std.proofs.Common.{rules, ◌≡◌, ◌≤◌, subst, arith}
 use Rattle.pearl_tree.specs.Expressions.{SpellsLiteral, SpellsConst}
 use Rattle.pearl_parse_expr.specs.Least.{GoesTo}
-use Rattle.pearl_parse_expr.proofs.Reaching.{goes_as}
+use Rattle.pearl_parse_expr.proofs.Offered.{goes_as}
 use Rattle.pearl_parse_decl.proofs.Behind.{halts_behind, read_behind}
 use Rattle.pearl_parse_decl.proofs.Constants.{sign_ends}
 use Rattle.pearl_parse_decl.proofs.Leaves.{const_reaches}

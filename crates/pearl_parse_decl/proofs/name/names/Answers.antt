@@ -3,8 +3,7 @@ use Rattle.std.proofs.Common.{rules, refl, sym, ap, ◌∙◌, arith}
 use Rattle.pearl_tree.specs.Standing.{SpellsName, SpellsBracketed}
 use Rattle.pearl_tree.specs.Types.{SpellsNames}
 use Rattle.pearl_parse_expr.specs.Stops.{is_name}
-use Rattle.pearl_parse_expr.proofs.Halts.{halted}
-use Rattle.pearl_parse_expr.proofs.Reaching.{goes_as, halts_as}
+use Rattle.pearl_parse_expr.proofs.Offered.{halted, goes_as, halts_as}
 use Rattle.pearl_parse_decl.proofs.Behind.{none_only}
 use Rattle.pearl_parse_decl.proofs.TypeReach.{names_reach}
 use Rattle.pearl_parse_decl.proofs.Types.{only_several}

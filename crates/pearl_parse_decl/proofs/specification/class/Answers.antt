@@ -1,6 +1,6 @@
 -- What `class` answers: neither word stands there, or BASIC with a type behind it or without.
 use Rattle.std.proofs.Common.{rules, refl}
-use Rattle.pearl_parse_expr.proofs.Readings.{longest_read}
+use Rattle.pearl_parse_expr.proofs.Offered.{longest_read}
 use Rattle.pearl_parse_decl.proofs.Behind.{longest_is_read, none_read, part_ends, part_unread}
 use Rattle.pearl_parse_decl.proofs.Leaves.{class_begins, class_holds}
 use Rattle.pearl_parse_decl.proofs.specification.class.Goals as goal

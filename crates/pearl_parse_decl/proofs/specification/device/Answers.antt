@@ -3,8 +3,7 @@ use Rattle.std.proofs.Common.{rules, ◌≡◌, ◌+◌, refl, sym, ap, subst, �
 use Rattle.pearl_tree.specs.Standing.{SpellsBracketedNumber}
 use Rattle.pearl_tree.specs.Declarations.{SpellsDevice}
 use Rattle.pearl_parse_expr.specs.Least.{Reaches}
-use Rattle.pearl_parse_expr.proofs.Halts.{halted, residual}
-use Rattle.pearl_parse_expr.proofs.Primaries.{clash}
+use Rattle.pearl_parse_expr.proofs.Offered.{halted, residual, clash}
 use Rattle.pearl_parse_decl.specs.Readings.{is_device_word}
 use Rattle.pearl_parse_decl.proofs.Behind.{none_only, only_is_read, part_unread, unclosed}
 use Rattle.pearl_parse_decl.proofs.Devices.{device_begins, device_holds, device_named, device_opened}

@@ -3,10 +3,7 @@ use Rattle.std.proofs.Common.{rules, ◌≡◌, ◌+◌, ◌≤◌, max, inl, re
 use Rattle.pearl_tree.specs.Declarations.{SpellsSpec}
 use Rattle.pearl_tree.specs.declared.word_code.TheConstants as w
 use Rattle.pearl_parse_expr.specs.Stops.{is_word}
-use Rattle.pearl_parse_expr.proofs.Parts.{shorter}
-use Rattle.pearl_parse_expr.proofs.Readings.{longest_read}
-use Rattle.pearl_parse_expr.proofs.Reaching.{goes_max}
-use Rattle.pearl_parse_expr.proofs.Halts.{residual}
+use Rattle.pearl_parse_expr.proofs.Offered.{shorter, longest_read, goes_max, residual}
 use Rattle.pearl_parse_decl.proofs.Behind.{none_read, only_is_read, part_unread, unclosed}
 use Rattle.pearl_parse_decl.proofs.DeclReach.{spec_names}
 use Rattle.pearl_parse_decl.proofs.Specifications.{only_interrupt}

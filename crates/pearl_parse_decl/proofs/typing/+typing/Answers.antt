@@ -4,14 +4,10 @@ use Rattle.std.proofs.Common.{max, subst, ◌∙◌, arith}
 use Rattle.pearl_tree.specs.Types as grammar
 use Rattle.pearl_tree.specs.declared.word_code.TheConstants as w
 use Rattle.pearl_tree.specs.declared.symbol.TheConstants as s
-use Rattle.pearl_tree.proofs.TypeLists.{spells_struct}
+use Rattle.pearl_tree.proofs.Offered.{spells_struct}
 use Rattle.pearl_parse_expr.specs.Stops as stops
-use Rattle.pearl_parse_expr.proofs.CommaLists.{ListRead, list_first, list_more, list_done, list_ended}
-use Rattle.pearl_parse_expr.proofs.CommaLists.{list_none}
-use Rattle.pearl_parse_expr.proofs.Halts.{halted, residual}
-use Rattle.pearl_parse_expr.proofs.Lists.{listed}
-use Rattle.pearl_parse_expr.proofs.Readings.{longest_read}
-use Rattle.pearl_parse_expr.proofs.Primaries.{clash, word_within}
+use Rattle.pearl_parse_expr.proofs.Offered.{ListRead, list_first, list_more, list_done, list_ended, list_none, halted}
+use Rattle.pearl_parse_expr.proofs.Offered.{residual, listed, longest_read, clash, word_within}
 use Rattle.pearl_parse_decl.specs.Readings.{by_bracket}
 use Rattle.pearl_parse_decl.proofs.Behind.{list_is_read, longest_is_read, none_read, no_memory_read}
 use Rattle.pearl_parse_decl.proofs.Behind.{part_closed, part_ends, part_unclosed, part_unread}

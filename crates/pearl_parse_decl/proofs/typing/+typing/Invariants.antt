@@ -2,7 +2,7 @@
 use Rattle.std.proofs.Common.{◌+◌, ◌-◌, ◌*◌, length}
 use Rattle.pearl_tree.specs.Types.{SpellsField}
 use Rattle.pearl_parse_decl.specs.Readings.{by_bracket}
-use Rattle.pearl_parse_expr.proofs.CommaLists.{ListRead}
+use Rattle.pearl_parse_expr.proofs.Offered.{ListRead}
 use Rattle.pearl_parse_decl.proofs.typing.+typing.Given as goal
 
 abbrev pub decreases-fields : goal.decreases-fields

@@ -3,10 +3,7 @@ use Rattle.std.proofs.Common.{rules, ◌≡◌, ◌≤◌, subst, arith}
 use Rattle.pearl_tree.specs.Standing.{SpellsMaybe}
 use Rattle.pearl_tree.specs.Types.{SpellsInt, SpellsUpper, SpellsBound}
 use Rattle.pearl_parse_expr.specs.Least.{GoesTo}
-use Rattle.pearl_parse_expr.proofs.Halts.{halted, residual}
-use Rattle.pearl_parse_expr.proofs.Parts.{shorter}
-use Rattle.pearl_parse_expr.proofs.Reaching.{goes_as}
-use Rattle.pearl_parse_expr.proofs.Readings.{longest_read}
+use Rattle.pearl_parse_expr.proofs.Offered.{halted, residual, shorter, goes_as, longest_read}
 use Rattle.pearl_parse_decl.proofs.Behind.{part_unread}
 use Rattle.pearl_parse_decl.proofs.Leaves.{bound_holds, bound_reaches}
 use Rattle.pearl_parse_decl.proofs.typing.bound.Goals as goal

@@ -2,7 +2,7 @@
 use Rattle.std.proofs.Common.{rules, arith}
 use Rattle.pearl_tree.specs.Standing.{SpellsMaybeBracketed}
 use Rattle.pearl_tree.specs.Types.{SpellsBound, SpellsBounds}
-use Rattle.pearl_parse_expr.proofs.Reaching.{goes_as}
+use Rattle.pearl_parse_expr.proofs.Offered.{goes_as}
 use Rattle.pearl_parse_decl.proofs.Behind.{no_memory_maybe}
 use Rattle.pearl_parse_decl.proofs.TypeReach.{bounds_reach}
 use Rattle.pearl_parse_decl.proofs.typing.bounds.Goals as goal

@@ -2,7 +2,7 @@
 use Rattle.std.proofs.Common.{◌≡◌, ◌+◌, ◌-◌, ◌<◌, inl, refl, sym, ap, subst, ◌∙◌, arith, rules}
 use Rattle.pearl_tree.specs.Expressions as grammar
 use Rattle.pearl_tree.specs.declared.symbol.TheConstants as s
-use Rattle.pearl_tree.proofs.ExpressionLists.{spells_limit, spells_subscripts}
+use Rattle.pearl_tree.proofs.Offered.{spells_limit, spells_subscripts}
 use Rattle.pearl_parse_expr.specs.Stops as spec
 use Rattle.pearl_parse_expr.proofs.Closings.{group_unread, group_unclosed, group_closed, bracketed_unread}
 use Rattle.pearl_parse_expr.proofs.Closings.{bracketed_unclosed, bracketed_closed}

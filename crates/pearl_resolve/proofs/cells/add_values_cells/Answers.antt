@@ -1,6 +1,6 @@
 use Rattle.std.proofs.Common.{◌++◌, map, ap, sym, ◌∙◌, append-nil}
 use Rattle.std.specs.List.{flat_map}
-use Rattle.pearl_names.proofs.Lists.{all_taken}
+use Rattle.pearl_names.proofs.Offered.{all_taken}
 use Rattle.pearl_program.specs.PlainStatements.{plain_values}
 use Rattle.pearl_resolve.specs.Holding.{values_cells}
 use Rattle.pearl_resolve.proofs.ScopeCells.{values_cells_more}

@@ -2,8 +2,8 @@ use Rattle.std.proofs.Common.{◌≡◌, map, sym, ap, ◌∙◌}
 use Rattle.pearl_tree.specs.declared.expression.Ref.{Ref}
 use Rattle.pearl_tree.specs.ShownExpressions.{shown_expr, shown_primary, shown_selector, shown_expr_list, shown_ref}
 use Rattle.pearl_names.specs.Holding.{parameter_of}
-use Rattle.pearl_check_expr.proofs.Shown.{subscripts_shown, ref_shown, limit_shown}
-use Rattle.pearl_names.proofs.Lists.{all_taken}
+use Rattle.pearl_check_expr.proofs.Offered.{subscripts_shown, ref_shown, limit_shown}
+use Rattle.pearl_names.proofs.Offered.{all_taken}
 use Rattle.pearl_program.specs.PlainExpressions.{plain_argument}
 use Rattle.pearl_resolve.specs.Expressions.{first_arguments, handed, joined_exprs, limit_of, resolve_expr, resolve_exprs, resolve_primary, resolve_arguments, step, walked}
 use Rattle.pearl_resolve.specs.Holding.{is_ident_at, parameters_in}

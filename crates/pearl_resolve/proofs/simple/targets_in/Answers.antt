@@ -1,7 +1,7 @@
 use Rattle.std.proofs.Common.{◌++◌, map, ap, ◌∙◌}
 use Rattle.pearl_value.specs.declared.kind.CellKind.TheVariants.{Plain}
 use Rattle.pearl_tree.specs.ShownExpressions.{ShownRef, shown_ref}
-use Rattle.pearl_names.proofs.Lists.{all_taken}
+use Rattle.pearl_names.proofs.Offered.{all_taken}
 use Rattle.pearl_names.specs.declared.scope.View.TheVariants.{Within}
 use Rattle.pearl_program.specs.PlainExpressions.{plain_variable}
 use Rattle.pearl_resolve.specs.Expressions.{resolve_variable, target_kind}

@@ -9,7 +9,7 @@ use Rattle.pearl_tree.specs.ShownExpressions.{shown_expr, shown_ref}
 use Rattle.pearl_tree.specs.ShownStatements.{shown_body_decl, shown_stmt}
 use Rattle.pearl_names.specs.Lengths.{length_at}
 use Rattle.pearl_names.specs.Listed.{branches_shown, otherwise_shown, stmts_shown}
-use Rattle.pearl_names.proofs.StatementRows.{begin_shown, case_shown, if_shown, repeat_shown}
+use Rattle.pearl_names.proofs.Offered.{begin_shown, case_shown, if_shown, repeat_shown}
 use Rattle.pearl_program.specs.PlainStatements.{plain_stmts, plain_branches}
 use Rattle.pearl_resolve.specs.Cells as cells_of
 use Rattle.pearl_resolve.specs.Holding.{at_in}

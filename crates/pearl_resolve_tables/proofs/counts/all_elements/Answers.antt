@@ -1,5 +1,5 @@
 use Rattle.pearl_resolve_tables.proofs.Fills.{elements_more}
-use Rattle.pearl_names.proofs.Sized.{bounds_at, own_bounds}
+use Rattle.pearl_names.proofs.Offered.{bounds_at, own_bounds}
 use Rattle.pearl_resolve_tables.proofs.counts.all_elements.Goals as goal
 
 pub loop-own-preserved : goal.loop-own-preserved

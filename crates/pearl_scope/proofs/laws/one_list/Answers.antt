@@ -1,4 +1,4 @@
-use Rattle.pearl_tree.proofs.OneFaultList.{one_list}
+use Rattle.pearl_tree.proofs.Offered.{one_list}
 use Rattle.pearl_scope.specs.Rules.{broken}
 use Rattle.pearl_scope.proofs.laws.one_list.Goals as goal
 

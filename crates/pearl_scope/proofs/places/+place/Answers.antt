@@ -10,7 +10,7 @@ use Rattle.pearl_names.specs.Listed.{stmts_shown, branches_shown, otherwise_show
 use Rattle.pearl_names.specs.Scopes.{scopes_in, scopes_in_all, scopes_in_branches, scopes_in_otherwise}
 use Rattle.pearl_scope.specs.declared.places.Spot.{Spot}
 use Rattle.pearl_scope.specs.Placed.{Placed, placed_in, placed_stmt, placed_all, placed_branches, placed_otherwise}
-use Rattle.pearl_names.proofs.StatementRows.{if_shown, case_shown, repeat_shown, begin_shown}
+use Rattle.pearl_names.proofs.Offered.{if_shown, case_shown, repeat_shown, begin_shown}
 use Rattle.pearl_scope.proofs.Placing.{put_at, put_two, put_more, branches_put, grows_more}
 use Rattle.pearl_scope.proofs.places.«+place».Goals as goal
 

@@ -3,7 +3,7 @@ use Rattle.pearl_tree.specs.declared.rule.TheConstants as rule
 use Rattle.pearl_tree.specs.Names.{repeats}
 use Rattle.pearl_names.specs.Forming.{fields_shown}
 use Rattle.pearl_names.specs.Shapes.{field_names}
-use Rattle.pearl_names.proofs.Lists.{all_taken}
+use Rattle.pearl_names.proofs.Offered.{all_taken}
 use Rattle.pearl_scope.proofs.Seen.{told_no_field, told_field}
 use Rattle.pearl_scope.proofs.rules.repeated_fields.Goals as goal
 

@@ -4,7 +4,7 @@ use Rattle.pearl_scope.specs.PartLists.{shown_part}
 use Rattle.pearl_scope.specs.Rules.{s2, s3, s4, s5, s6, s7, s8, s9}
 use Rattle.pearl_names.specs.Known.{Known}
 use Rattle.pearl_scope.proofs.Asking.{adds}
-use Rattle.pearl_names.proofs.FieldsMade.{all_match_more, grows_more}
+use Rattle.pearl_names.proofs.Offered.{all_match_more, grows_more}
 use Rattle.pearl_scope.proofs.rules.rules_at.Goals as goal
 
 pub returns-clause-grows : goal.returns-clause-grows

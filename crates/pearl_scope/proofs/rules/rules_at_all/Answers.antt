@@ -1,7 +1,7 @@
 use Rattle.std.proofs.Common.{subst}
 use Rattle.pearl_scope.specs.PartLists.{parts_in}
 use Rattle.pearl_scope.proofs.Asking.{Asked, asked_none, asked_more}
-use Rattle.pearl_names.proofs.Lists.{all_taken}
+use Rattle.pearl_names.proofs.Offered.{all_taken}
 use Rattle.pearl_scope.proofs.rules.rules_at_all.Goals as goal
 
 pub loop-part-init : goal.loop-part-init

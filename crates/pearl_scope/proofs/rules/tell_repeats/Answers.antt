@@ -1,5 +1,5 @@
 use Rattle.std.proofs.Common.{subst}
-use Rattle.pearl_names.proofs.Lists.{all_taken}
+use Rattle.pearl_names.proofs.Offered.{all_taken}
 use Rattle.pearl_scope.proofs.Seen.{Told, told_none, told_more}
 use Rattle.pearl_scope.proofs.rules.tell_repeats.Goals as goal
 

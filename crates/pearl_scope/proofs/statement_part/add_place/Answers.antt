@@ -13,7 +13,7 @@ use Rattle.pearl_names.specs.declared.scope.View.TheVariants.{Within}
 use Rattle.pearl_scope.specs.Parts.{expr_parts, loop_parts, body_decl_parts}
 use Rattle.pearl_scope.specs.PartLists.{parts_in}
 use Rattle.pearl_scope.specs.Placed.{placed_at, parts_at}
-use Rattle.pearl_names.proofs.StatementRows.{if_shown, case_shown, repeat_shown, begin_shown}
+use Rattle.pearl_names.proofs.Offered.{if_shown, case_shown, repeat_shown, begin_shown}
 use Rattle.pearl_scope.proofs.statement_part.add_place.Goals as goal
 
 pub returns-in-If : goal.returns-in-If

@@ -6,7 +6,7 @@ use Rattle.pearl_instructions.specs.Stacks.{IsStack, task_of, room}
 use Rattle.pearl_silent.specs.Standing.{act_on, instr_of}
 use Rattle.pearl_silent.specs.Steps.{IsSizes}
 use Rattle.pearl_solo.proofs.Answering.{kept_after, hears}
-use Rattle.pearl_silent.proofs.Stands.{row_is, stands, frames_some, top_sizes, read_is}
+use Rattle.pearl_silent.proofs.Offered.{row_is, stands, frames_some, top_sizes, read_is}
 use Rattle.pearl_solo.proofs.answers.answer.Goals as goal
 
 pub hear_at-requires : goal.hear_at-requires

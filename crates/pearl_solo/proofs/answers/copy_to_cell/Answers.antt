@@ -1,5 +1,5 @@
 use Rattle.std.proofs.Common.{◌≡◌, suc, ◌-◌, length, ap, ◌∙◌, arith}
-use Rattle.pearl_silent.proofs.Tops.{own_cell_at, own_cell_set, cells_more}
+use Rattle.pearl_silent.proofs.Offered.{own_cell_at, own_cell_set, cells_more}
 use Rattle.pearl_solo.proofs.answers.copy_to_cell.Goals as goal
 
 pub overflow_sub-frames : goal.overflow_sub-frames

@@ -1,6 +1,6 @@
 use Rattle.std.proofs.Common.{◌+◌, ap, ◌∙◌}
 use Rattle.pearl_stack.specs.Frames.{Stack, moved}
-use Rattle.pearl_silent.proofs.Tops.{top_some, without_some}
+use Rattle.pearl_silent.proofs.Offered.{top_some, without_some}
 use Rattle.pearl_solo.proofs.AnswerRows.{gone_on_is}
 use Rattle.pearl_solo.proofs.answers.go_on.Goals as goal
 

@@ -3,7 +3,7 @@ use Rattle.pearl_value.specs.declared.cell.Cell.{Cell}
 use Rattle.pearl_exchange.specs.Heard.{answer_of}
 use Rattle.pearl_stack.specs.Frames.{Stack, pushed, moved, without}
 use Rattle.pearl_instructions.specs.Steps.{heard}
-use Rattle.pearl_silent.proofs.Tops.{top_some, without_some, pushed_some}
+use Rattle.pearl_silent.proofs.Offered.{top_some, without_some, pushed_some}
 use Rattle.pearl_solo.proofs.AnswerRows.{gone_on_with_is}
 use Rattle.pearl_solo.proofs.answers.hear.Goals as goal
 

@@ -2,8 +2,7 @@ use Rattle.std.proofs.Common.{◌+◌, ◌-◌, length, take, sym, ap, ◌∙◌
 use Rattle.pearl_value.specs.declared.cell.Cell.{Cell}
 use Rattle.pearl_stack.specs.Frames.{Stack}
 use Rattle.pearl_silent.specs.Steps.{top_cells}
-use Rattle.pearl_silent.proofs.Filling.{keeps_first, keeps_set, keeps_is, cells_set}
-use Rattle.pearl_silent.proofs.Tops.{cells_count, within_some}
+use Rattle.pearl_silent.proofs.Offered.{keeps_first, keeps_set, keeps_is, cells_set, cells_count, within_some}
 use Rattle.pearl_solo.proofs.Writing.{Writes, writes_first, writes_fit, writes_next, writes_all}
 use Rattle.pearl_solo.proofs.answers.set_values.Goals as goal
 

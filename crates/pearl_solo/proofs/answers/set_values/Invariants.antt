@@ -1,6 +1,6 @@
 use Rattle.std.proofs.Common.{◌-◌, length, take}
 use Rattle.pearl_silent.specs.Steps.{top_cells}
-use Rattle.pearl_silent.proofs.Filling.{KeepsRest}
+use Rattle.pearl_silent.proofs.Offered.{KeepsRest}
 use Rattle.pearl_solo.proofs.Writing.{Writes}
 use Rattle.pearl_solo.proofs.answers.set_values.Given as goal
 

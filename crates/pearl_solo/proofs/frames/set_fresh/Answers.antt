@@ -4,8 +4,8 @@ use Rattle.pearl_stack.specs.Frames.{Stack}
 use Rattle.pearl_instructions.specs.Flow as flow
 use Rattle.pearl_instructions.specs.Lawful.{IsCellKind}
 use Rattle.pearl_silent.specs.Steps.{top_cells, with_top_cell}
-use Rattle.pearl_silent.proofs.Tops.{within_some}
-use Rattle.pearl_silent.proofs.Filling.{Freshens, keeps_first, keeps_set, keeps_is, cells_set, freshens_first, freshens_more, freshens_all, all_given}
+use Rattle.pearl_silent.proofs.Offered.{within_some, Freshens, keeps_first, keeps_set, keeps_is, cells_set}
+use Rattle.pearl_silent.proofs.Offered.{freshens_first, freshens_more, freshens_all, all_given}
 use Rattle.pearl_solo.proofs.frames.set_fresh.Goals as goal
 
 pub loop-i-init : goal.loop-i-init

@@ -1,5 +1,5 @@
 use Rattle.pearl_silent.specs.Steps.{top_cells}
-use Rattle.pearl_silent.proofs.Filling.{KeepsRest, Freshens}
+use Rattle.pearl_silent.proofs.Offered.{KeepsRest, Freshens}
 use Rattle.pearl_solo.proofs.frames.set_fresh.Given as goal
 
 abbrev pub invariant-loop-i : goal.invariant-loop-i

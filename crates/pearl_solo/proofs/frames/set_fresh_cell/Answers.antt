@@ -1,7 +1,7 @@
 use Rattle.std.proofs.Common.{◌≡◌, suc, ◌-◌, length, sym, ap, ◌∙◌, arith}
 use Rattle.pearl_stack.specs.Frames.{with_cell}
 use Rattle.pearl_instructions.specs.Flow as flow
-use Rattle.pearl_silent.proofs.Tops.{own_cell_at, own_cell_set, cells_more}
+use Rattle.pearl_silent.proofs.Offered.{own_cell_at, own_cell_set, cells_more}
 use Rattle.pearl_solo.proofs.frames.set_fresh_cell.Goals as goal
 
 pub overflow_sub-frames : goal.overflow_sub-frames

@@ -1,7 +1,7 @@
 use Rattle.std.proofs.Common.{refl, sym, ap, ◌∙◌}
 use Rattle.pearl_rules.specs.declared.action.Action.TheVariants as action
 use Rattle.pearl_instructions.specs.Steps.{Offers}
-use Rattle.pearl_silent.proofs.Applied.{one_there}
+use Rattle.pearl_silent.proofs.Offered.{one_there}
 use Rattle.pearl_solo.proofs.SendRows.{send_offers}
 use Rattle.pearl_solo.proofs.offers.send.Goals as goal
 

@@ -1,6 +1,6 @@
 use Rattle.std.proofs.Common.{Some, refl, ap, ◌∙◌}
 use Rattle.pearl_rules.specs.declared.action.Action.TheVariants as action
-use Rattle.pearl_silent.proofs.Made.{offers_does}
+use Rattle.pearl_silent.proofs.Offered.{offers_does}
 use Rattle.pearl_solo.proofs.PlanRows.{plan_there, plan_offers, plan_traps}
 use Rattle.pearl_solo.proofs.plans.continue_task.Goals as goal
 

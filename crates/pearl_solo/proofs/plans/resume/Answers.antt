@@ -3,7 +3,7 @@ use Rattle.pearl_rules.specs.declared.action.Action.TheVariants as action
 use Rattle.pearl_stack.specs.Frames.{top_operands}
 use Rattle.pearl_instructions.specs.Offers.{as_start}
 use Rattle.pearl_solo.specs.Plans.{begins_with}
-use Rattle.pearl_silent.proofs.Made.{offers_does}
+use Rattle.pearl_silent.proofs.Offered.{offers_does}
 use Rattle.pearl_solo.proofs.PlanRows.{plan_there, plan_offers, plan_traps}
 use Rattle.pearl_solo.proofs.plans.resume.Goals as goal
 

@@ -1,6 +1,5 @@
 use Rattle.std.proofs.Common.{Some, refl, ap, ◌∙◌, arith}
-use Rattle.pearl_silent.proofs.Applied.{one_there}
-use Rattle.pearl_silent.proofs.Tops.{top_some, without_some}
+use Rattle.pearl_silent.proofs.Offered.{one_there, top_some, without_some}
 use Rattle.pearl_solo.proofs.ReferenceRows.{read_place, read_slot, read_cell, read_there, read_room, pushes_some, read_silent}
 use Rattle.pearl_solo.proofs.references.read_ref.Goals as goal
 

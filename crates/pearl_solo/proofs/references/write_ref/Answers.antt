@@ -1,7 +1,7 @@
 use Rattle.std.proofs.Common.{Some, refl, sym, ap, ◌∙◌, arith}
 use Rattle.pearl_rules.specs.declared.action.Action.TheVariants as action
 use Rattle.pearl_instructions.specs.Steps.{Offers}
-use Rattle.pearl_silent.proofs.Applied.{two_there}
+use Rattle.pearl_silent.proofs.Offered.{two_there}
 use Rattle.pearl_solo.proofs.ReferenceRows.{write_place, write_slot, write_there, stored_long, stored_some, write_silent}
 use Rattle.pearl_solo.proofs.references.write_ref.Goals as goal
 

@@ -5,7 +5,7 @@ use Rattle.pearl_stack.specs.Frames.{Frame, Stack}
 use Rattle.pearl_instructions.specs.Objects.{routines}
 use Rattle.pearl_instructions.specs.Rows.{row}
 use Rattle.pearl_instructions.specs.Stacks.{all_rows}
-use Rattle.pearl_silent.proofs.Settling.{Run, run_begins, run_goes, run_goes_on}
+use Rattle.pearl_silent.proofs.Offered.{Run, run_begins, run_goes, run_goes_on}
 use Rattle.pearl_solo.proofs.Settling.{falls_behind, run_ends}
 use Rattle.pearl_solo.proofs.settle.settle.Goals as goal
 

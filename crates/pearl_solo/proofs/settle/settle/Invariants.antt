@@ -1,7 +1,7 @@
 use Rattle.std.proofs.Common.{◌≡◌, ◌≤◌}
 use Rattle.pearl_instructions.specs.Objects.{routines}
 use Rattle.pearl_instructions.specs.Stacks.{IsStack, task_of, room, all_rows}
-use Rattle.pearl_silent.proofs.Settling.{Run, rows_left}
+use Rattle.pearl_silent.proofs.Offered.{Run, rows_left}
 use Rattle.pearl_solo.proofs.settle.settle.Given as goal
 
 abbrev pub invariant-loop-trap : goal.invariant-loop-trap

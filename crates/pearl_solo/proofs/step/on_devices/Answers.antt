@@ -6,7 +6,7 @@ use Rattle.pearl_instructions.specs.declared.instr.Reading.{Reading}
 use Rattle.pearl_instructions.specs.declared.instr.Instr.TheVariants.{Request, Release, Enable, Disable, Trigger, Put, Get, Take, Send}
 use Rattle.pearl_instructions.specs.Named.{is_interrupt, is_input, is_output, takes_texts, gives_texts}
 use Rattle.pearl_instructions.specs.Objects.{items_at}
-use Rattle.pearl_silent.proofs.Applied.{and_true}
+use Rattle.pearl_silent.proofs.Offered.{and_true}
 use Rattle.pearl_solo.proofs.Families.{beyond_devices}
 use Rattle.pearl_solo.proofs.Small.{named_as, device_small, semaphores_small, puts, gets_few, gets_format}
 use Rattle.pearl_solo.proofs.step.on_devices.Goals as goal

@@ -3,7 +3,7 @@ use Rattle.pearl_solo.specs.Gives.{gave}
 use Rattle.pearl_solo.proofs.Families.{beyond_tasks}
 use Rattle.pearl_solo.proofs.Small.{own_least}
 use Rattle.pearl_instructions.specs.declared.instr.Instr.TheVariants.{Resume}
-use Rattle.pearl_silent.proofs.Standing.{does_as, ready_at}
+use Rattle.pearl_silent.proofs.Offered.{does_as, ready_at}
 use Rattle.pearl_solo.proofs.step.on_tasks.Goals as goal
 
 pub resume-requires-clause-ready : goal.resume-requires-clause-ready

@@ -2,7 +2,7 @@ use Rattle.pearl_exchange.specs.Offers.{action_of}
 use Rattle.pearl_solo.specs.Gives.{gave}
 use Rattle.pearl_solo.proofs.Families.{beyond_variables}
 use Rattle.pearl_instructions.specs.declared.instr.Instr.TheVariants.{ReadAt}
-use Rattle.pearl_silent.proofs.Standing.{does_as, ready_at}
+use Rattle.pearl_silent.proofs.Offered.{does_as, ready_at}
 use Rattle.pearl_solo.proofs.step.on_variables.Goals as goal
 
 pub read_at-requires-clause-ready : goal.read_at-requires-clause-ready

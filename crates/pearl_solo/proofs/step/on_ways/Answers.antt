@@ -2,7 +2,7 @@ use Rattle.pearl_exchange.specs.Offers.{action_of}
 use Rattle.pearl_solo.specs.Gives.{gave}
 use Rattle.pearl_solo.proofs.Families.{beyond_ways}
 use Rattle.pearl_instructions.specs.declared.instr.Instr.TheVariants.{ReadRef, WriteRef}
-use Rattle.pearl_silent.proofs.Standing.{does_as, ready_at}
+use Rattle.pearl_silent.proofs.Offered.{does_as, ready_at}
 use Rattle.pearl_solo.proofs.step.on_ways.Goals as goal
 
 pub read_ref-requires-clause-ready : goal.read_ref-requires-clause-ready

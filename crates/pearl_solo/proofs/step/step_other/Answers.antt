@@ -6,7 +6,7 @@ use Rattle.pearl_silent.specs.Standing.{family, instr_of}
 use Rattle.pearl_silent.specs.Steps.{Does, IsSizes}
 use Rattle.pearl_exchange.specs.Offers.{action_of}
 use Rattle.pearl_solo.specs.Gives.{gave}
-use Rattle.pearl_silent.proofs.Stands.{row_is, kept, same_task, stands, frames_some, top_sizes, read_is}
+use Rattle.pearl_silent.proofs.Offered.{row_is, kept, same_task, stands, frames_some, top_sizes, read_is}
 use Rattle.pearl_solo.proofs.step.step_other.Goals as goal
 
 pub on_ways-requires-clause-at : goal.on_ways-requires-clause-at

@@ -1,7 +1,7 @@
 use Rattle.std.proofs.Common.{◌≡◌, ℕ, ◌+◌, ◌-◌, ◌++◌, List, Some, length, take, reverse, slice_get, sym, ap, ◌∙◌, arith, length-append}
 use Rattle.pearl_value.specs.declared.cell.Cell.{Cell}
 use Rattle.pearl_stack.specs.Frames.{top_operands}
-use Rattle.pearl_silent.proofs.InOrder.{one_more}
+use Rattle.pearl_silent.proofs.Offered.{one_more}
 use Rattle.pearl_solo.proofs.values.top_values.Goals as goal
 
 pub loop-i-preserved : goal.loop-i-preserved

@@ -1,7 +1,7 @@
 use Rattle.std.proofs.Common.{refl, sym, ap, ◌∙◌}
 use Rattle.pearl_rules.specs.declared.action.Action.TheVariants as action
 use Rattle.pearl_instructions.specs.Steps.{Offers}
-use Rattle.pearl_silent.proofs.Made.{offers_does}
+use Rattle.pearl_silent.proofs.Offered.{offers_does}
 use Rattle.pearl_solo.proofs.VariableRows.{read_at_there, read_at_some, read_at_none}
 use Rattle.pearl_solo.proofs.variables.read_at.Goals as goal
 

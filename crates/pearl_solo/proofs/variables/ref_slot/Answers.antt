@@ -1,5 +1,5 @@
 use Rattle.pearl_silent.specs.Steps.{told}
-use Rattle.pearl_silent.proofs.Made.{same_applies, same_does}
+use Rattle.pearl_silent.proofs.Offered.{same_applies, same_does}
 use Rattle.pearl_solo.proofs.VariableRows.{ref_slot_is}
 use Rattle.pearl_solo.proofs.variables.ref_slot.Goals as goal
 

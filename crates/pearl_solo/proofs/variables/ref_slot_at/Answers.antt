@@ -2,7 +2,7 @@ use Rattle.std.proofs.Common.{Ok, sym, ap, ◌∙◌, arith}
 use Rattle.pearl_value.specs.declared.cell.Cell.TheVariants.{Ref}
 use Rattle.pearl_value.specs.declared.cell.Place.TheVariants as place
 use Rattle.pearl_silent.specs.Steps.{told, made_on}
-use Rattle.pearl_silent.proofs.Made.{same_applies, same_does, offers_does}
+use Rattle.pearl_silent.proofs.Offered.{same_applies, same_does, offers_does}
 use Rattle.pearl_solo.proofs.SlotRows.{ref_at_there, ref_at_some, ref_at_none}
 use Rattle.pearl_solo.proofs.variables.ref_slot_at.Goals as goal
 

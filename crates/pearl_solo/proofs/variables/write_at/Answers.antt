@@ -1,7 +1,7 @@
 use Rattle.std.proofs.Common.{refl, sym, ap, ◌∙◌, arith}
 use Rattle.pearl_rules.specs.declared.action.Action.TheVariants as action
 use Rattle.pearl_instructions.specs.Steps.{Offers}
-use Rattle.pearl_silent.proofs.Made.{offers_does}
+use Rattle.pearl_silent.proofs.Offered.{offers_does}
 use Rattle.pearl_solo.proofs.SlotRows.{write_at_there, write_at_less, write_at_some, write_at_none}
 use Rattle.pearl_solo.proofs.variables.write_at.Goals as goal
 

@@ -1,6 +1,6 @@
 use Rattle.std.proofs.Common.{◌≡◌, [], ◌++◌, length, take, drop, refl, ap, ◌∙◌, arith}
 use Rattle.std.proofs.lemmas.Result.{err_from_is_err_and}
-use Rattle.pearl_io.proofs.Counts.{failed_since, rose_since}
+use Rattle.pearl_io.proofs.Offered.{failed_since, rose_since}
 use Rattle.pearl_journal.specs.Pieces.{Kept}
 use Rattle.pearl_top.proofs.FetchLaws.{ends_failed, ends_fault, ends_long, ends_whole, piece_size, progress_more}
 use Rattle.pearl_top.proofs.LineLaws.{begins_carried, begins_open}

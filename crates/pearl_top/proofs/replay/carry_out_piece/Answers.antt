@@ -2,9 +2,9 @@ use Rattle.std.proofs.Common.{◌≡◌, [], ◌++◌, take, drop, length, refl,
 use Rattle.std.proofs.lemmas.List.{take_rest}
 use Rattle.std.proofs.lemmas.Result.{err_from_is_err_and}
 use Rattle.pearl_io.specs.Outside.{WriteFailed}
-use Rattle.pearl_io.proofs.Counts.{failed_since}
+use Rattle.pearl_io.proofs.Offered.{failed_since}
 use Rattle.pearl_journal.specs.Pieces.{Kept}
-use Rattle.pearl_journal.proofs.PieceLaws.{taken_some, taken_within}
+use Rattle.pearl_journal.proofs.Offered.{taken_some, taken_within}
 use Rattle.pearl_top.specs.Replay.{Carried, IsFailure}
 use Rattle.pearl_top.proofs.LineLaws.{carried-line, carried-none, fails-behind, fails-line, more_front, none_left, some_left}
 use Rattle.pearl_top.proofs.TakenLaws.{append_nil}

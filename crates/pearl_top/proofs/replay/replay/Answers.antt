@@ -1,7 +1,7 @@
 use Rattle.std.proofs.Common.{[], arith}
 use Rattle.std.proofs.lemmas.Result.{err_from_is_err_and}
 use Rattle.pearl_io.specs.Outside.{CountRose, WriteFailed}
-use Rattle.pearl_io.proofs.Counts.{failed_since}
+use Rattle.pearl_io.proofs.Offered.{failed_since}
 use Rattle.pearl_journal.specs.Entries.{All}
 use Rattle.pearl_journal.specs.Lines.{journal_lines}
 use Rattle.pearl_top.specs.JournalDue.{JournalDue}

@@ -1,7 +1,7 @@
 use Rattle.std.proofs.Common.{[], refl, ap, ◌∙◌}
 use Rattle.std.proofs.lemmas.Result.{err_from_is_err_and}
 use Rattle.pearl_io.specs.Outside.{CountRose, WriteFailed}
-use Rattle.pearl_io.proofs.Counts.{rose_since}
+use Rattle.pearl_io.proofs.Offered.{rose_since}
 use Rattle.pearl_machine.specs.Seen.{Seen}
 use Rattle.pearl_script.specs.declared.refusal.Refusal.TheVariants as refusal
 use Rattle.pearl_script.specs.Refusals.{refusal_line}

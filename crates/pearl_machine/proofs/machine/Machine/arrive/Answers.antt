@@ -1,6 +1,6 @@
 use Rattle.std.proofs.Common.{sym, ap, ◌∙◌}
 use Rattle.pearl_rules.specs.Devices.{arrived}
-use Rattle.pearl_rules.proofs.EffectLaws.{arrived-length}
+use Rattle.pearl_rules.proofs.Offered.{arrived-length}
 use Rattle.pearl_instructions.specs.Setups.{setup_of}
 use Rattle.pearl_kernel.specs.Kept.{Kept}
 use Rattle.pearl_machine.proofs.Moments.{arrived-moment}

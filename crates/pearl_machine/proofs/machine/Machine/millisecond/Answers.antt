@@ -1,6 +1,6 @@
 use Rattle.std.proofs.Common.{sym, ap, ◌∙◌, ◌+◌}
 use Rattle.pearl_rules.specs.Plans.{millisecond}
-use Rattle.pearl_rules.proofs.EffectLaws.{millisecond-length}
+use Rattle.pearl_rules.proofs.Offered.{millisecond-length}
 use Rattle.pearl_machine.proofs.Moments.{millisecond-moment}
 use Rattle.pearl_instructions.specs.Setups.{setup_of}
 use Rattle.pearl_kernel.specs.Kept.{Kept}

@@ -2,7 +2,7 @@ use Rattle.std.proofs.Common.{length, ap}
 use Rattle.pearl_rules.specs.Core.{Core}
 use Rattle.pearl_instructions.specs.Setups.{setup_of}
 use Rattle.pearl_rules.specs.Laws.{passed}
-use Rattle.pearl_kernel.proofs.Passing.{passed-quiet}
+use Rattle.pearl_kernel.proofs.Offered.{passed-quiet}
 use Rattle.pearl_machine.proofs.Calls.{no_event, quiet_back, skips_call, changed_call}
 use Rattle.pearl_machine.proofs.machine.Machine.skip.Goals as goal
 

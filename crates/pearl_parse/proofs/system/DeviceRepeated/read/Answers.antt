@@ -1,8 +1,7 @@
 -- That a device is no empty part, and depends on its own tokens alone.
 use Rattle.std.proofs.Common.{arith}
 use Rattle.pearl_tree.specs.Declarations.{SpellsDevice}
-use Rattle.pearl_parse_decl.proofs.LocalLists.{contained_of}
-use Rattle.pearl_parse_decl.proofs.LocalDeclarations.{device_keeps}
+use Rattle.pearl_parse_decl.proofs.Offered.{contained_of, device_keeps}
 use Rattle.pearl_parse.proofs.DeclarationLeast.{least_wider}
 use Rattle.pearl_parse.proofs.system.DeviceRepeated.read.Goals as goal
 

@@ -1,0 +1,4 @@
+-- What other crates may cite of this crate's proofs.
+
+-- milliseconds in which no plan fires change the moment alone
+pub use Rattle.pearl_kernel.proofs.Passing.{millisecond-silent, passed-quiet}
