@@ -15,6 +15,7 @@ The documents are README.md and those of docs/ and docs/use/.
   `CRATE` specs/FILE, FILE (`name`), with the names in brackets in that file.
 - Each row of docs/promises.md has a sentence of at most 25 words, and links to files in which the clauses, functions or
   definitions stand that the links name.
+- Each law, a function of a crate's src/laws.rt, is called by another crate or file, or a document names it.
 - README.md has at most 80 lines of at most 110 columns.
 
 Prints what doesn't hold, and ends with status 1 if there is something. With --write the files of definitions are first
@@ -229,6 +230,25 @@ def promises():
     return wrong
 
 
+def sources():
+    """The text of each file of code."""
+    found = {}
+    for folder, folders, files in os.walk(os.path.join(TOP, "crates")):
+        folders[:] = [name for name in folders if name not in ("out", "specs", "proofs")]
+        paths = (os.path.relpath(os.path.join(folder, name), TOP) for name in files if name.endswith(".rt"))
+        found.update((path, read(path)) for path in paths)
+    return found
+
+
+def laws():
+    found = sources()
+    words = {path: set(re.findall(r"\w+", text)) for path, text in found.items()}
+    named = {name for path in DOCS for name in re.findall(r"\w+", read(path))}
+    return [f"{path}: nothing calls {law}, and no document names it" for path, text in found.items()
+            if path.endswith("/laws.rt") for law in re.findall(r"^pub fn (\w+)", text, re.M)
+            if law not in named and not any(law in words[other] for other in found if other != path)]
+
+
 def readme():
     lines = read("README.md").splitlines()
     wrong = [f"README.md has {len(lines)} lines"] if len(lines) > 80 else []
@@ -238,7 +258,7 @@ def readme():
 def main():
     if "--write" in sys.argv[1:]:
         write()
-    wrong = definitions() + rows() + links() + names_and_files() + cited_files() + promises() + readme()
+    wrong = definitions() + rows() + links() + names_and_files() + cited_files() + promises() + laws() + readme()
     for line in wrong:
         print(line)
     sys.exit(1 if wrong else 0)
