@@ -131,7 +131,8 @@ impl State {
         match start {
             Start::At(time) => self.next_at(time, self.now()),
             Start::Free | Start::When(_) => self.now(),
-            Start::After(time) | Start::WhenAfter(_, time) => self.now() + milliseconds(time),
+            Start::After(time) => self.now() + milliseconds(time),
+            Start::WhenAfter(_, time) => self.now() + milliseconds(time),
         }
     }
 
@@ -189,7 +190,8 @@ fn after_of(start: Start) -> u64
     ensures near { result ≤ 2 ^ 40 }
 {
     match start {
-        Start::After(time) | Start::WhenAfter(_, time) => milliseconds(time),
+        Start::After(time) => milliseconds(time),
+        Start::WhenAfter(_, time) => milliseconds(time),
         Start::Free | Start::At(_) | Start::When(_) => 0,
     }
 }
@@ -199,9 +201,9 @@ fn period_of(repeat: Repeat) -> u64
 {
     match repeat {
         Repeat::Once => 0,
-        Repeat::All(period) | Repeat::Until(period, _) | Repeat::During(period, _) => {
-            milliseconds(period)
-        }
+        Repeat::All(period) => milliseconds(period),
+        Repeat::Until(period, _) => milliseconds(period),
+        Repeat::During(period, _) => milliseconds(period),
     }
 }
 
