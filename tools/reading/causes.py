@@ -6,6 +6,7 @@ from . import porting
 from .grammar import Fault, Walk
 from .journal import kind_text
 from .leftout import at_fault
+from .places import Lines
 from .recovery import LEFT_OVER, WholeWalk
 from .tokens import WORDS, NoToken
 
@@ -41,7 +42,7 @@ class Source:
     """A source, read once."""
 
     def __init__(self, raw):
-        self.raw, self.text = raw, raw.decode("latin-1")
+        self.lines, self.text = Lines(raw), raw.decode("latin-1")
         self.fault, self.walk, self.all_of_it = None, None, None
         try:
             self.walk = Walk(self.text)
@@ -57,21 +58,17 @@ class Source:
     def whole(self):
         """The walk that goes on behind faults."""
         if self.all_of_it is None:
-            self.all_of_it = WholeWalk(self.text)
+            self.all_of_it = self.walk or WholeWalk(self.text)
         return self.all_of_it
-
-    def row(self, place):
-        return self.raw.count(b"\n", 0, place) + 1
 
     def syntax(self, fault=None):
         """What is told of a fault of syntax, and notes that may help."""
         fault = fault or self.fault
         whole = self.whole()
         if isinstance(fault, NoToken):
-            index = next(at for at, token in enumerate(whole.tokens) if token.place >= fault.place)
-            return fault.why, recipe(at_fault(whole.tokens, index))
+            return fault.why, recipe(at_fault(whole.tokens, whole.tokens.from_place(fault.place)))
         said = fault.limit or f"{stands(fault.token)} where {wanted(fault)} belongs"
-        index = next(at for at, token in enumerate(whole.tokens) if token.place == fault.token.place)
+        index = whole.tokens.from_place(fault.token.place)
         notes = recipe(at_fault(whole.tokens, index, fault.wanted)) or self.slips(whole.tokens, index)
         return said, notes + self.missing(fault, whole.tokens, index)
 
@@ -88,11 +85,11 @@ class Source:
     def missing(self, fault, tokens, index):
         """A `;` that may be missing in a line before, and what isn't closed yet."""
         notes, before = [], tokens[index - 1] if index else None
-        if before and ";" in fault.wanted and self.row(before.place) < self.row(fault.token.place):
-            notes.append(f"perhaps `;` is missing behind `{before.text}` in line {self.row(before.place)}")
+        if before and ";" in fault.wanted and self.lines.row(before.place) < self.lines.row(fault.token.place):
+            notes.append(f"perhaps `;` is missing behind `{before.text}` in line {self.lines.row(before.place)}")
         if fault.opened and fault.token.term in LEFT_OVER | {"end", "MODEND"} and {"END", "FIN"} & set(fault.wanted):
             word = {"IF": "FIN", "CASE": "FIN"}.get(fault.opened.term, "END")
-            notes.append(f"the {fault.opened.text} of line {self.row(fault.opened.place)} has no {word} yet")
+            notes.append(f"the {fault.opened.text} of line {self.lines.row(fault.opened.place)} has no {word} yet")
         return notes
 
     def rule(self, rule, place):

@@ -6,7 +6,7 @@ import re
 from . import journal
 from .causes import Source
 from .leftout import FORMS, at_fault, matches
-from .places import position, shown
+from .places import Line, shown
 from .porting import recipes
 from .tokens import TOP
 
@@ -64,22 +64,22 @@ class Explainer:
             return file.read()
 
     @staticmethod
-    def at(name, raw, place, what):
+    def at(name, lines, place, what):
         """The head with the position of a place, its line, and the caret."""
-        row, column, line = position(raw, place)
+        row, column, line = lines.position(place)
         return encoded(f"{name}:{row}:{column}: {what}\n") + shown(line, column)
 
     def syntax(self, place):
         source = Source(self.read(self.source))
         if source.place() != place:
-            return self.at(self.source, source.raw, place, "syntax")
+            return self.at(self.source, source.lines, place, "syntax")
         said, notes = source.syntax()
-        return self.at(self.source, source.raw, place, f"syntax: {said}") + noted(notes)
+        return self.at(self.source, source.lines, place, f"syntax: {said}") + noted(notes)
 
     def rule(self, place, rule):
         source = Source(self.read(self.source))
         what = f"{rule}: {sentences().get(rule, 'a rule of the language is broken')}"
-        return self.at(self.source, source.raw, place, what) + noted(source.rule(rule, place))
+        return self.at(self.source, source.lines, place, what) + noted(source.rule(rule, place))
 
     def bad_line(self, number, code):
         said = CODES.get(code, "the line is refused")
@@ -96,7 +96,7 @@ class Explainer:
                 if (fault.line, fault.code) == (number, code):
                     said, column = fault.why, fault.column
         row = len(line[:column].decode("utf-8", "replace")) + 1
-        return encoded(f"{self.log}:{number}:{row}: journal: {said}\n") + shown(line, row)
+        return encoded(f"{self.log}:{number}:{row}: journal: {said}\n") + shown(Line(line), row)
 
     def unread(self):
         for name in filter(None, [self.source, self.log]):
@@ -122,9 +122,8 @@ def everything(name):
     for match in matches(whole.tokens, FORMS, declared=whole.known):
         means = "means something else here" if match.form.means_otherwise else "left out"
         found.append((match.form.name, whole.tokens[match.told].place, means, []))
-    for fault in whole.stray:
-        if not any(place == fault.place for _, place, _, _ in found):
-            found.append((None, fault.place, f"syntax: {fault.why}", []))
+    told = {place for _, place, _, _ in found}
+    found += [(None, it.place, f"syntax: {it.why}", []) for it in whole.stray if it.place not in told]
     return b"".join(told_once(name, source, found))
 
 
@@ -143,14 +142,16 @@ def faults_of(source, whole):
 
 def told_once(name, source, found):
     """For each form its first place with the recipe and the other lines; each other fault by itself."""
-    told, instead = {}, recipes()
+    told, instead, seen = {}, recipes(), set()
     for form, place, said, notes in sorted(found, key=lambda it: it[1]):
-        if not any(place == other for places in told.values() for other, _, _ in places):
+        if place not in seen:
             told.setdefault(form or place, []).append((place, said, notes))
+        seen.add(place)
     for form, places in told.items():
         place, said, notes = places[0]
-        yield Explainer.at(name, source.raw, place, said)
+        yield Explainer.at(name, source.lines, place, said)
         yield noted([f"{form}: {instead[form]}"] if form in instead else notes)
-        rows = [row for row in dict.fromkeys(source.row(other) for other, _, _ in places[1:]) if row != source.row(place)]
+        others = dict.fromkeys(source.lines.row(other) for other, _, _ in places[1:])
+        rows = [row for row in others if row != source.lines.row(place)]
         if rows:
             yield noted([f"also in line{'s' if len(rows) > 1 else ''} {', '.join(map(str, rows))}"])

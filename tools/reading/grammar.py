@@ -6,7 +6,7 @@ without a fault it keeps what the tools ask for: devices, specifications, tasks 
 
 from dataclasses import dataclass, field
 
-from .tokens import Token, tokens
+from .tokens import Token, Tokens, tokens
 
 STATEMENTS, BRACKETS, DYADIC, MONADIC, STRUCTS = 32, 32, 100, 8, 8
 
@@ -86,13 +86,16 @@ class Transfer:
 class Walk:
     """Reads the tokens of one source, from the left to the right."""
 
+    # What a walk that goes on behind faults keeps of them.
+    stray = faults = ()
+
     def __init__(self, source):
         """The source as text with a character for each byte; raises NoToken or Fault."""
         self.prepare(tokens(source), len(source))
         self.module()
 
     def prepare(self, all_tokens, end):
-        self.tokens = [*all_tokens, Token("end", "", end, end, "end")]
+        self.tokens = Tokens([*all_tokens, Token("end", "", end, end, "end")])
         self.at, self.term, self.wanted, self.deep, self.opened = 0, self.tokens[0].term, [], 0, []
         self.devices, self.specs, self.tasks, self.transfers, self.known = {}, [], [], [], set()
         self.lengths = {"FIXED": 31, "BIT": 1, "CHAR": 1}

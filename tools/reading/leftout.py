@@ -15,7 +15,7 @@ CONVERSIONS = "TOFIXED|TOFLOAT|TOBIT|TOCHAR"
 BEFORE = ";|THEN|ELSE|REPEAT|BEGIN|ALT|OUT|:|)"
 
 
-@dataclass
+@dataclass(eq=False)
 class Form:
     """A form of old sources."""
 
@@ -114,70 +114,95 @@ class Match:
     told: int
 
 
-def closing(tokens, at):
-    """The token that closes the bracket that is open before this one, or None."""
-    depth = 1
-    while at < len(tokens):
-        depth += {"(": 1, "[": 1, ")": -1, "]": -1}.get(tokens[at].text, 0)
-        if depth == 0:
-            return at
-        at += 1
-    return None
+SORTS = {"id", "number", "decimal", "text", "bits", "clock"}
 
 
-def is_one(token, word):
-    """Whether a token is what one word of a pattern says."""
-    if word.startswith("not:"):
-        return not any(is_one(token, it) for it in word[4:].split("|"))
-    if word.startswith("re:"):
-        return bool(re.fullmatch(word[3:], token.text))
-    if word in ("id", "number", "decimal", "text", "bits", "clock"):
-        return token.sort == word
-    return token.text == word or (token.term == word and token.sort == "word")
+class Word:
+    """A word of a pattern: which tokens it stands for."""
+
+    def __init__(self, text):
+        self.is_rest, self.is_other = text == "..", text.startswith("not:")
+        self.expression = re.compile(text[3:]) if text.startswith("re:") else None
+        choices = set(text.removeprefix("not:").split("|"))
+        self.sorts, self.texts = choices & SORTS, choices - SORTS
+
+    def says(self, token):
+        """Whether the token is one that the word stands for."""
+        if self.expression:
+            return self.expression.fullmatch(token.text) is not None
+        one = token.sort in self.sorts or token.text in self.texts
+        one = one or (token.sort == "word" and token.term in self.texts)
+        return one != self.is_other
+
+    def may_say(self, token):
+        """Whether the word may stand for a token of this one's kind."""
+        return self.is_rest or self.expression is not None or self.says(token)
+
+
+class Pattern:
+    """A pattern of a form: its words, and the number of the one that is told."""
+
+    def __init__(self, form, text):
+        words = text.split()
+        self.form, self.text = form, text
+        self.words = [Word(word.removeprefix("^")) for word in words]
+        self.told = next((number for number, word in enumerate(words) if word.startswith("^")), 0)
+
+
+PATTERNS = [Pattern(form, text) for form in FORMS + SLIPS for text in form.patterns]
+ORDER = {form: number for number, form in enumerate(FORMS + SLIPS)}
+SPELLINGS = set().union(*(word.texts for pattern in PATTERNS for word in pattern.words))
+# The patterns that may begin at tokens of two kinds, as far as it was asked.
+BEGUN = {}
+
+
+def kind(token):
+    """What words of patterns tell tokens apart by, but for expressions."""
+    return token.sort, token.text if token.sort == "word" or token.text in SPELLINGS else ""
+
+
+def begun(tokens, at):
+    """The patterns whose first two words may stand at this token."""
+    pair = tokens[at:at + 2]
+    kinds = tuple(map(kind, pair))
+    if kinds not in BEGUN:
+        BEGUN[kinds] = [it for it in PATTERNS if all(word.may_say(token) for word, token in zip(it.words, pair))]
+    return BEGUN[kinds]
 
 
 def matched(pattern, tokens, at):
     """The last token and the told one, where the pattern stands at this token; else None."""
     told = at
-    for word in pattern.split():
-        if word.startswith("^") and len(word) > 1:
-            word, told = word[1:], at
-        if word == "..":
-            end = closing(tokens, at)
-            if end is None:
+    for number, word in enumerate(pattern.words):
+        if number == pattern.told:
+            told = at
+        if word.is_rest:
+            if at - 1 not in tokens.closing:
                 return None
-            at = end + 1
-            continue
-        choices = [word] if word.startswith("not:") else word.split("|")
-        if at >= len(tokens) or not any(is_one(tokens[at], it) for it in choices):
+            at = tokens.closing[at - 1]
+        elif at == len(tokens) or not word.says(tokens[at]):
             return None
         at += 1
     return at - 1, told
 
 
-def problem_part(tokens):
-    """The number of the token PROBLEM, or 0 where there is none."""
-    return next((at for at, token in enumerate(tokens) if token.text == "PROBLEM"), 0)
-
-
 def matches(tokens, forms, fault=None, declared=()):
     """The forms that stand in the tokens, but words that are declared; with a fault's token those of which it is a part."""
-    border, found = problem_part(tokens), []
+    found, asked = [], {form for form in forms if fault is not None or not form.at_fault}
     window = range(len(tokens)) if fault is None else range(max(0, fault - 12), min(len(tokens), fault + 1))
-    for form in forms:
-        if fault is None and form.at_fault:
-            continue
-        for at in window:
-            if form.part and (form.part == "SYSTEM") != (at < border):
+    for at in window:
+        part, last = "SYSTEM" if at < tokens.border else "PROBLEM", None
+        for pattern in begun(tokens, at):
+            form = pattern.form
+            if form is last or form not in asked or form.part not in ("", part):
                 continue
-            for pattern in form.patterns:
-                end = matched(pattern, tokens, at)
-                if end and tokens[end[1]].text in declared and tokens[end[1]].text in pattern:
-                    continue
-                if end and (fault is None or at <= fault <= end[0] + 1):
-                    found.append(Match(form, at, *end))
-                    break
-    return found
+            end = matched(pattern, tokens, at)
+            if end and tokens[end[1]].text in declared and tokens[end[1]].text in pattern.text:
+                continue
+            if end and (fault is None or at <= fault <= end[0] + 1):
+                found.append(Match(form, at, *end))
+                last = form
+    return sorted(found, key=lambda it: ORDER[it.form])
 
 
 def at_fault(tokens, fault, wanted=()):

@@ -2,6 +2,7 @@
 
 import os
 import re
+from functools import cache
 
 from .leftout import FORMS, SLIPS
 from .tokens import TOP
@@ -16,7 +17,9 @@ def rows():
         return ROW.findall(file.read())
 
 
+@cache
 def recipes():
+    """What to write instead, by the names of the forms."""
     return {name: instead for name, _, instead in rows()}
 
 

@@ -2,7 +2,9 @@
 
 import os
 import re
+from bisect import bisect_left
 from dataclasses import dataclass
+from functools import cached_property
 
 from .places import MARK, MARKED, character
 
@@ -14,6 +16,7 @@ SYMBOLS = ["<=", ">=", "><", "<>", ":=", "==", "/=", "//", "**",
 # Words and symbols that mean a symbol that the grammar names.
 AS_SYMBOL = {"EQ": "==", "NE": "/=", "LT": "<", "GT": ">", "LE": "<=", "GE": ">=", "CAT": "><", "CSHIFT": "<>", "=": ":="}
 
+SYMBOL = re.compile("|".join(map(re.escape, SYMBOLS)))
 BLANK = re.compile(r"[\t\n\f\r ]+|![^\n]*\n?|/\*.*?\*/", re.S)
 NAME = re.compile(r"[A-Za-z][A-Za-z0-9_]*")
 CLOCK = re.compile(r"(\d+):(\d+):(\d+)(?:\.(\d+))?", re.A)
@@ -25,7 +28,7 @@ GROUP = re.compile(r"B([1-4]?)(?![A-Za-z0-9_])")
 MOST_NUMBER = 2**63 - 1
 
 
-@dataclass
+@dataclass(slots=True)
 class Token:
     """A token: its sort, how it is spelled, and its first byte and the one behind its last."""
 
@@ -36,12 +39,44 @@ class Token:
     term: str
 
 
+class Tokens(list):
+    """The tokens of a whole source."""
+
+    @cached_property
+    def border(self):
+        """The number of the token PROBLEM, or 0 where there is none."""
+        return next((at for at, token in enumerate(self) if token.text == "PROBLEM"), 0)
+
+    @cached_property
+    def closing(self):
+        """For each bracket that is closed the number of the token that closes it."""
+        found, opened = {}, []
+        for at, token in enumerate(self):
+            if token.text in ("(", "["):
+                opened.append(at)
+            elif token.text in (")", "]") and opened:
+                found[opened.pop()] = at
+        return found
+
+    def from_place(self, place):
+        """The number of the first token that begins at this place or behind it."""
+        return bisect_left(self, place, key=lambda it: it.place)
+
+
 class NoToken(Exception):
     """At this place no token begins."""
 
     def __init__(self, place, why):
         super().__init__(why)
         self.place, self.why = place, why
+
+
+class Unclosed(NoToken):
+    """No text ends that begins at this place: it breaks off at `stop`."""
+
+    def __init__(self, place, stop, why):
+        super().__init__(place, why)
+        self.stop = stop
 
 
 def word_table():
@@ -84,19 +119,18 @@ def numeric(text, at):
 
 
 def unclosed(text, at):
-    """Why no text ends that begins at this place."""
-    line = re.compile(r"'(?:[ -&(-~]|'')*").match(text, at)
-    if line.end() == len(text) or text[line.end()] in "\r\n":
-        return "the text isn't closed in its line by an apostrophe"
-    shown = character(text, line.end())
-    return f"a text has characters from 32 to 126 alone, and {shown} is none of them"
+    """Where what begins with the apostrophe at this place breaks off, and why no text ends."""
+    stop = re.compile(r"'(?:[ -&(-~]|'')*").match(text, at).end()
+    if stop == len(text) or text[stop] in "\r\n":
+        return stop, "the text isn't closed in its line by an apostrophe"
+    return stop, f"a text has characters from 32 to 126 alone, and {character(text, stop)} is none of them"
 
 
 def quoted(text, at):
     """The sort and the end of what begins with the apostrophe at this place."""
     found = QUOTED.match(text, at)
     if not found:
-        raise NoToken(at, unclosed(text, at))
+        raise Unclosed(at, *unclosed(text, at))
     group = GROUP.match(text, found.end())
     if not group:
         length = len(found[1].replace("''", "'"))
@@ -137,27 +171,31 @@ def token_at(text, at):
     if text[at] in "0123456789'":
         sort, end = quoted(text, at) if text[at] == "'" else numeric(text, at)
         return Token(sort, text[at:end], at, end, sort)
-    for symbol in SYMBOLS:
-        if text.startswith(symbol, at):
-            return Token("symbol", symbol, at, at + len(symbol), AS_SYMBOL.get(symbol, symbol))
+    symbol = SYMBOL.match(text, at)
+    if symbol:
+        return Token("symbol", symbol[0], at, symbol.end(), AS_SYMBOL.get(symbol[0], symbol[0]))
     raise NoToken(at, nothing(text, at))
 
 
 def tokens(text, stray=None):
     """All tokens. Where a list `stray` is given, what is no token goes there, and its first character is left out."""
-    found, at = [], 0
+    found, at, broken = [], 0, None
     while at < len(text):
         blank = BLANK.match(text, at)
         if blank:
             at = blank.end()
             continue
         try:
+            # Behind the apostrophe of a text that breaks off stand pairs of them alone: up to there no other is closed.
+            if broken and at < broken.stop and text[at] == "'":
+                raise Unclosed(at, broken.stop, broken.why)
             found.append(token_at(text, at))
             at = found[-1].end
         except NoToken as fault:
             if stray is None:
                 raise
             stray.append(fault)
+            broken = fault if isinstance(fault, Unclosed) else broken
             at = behind(text, at)
     return found
 
