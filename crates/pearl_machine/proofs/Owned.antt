@@ -27,7 +27,7 @@ use Rattle.pearl_instructions.proofs.Offered.{offers_is}
 use Rattle.pearl_solo.specs.Answered.{CanHear}
 use Rattle.pearl_machine.specs.declared.part.Part.{Part}
 use Rattle.pearl_machine.specs.Known.{Known}
-use Rattle.pearl_machine.specs.Parts.{HasMemory, HasMemories, IsShallow, first_part, is_going, stack_in, start_of}
+use Rattle.pearl_machine.specs.Parts.{HasMemory, HasMemories, HasStack, IsShallow, first_part, is_going, stack_in, stack_or_none, start_of}
 use Rattle.pearl_machine.proofs.Listed.{get_here, get_elsewhere}
 
 -- MEMORY
@@ -104,7 +104,12 @@ first_memories o parts most same is t part e =
     by_task (Some task) some =
         let here : first_part most task ≡ part = same_Some (first_part most task) part (ap (option_map (first_part most)) (sym some) ∙ at) in
         let depth = depth_is o t task some in
-        subst (λ p. HasMemory o t p) here (record { room_is = omega arith; most = omega arith })
+        subst (λ p. HasMemory o t p) here (record {
+          stack = record { frames = []; room = task.code.depth; most = most };
+          has = refl;
+          room_is = omega arith;
+          most = omega arith;
+        })
 
 pub first_still : (tasks : List Task) (parts : List Part) (most : ℕ) → parts ≡ map (first_part most) tasks → (t : ℕ) → is_going (slice_get parts t) ≡ false
 first_still tasks parts most is t = ap (λ ps. is_going (slice_get ps t)) is ∙ (ap is_going (slice_get-map (first_part most) tasks t) ∙ by_task (slice_get tasks t))
@@ -155,6 +160,25 @@ hears_here o t frames a answer known valid object own e suits = by_row (offers_i
     by_row (inr missing) = absurd (subst (λ b. Suits (setup_of o) t b answer) missing.1 suits)
 
 -- THE STACK IN A PART
+
+pub has_stack : {o : Object} {t : ℕ} {part : Part} → HasMemory o t part → HasStack part
+has_stack m = (m.stack, m.has)
+
+-- the memory of the stack that lies in a part
+pub memory_in : (o : Object) (parts : List Part) (t : ℕ) → HasMemories o parts → t < length parts →
+    (room o (start_of o t) ≤ (stack_in (slice_get parts t)).room) × (length o.procedures + 1 ≤ (stack_in (slice_get parts t)).most)
+memory_in o parts t all there = by_get (slice_get parts t) refl
+  where
+    by_get : (x : Option Part) → slice_get parts t ≡ x → (room o (start_of o t) ≤ (stack_in x).room) × (length o.procedures + 1 ≤ (stack_in x).most)
+    by_get None e = by_cases (slice_get_cases parts t).1
+      where
+        by_cases : ((x : Part) × (t < length parts) × (slice_get parts t ≡ Some x) × (get_or parts t x ≡ x)) ⊎ ((length parts ≤ t) × (slice_get parts t ≡ None)) →
+            (room o (start_of o t) ≤ 0) × (length o.procedures + 1 ≤ 0)
+        by_cases (inl found) = absurd (none-some found.0 (sym e ∙ found.2))
+        by_cases (inr past) = let less = past.0 in let no : ⊥ = omega arith in absurd no
+    by_get (Some part) e =
+        let m = all t part e in
+        subst (λ s. (room o (start_of o t) ≤ (stack_or_none s).room) × (length o.procedures + 1 ≤ (stack_or_none s).most)) (sym m.has) (m.room_is, m.most)
 
 -- the part that lies at a place
 pub part_is : (parts : List Part) (t : ℕ) (part : Part) → t < length parts → part ≡ get_or parts t part → slice_get parts t ≡ Some part

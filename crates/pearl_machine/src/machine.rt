@@ -465,10 +465,10 @@ impl Machine {
         ensures same { self.new ≡ retold self.old self.new.state.core.told }
         ensures next { TakesNext self.old self.new into.new.items result }
     {
-        match self.kernel.event() {
+        let moment = self.kernel.now();
+        match self.kernel.next_event() {
             Some(event) => {
-                event_line(self.kernel.now(), event, &self.setup, into);
-                self.kernel.drop_event();
+                event_line(moment, &event, &self.setup, into);
                 true
             }
             None => {
