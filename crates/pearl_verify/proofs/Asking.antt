@@ -9,6 +9,7 @@ use Rattle.pearl_instructions.specs.declared.schedule.StartForm.{StartForm}
 use Rattle.pearl_instructions.specs.declared.schedule.StartForm.TheVariants as form
 use Rattle.pearl_instructions.specs.declared.schedule.RepeatForm.{RepeatForm}
 use Rattle.pearl_instructions.specs.declared.schedule.RepeatForm.TheVariants as again
+use Rattle.pearl_instructions.specs.Named.{all_kept}
 use Rattle.pearl_instructions.specs.Offers.{start_kinds, repeat_kinds}
 use Rattle.pearl_instructions.specs.Opcodes.{Asked, Anything, scheduled, priority_asked}
 use Rattle.pearl_instructions.specs.Operands.{Shape, meets, v2}
@@ -20,6 +21,14 @@ and_more false = refl
 and_onto : (a b c : Bool) → a && (b && c) ≡ (a && b) && c
 and_onto true b c = refl
 and_onto false b c = refl
+
+-- the tests of one list, and those of another
+pub all_joined : (xs ys : List Bool) → all_kept xs && all_kept ys ≡ all_kept (xs ++ ys)
+all_joined [] ys = refl
+all_joined (x ∷ []) [] = and_more x
+all_joined (x ∷ []) (y ∷ ys) = refl
+all_joined (x ∷ z ∷ xs) ys =
+    sym (and_onto x (all_kept (z ∷ xs)) (all_kept ys)) ∙ ap (λ b. x && b) (all_joined (z ∷ xs) ys)
 
 -- one operand
 pub asked_some : (want : Asked) (s : Shape) (n : ℕ) (k : CellKind) → slice_get s n ≡ Some k → meets want k ≡ v2 (want ∷ []) (drop n s)

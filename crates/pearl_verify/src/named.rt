@@ -1,9 +1,10 @@
 // Which numbers an instruction may name.
 
 ghost use Rattle.std.specs.Prelude.{◌≡◌, map};
-ghost use Rattle.pearl_instructions.specs.Named.{names_interrupt, has_read_cells, v1};
+ghost use Rattle.pearl_instructions.specs.Named.{names_interrupt, has_read_cells, all_kept, names_there, cells_there, targets_there, v1};
 ghost use Rattle.pearl_instructions.specs.Offers.{as_start, start_or_free};
 ghost use Rattle.pearl_instructions.specs.Objects.{items_at};
+ghost use Rattle.pearl_instructions.specs.Opcodes.{opcode};
 ghost use Rattle.pearl_verify.specs.Formats.{format_row};
 
 use crate::formats::FormatRow;
@@ -57,35 +58,20 @@ fn has_read_cells(object: &Object, code: &Code, formats: &[FormatRow], reading: 
     }
 }
 
-/// Whether each number names something of the right sort, and each range is one of the routine's cells (V1).
-pub(crate) fn names_all(object: &Object, code: &Code, formats: &[FormatRow], instr: &Instr) -> bool
-    requires { formats.now ≡ map format_row object.now.formats }
-    ensures { result ≡ v1 object.now code.now instr.now }
+/// Whether what an instruction names in the object's tables is there, of the right sort and direction.
+fn names_tables(object: &Object, instr: &Instr) -> bool
+    ensures { result ≡ all_kept (names_there object.now (opcode instr.now).names) }
 {
-    let cells = code.cells.as_slice().len();
-    let instructions = code.instructions.as_slice().len();
-    let leaves = object.leaves.as_slice().len();
-    let semaphores = object.semaphores.as_slice().len();
     let tasks = object.tasks.as_slice().len();
+    let semaphores = object.semaphores.as_slice().len();
     match instr {
-        Instr::Load(cell) | Instr::Store(cell) | Instr::RefCell(cell) => is_below(*cell, cells),
-        Instr::Fill { first, count, .. } => has_cells(code, *first, *count),
-        Instr::LoadAt { first, count }
-        | Instr::StoreAt { first, count }
-        | Instr::RefCellAt { first, count } => has_cells(code, *first, *count),
         Instr::Read(leaf)
         | Instr::Write(leaf)
         | Instr::ReadAt(leaf)
         | Instr::WriteAt(leaf)
         | Instr::RefSlot(leaf)
-        | Instr::RefSlotAt(leaf) => is_below(*leaf, leaves),
-        Instr::Jump(to) | Instr::JumpZero(to) => is_below(*to, instructions),
-        Instr::Case(list) => all_below(list.as_slice(), instructions),
+        | Instr::RefSlotAt(leaf) => is_below(*leaf, object.leaves.as_slice().len()),
         Instr::Call(procedure) => is_below(*procedure, object.procedures.as_slice().len()),
-        Instr::Within(first) => has_cells(code, *first, 3),
-        Instr::Advance { first, past } => {
-            has_cells(code, *first, 3) && is_below(*past, instructions)
-        }
         Instr::Request(list) | Instr::Release(list) => all_below(list.as_slice(), semaphores),
         Instr::Try(semaphore) => is_below(*semaphore, semaphores),
         Instr::Activate(a) => is_below(a.task, tasks) && names_interrupt(object, a.start),
@@ -102,11 +88,51 @@ pub(crate) fn names_all(object: &Object, code: &Code, formats: &[FormatRow], ins
         Instr::Put { device, format } => {
             takes_texts(object, *device) && items_at(object, *format).is_some()
         }
-        Instr::Get(reading) => {
-            gives_texts(object, reading.device) && has_read_cells(object, code, formats, **reading)
-        }
+        Instr::Get(reading) => gives_texts(object, reading.device),
         Instr::Take(device) => is_input(object, *device),
         Instr::Send(device) => is_output(object, *device),
         _ => true,
     }
+}
+
+/// Whether the cells that it names are the routine's.
+fn names_cells(object: &Object, code: &Code, formats: &[FormatRow], instr: &Instr) -> bool
+    requires { formats.now ≡ map format_row object.now.formats }
+    ensures { result ≡ all_kept (cells_there object.now code.now (opcode instr.now).cells) }
+{
+    let cells = code.cells.as_slice().len();
+    match instr {
+        Instr::Load(cell) | Instr::Store(cell) | Instr::RefCell(cell) => is_below(*cell, cells),
+        Instr::Fill { first, count, .. } => has_cells(code, *first, *count),
+        Instr::LoadAt { first, count }
+        | Instr::StoreAt { first, count }
+        | Instr::RefCellAt { first, count } => has_cells(code, *first, *count),
+        Instr::Within(first) => has_cells(code, *first, 3),
+        Instr::Advance { first, .. } => has_cells(code, *first, 3),
+        Instr::Get(reading) => has_read_cells(object, code, formats, **reading),
+        _ => true,
+    }
+}
+
+/// Whether the instructions to which it may jump are the routine's.
+fn names_targets(code: &Code, instr: &Instr) -> bool
+    ensures { result ≡ all_kept (targets_there code.now (opcode instr.now).targets) }
+{
+    let instructions = code.instructions.as_slice().len();
+    match instr {
+        Instr::Jump(to) | Instr::JumpZero(to) => is_below(*to, instructions),
+        Instr::Case(list) => all_below(list.as_slice(), instructions),
+        Instr::Advance { past, .. } => is_below(*past, instructions),
+        _ => true,
+    }
+}
+
+/// Whether each number names something of the right sort, and each range is one of the routine's cells (V1).
+pub(crate) fn names_all(object: &Object, code: &Code, formats: &[FormatRow], instr: &Instr) -> bool
+    requires { formats.now ≡ map format_row object.now.formats }
+    ensures { result ≡ v1 object.now code.now instr.now }
+{
+    names_tables(object, instr)
+        && names_cells(object, code, formats, instr)
+        && names_targets(code, instr)
 }
