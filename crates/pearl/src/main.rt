@@ -32,9 +32,7 @@ fn main(rt: HostRuntime) -> ExitCode {
         }
     }
     let mut shelf = FileShelf::new(&rt);
-    let Ok(mut sink) = OutSink::new(rt.alloc(), &rt) else {
-        return ExitCode::from(NO_MEMORY);
-    };
+    let mut sink = OutSink::new(rt.alloc(), &rt);
     let status = pearl(rt.alloc(), words.as_slice(), &mut shelf, &mut sink);
     let status = match sink.flush() {
         Ok(()) => status,

@@ -4,32 +4,37 @@ ghost use Rattle.std.specs.Prelude.{◌≡◌, ◌<◌, ◌≤◌, None, IfOk, O
 ghost use Rattle.pearl_io.specs.Outside.{CountRose};
 
 use pearl_io::{Failed, Sink};
-use std::alloc::{AllocError, Global};
+use std::alloc::Global;
 use std::io::Print;
 
 // How many bytes may wait to be written.
 const ROOM: usize = 65536;
 
-/// Standard output. Bytes wait until there are many, or until they are flushed. What it took is not told; an error
-/// counts as one fault, and so does a write of no byte.
+/// Standard output. Bytes wait until there are many, or until they are flushed; where there is no memory for them, none
+/// waits. What it took is not told; an error counts as one fault, and so does a write of no byte.
 #[derive(Drop)]
 pub struct OutSink<'a, R: Print> {
     rt: &'a R,
     waiting: Vec<u8>,
+    room: usize,
     faults: u64,
 }
 
 impl<'a, R: Print> OutSink<'a, R> {
-    /// The standard output of this runtime, with no fault so far, and memory for the bytes that wait.
-    pub fn new(alloc: Global, rt: &'a R) -> Result<Self, AllocError>
-        ensures { IfOk result (λ sink. sink.faults ≡ 0) }
+    /// The standard output of this runtime, with no fault so far.
+    pub fn new(alloc: Global, rt: &'a R) -> Self
+        ensures { result.faults ≡ 0 }
     {
-        let waiting = Vec::with_capacity(alloc, ROOM)?;
-        Ok(OutSink {
+        let (waiting, room) = match Vec::with_capacity(alloc, ROOM) {
+            Ok(waiting) => (waiting, ROOM),
+            Err(_) => (Vec::new(alloc), 0),
+        };
+        OutSink {
             rt,
             waiting,
+            room,
             faults: 0,
-        })
+        }
     }
 
     /// Writes the bytes that wait. After [`Failed`] none waits.
@@ -87,10 +92,10 @@ impl<'a, R: Print> Sink for OutSink<'a, R> {
     ghost full = { λ _. ⊥ };
 
     fn put(&mut self, piece: &[u8]) -> Result<usize, Failed> {
-        if piece.len() > ROOM.saturating_sub(self.waiting.len()) {
+        if piece.len() > self.room.saturating_sub(self.waiting.len()) {
             self.flush()?;
         }
-        if piece.len() > ROOM {
+        if piece.len() > self.room {
             return self.write(piece);
         }
         self.keep(piece)
@@ -103,11 +108,12 @@ mod tests {
 
     #[test]
     fn writes_pieces(rt: HostRuntime) {
-        if let Ok(mut sink) = OutSink::new(rt.alloc(), &rt) {
-            assert!(rt; matches!(sink.put(b"# a piece\n"), Ok(10)));
-            assert!(rt; matches!(sink.put(b"# another\n"), Ok(10)));
-            assert!(rt; sink.flush().is_ok());
-            assert_eq!(rt; sink.faults, 0);
-        }
+        let mut sink = OutSink::new(rt.alloc(), &rt);
+        assert!(rt; matches!(sink.put(b"# a piece\n"), Ok(10)));
+        assert!(rt; matches!(sink.put(b"# another\n"), Ok(10)));
+        assert_eq!(rt; sink.waiting.len(), 20);
+        assert!(rt; sink.flush().is_ok());
+        assert_eq!(rt; sink.waiting.len(), 0);
+        assert_eq!(rt; sink.faults, 0);
     }
 }

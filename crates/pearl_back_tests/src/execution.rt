@@ -3,13 +3,10 @@
 ghost use Rattle.std.specs.Prelude.{◌≡◌, ◌+◌, ◌<◌, ◌≤◌, ℕ, length, IfOk, IfSome};
 ghost use Rattle.std.specs.List.{AllByRecursion};
 ghost use Rattle.pearl_format.specs.Items.{IsFormat};
-ghost use Rattle.pearl_value.specs.Devices.{IsDevice, AreRising};
-ghost use Rattle.pearl_rules.specs.declared.action.Action.TheVariants.{Take};
 ghost use Rattle.pearl_instructions.specs.Lawful.{IsLeaf, IsProcedure, IsTask, IsObject};
 ghost use Rattle.pearl_instructions.specs.Objects.{slot_kind};
 ghost use Rattle.pearl_instructions.specs.Rows.{begun};
 ghost use Rattle.pearl_instructions.specs.Stacks.{IsStack, Answers, AreOf, room};
-ghost use Rattle.pearl_exchange.specs.declared.heard.Heard.TheVariants.{Nothing};
 ghost use Rattle.pearl_exchange.specs.Heard.{answer_of};
 ghost use Rattle.pearl_exchange.specs.Offers.{action_of};
 
@@ -38,9 +35,6 @@ use std::test::Fail;
 
 const FIXED: CellKind = CellKind::Plain(Kind::Fixed(31));
 
-// The devices are an interrupt, the console, an input and an output of FIXED.
-const CONSOLE: u64 = 1;
-
 const INDEX: Line = Line::Index(&[Bounds { low: 0, high: 1 }]);
 
 /// An action that the task is to offer, and what it hears then.
@@ -52,16 +46,7 @@ enum Row {
     Write { slot: u32, value: i64 },
     Put(&'static str),
     Get { heard: [i32; 2] },
-    Now { heard: u32 },
-    Try { semaphore: u16, heard: bool },
-    Take { device: u32, heard: i32 },
-    Send { device: u32, value: i64 },
-    Request(&'static [u16]),
-    Release(&'static [u16]),
-    /// An action on a task or an interrupt, told by its numbers alone.
-    Acts(What),
     Trap(Trap),
-    End,
 }
 
 // scaled: PROC(n FIXED, total FIXED IDENT) RETURNS(FIXED);
@@ -116,7 +101,7 @@ static TASK: [Line; 40] = [
     Line::Store(4),
     Line::Load(4),
     Line::Put {
-        device: CONSOLE,
+        device: 0,
         format: 0,
     },
     Line::Value(1),
@@ -125,11 +110,11 @@ static TASK: [Line; 40] = [
     Line::Load(0),
     Line::Dyadic(Dyad::Add),
     Line::Put {
-        device: CONSOLE,
+        device: 0,
         format: 0,
     },
     Line::Get(Reading {
-        device: CONSOLE,
+        device: 0,
         format: 1,
         first: 4,
     }),
@@ -137,7 +122,7 @@ static TASK: [Line; 40] = [
     Line::Load(5),
     Line::Dyadic(Dyad::Sub),
     Line::Put {
-        device: CONSOLE,
+        device: 0,
         format: 0,
     },
     Line::Load(4),
@@ -172,60 +157,6 @@ static ROWS: [Row; 20] = [
     Row::Trap(Trap::Index),
 ];
 
-// TAKE a FROM input;
-// SEND a + 1 TO output;
-// IF TRY second THEN b := 1; FIN;
-// REQUEST second, first; RELEASE first; SUSPEND; PREVENT; ENABLE, TRIGGER and DISABLE of the interrupt
-static ACTIONS: [Line; 21] = [
-    Line::Take(2),
-    Line::Store(4),
-    Line::Load(4),
-    Line::Value(1),
-    Line::Dyadic(Dyad::Add),
-    Line::Send(3),
-    Line::Try(1),
-    Line::JumpZero(10),
-    Line::Value(1),
-    Line::Store(5),
-    Line::Now,
-    Line::Drop,
-    Line::Request(&[1, 0]),
-    Line::Release(&[0]),
-    Line::Suspend(0),
-    Line::Prevent(0),
-    Line::Enable(0),
-    Line::Trigger(0),
-    Line::Disable(0),
-    Line::Turn,
-    Line::End,
-];
-
-// 7 comes in, and semaphore 1 is free.
-static ACTION_ROWS: [Row; 13] = [
-    Row::Take {
-        device: 2,
-        heard: 7,
-    },
-    Row::Send {
-        device: 3,
-        value: 8,
-    },
-    Row::Try {
-        semaphore: 1,
-        heard: true,
-    },
-    Row::Now { heard: 43_200_000 },
-    Row::Request(&[1, 0]),
-    Row::Release(&[0]),
-    Row::Acts(What::Suspend(0)),
-    Row::Acts(What::Prevent(0)),
-    Row::Acts(What::Enable(0)),
-    Row::Acts(What::Trigger(0)),
-    Row::Acts(What::Disable(0)),
-    Row::Turn,
-    Row::End,
-];
-
 // Its parameters are a value and a reference.
 fn scaled(alloc: Global) -> Result<Procedure, AllocError>
     ensures { IfOk result IsProcedure }
@@ -244,10 +175,10 @@ fn scaled(alloc: Global) -> Result<Procedure, AllocError>
     })
 }
 
-fn task(alloc: Global, lines: &[Line]) -> Result<Task, AllocError>
+fn task(alloc: Global) -> Result<Task, AllocError>
     ensures { IfOk result IsTask }
 {
-    let lines = instructions(alloc, lines)?;
+    let lines = instructions(alloc, &TASK)?;
     let cells = vec![in alloc; FIXED, FIXED, FIXED, FIXED, FIXED, FIXED]?;
     let mut name = ArrayVec::new();
     name.push(b'T');
@@ -291,38 +222,21 @@ fn formats(alloc: Global) -> Result<Listing<Listing<Item>>, AllocError>
     Ok(Listing::new(vec![in alloc; one, two]?))
 }
 
-fn devices(alloc: Global) -> Result<Listing<Device>, AllocError>
-    ensures lawful { IfOk result (AllByRecursion IsDevice) }
-    ensures rising { IfOk result AreRising }
-    ensures few { IfOk result (λ devices. length devices ≡ 4) }
+fn object(alloc: Global) -> Result<Object, AllocError>
+    ensures { IfOk result IsObject }
 {
-    let kind = Kind::Fixed(31);
     let console = Device::Terminal {
         number: 1,
         direction: Direction::InOut,
     };
-    let devices = vec![in alloc;
-        Device::Interrupt { number: 1 },
-        console,
-        Device::Input { number: 1, kind },
-        Device::Output { number: 1, kind },
-    ]?;
-    Ok(Listing::new(devices))
-}
-
-// An object with one task of these instructions.
-fn object(alloc: Global, lines: &[Line]) -> Result<Object, AllocError>
-    ensures { IfOk result IsObject }
-{
-    let devices = devices(alloc)?;
-    let semaphores = vec![in alloc; 1, 1]?;
+    let devices = vec![in alloc; console]?;
     let leaves = vec![in alloc; plant(alloc)]?;
     let formats = formats(alloc)?;
     let procedures = vec![in alloc; scaled(alloc)?]?;
-    let tasks = vec![in alloc; task(alloc, lines)?]?;
+    let tasks = vec![in alloc; task(alloc)?]?;
     Ok(Object {
-        devices,
-        semaphores: Listing::new(semaphores),
+        devices: Listing::new(devices),
+        semaphores: Listing::new(Vec::new(alloc)),
         leaves: Listing::new(leaves),
         formats,
         procedures: Listing::new(procedures),
@@ -356,26 +270,6 @@ fn both(kinds: &[Kind], heard: [i32; 2], beside: &mut Beside) -> Option<Heard>
     Some(Heard::Many)
 }
 
-// The value that comes in at a device, where it is an input of FIXED(31).
-fn taken(code: &Valid, device: u32, heard: i32, beside: &mut Beside) -> Option<Heard>
-    ensures { IfSome result (λ heard. (own : ℕ) → Answers code.now own (Take device) (answer_of heard beside.new)) }
-{
-    match code.object().devices.as_slice().get(device as usize) {
-        Some(Device::Input { kind, .. }) if *kind == Kind::Fixed(31) => {
-            beside.one = number(heard);
-            Some(Heard::One)
-        }
-        _ => None,
-    }
-}
-
-// Nothing, where it is so.
-fn nothing_if(is_so: bool) -> Option<Heard>
-    ensures { IfSome result (λ heard. heard ≡ Nothing) }
-{
-    if is_so { Some(Heard::Nothing) } else { None }
-}
-
 // What is heard after an action, where it is the row's and the task goes on.
 fn heard(code: &Valid, offer: &Offer, row: Row, beside: &mut Beside) -> Option<Heard>
     ensures { IfSome result (λ heard. (own : ℕ) → Answers code.now own (action_of offer.now) (answer_of heard beside.new)) }
@@ -392,67 +286,38 @@ fn heard(code: &Valid, offer: &Offer, row: Row, beside: &mut Beside) -> Option<H
             }
         }
         (What::Write(slot), Row::Write { slot: want, value }) => {
-            nothing_if(slot == want && is_number(&offer.value, value))
+            if slot == want && is_number(&offer.value, value) {
+                Some(Heard::Nothing)
+            } else {
+                None
+            }
         }
-        (What::Put(1), Row::Put(want)) => nothing_if(offer.text.as_slice() == want.as_bytes()),
+        (What::Put(0), Row::Put(want)) => {
+            if offer.text.as_slice() == want.as_bytes() {
+                Some(Heard::Nothing)
+            } else {
+                None
+            }
+        }
         (
             What::Get {
-                device: 1,
+                device: 0,
                 format: 1,
             },
             Row::Get { heard },
         ) => both(offer.kinds.as_slice(), heard, beside),
-        _ => acts(code, offer, row, beside),
-    }
-}
-
-// The same for actions on the clock, semaphores, tasks and values of devices.
-fn acts(code: &Valid, offer: &Offer, row: Row, beside: &mut Beside) -> Option<Heard>
-    ensures { IfSome result (λ heard. (own : ℕ) → Answers code.now own (action_of offer.now) (answer_of heard beside.new)) }
-{
-    match (offer.what, row) {
-        (What::Now, Row::Now { heard }) if heard < 86_400_000 => {
-            beside.one = Cell::Clock(heard);
-            Some(Heard::One)
-        }
-        (What::Try(one), Row::Try { semaphore, heard }) if one == semaphore => {
-            beside.one = Cell::Bits {
-                len: 1,
-                value: heard as u64,
-            };
-            Some(Heard::One)
-        }
-        (What::Take(one), Row::Take { device, heard }) if one == device => {
-            taken(code, one, heard, beside)
-        }
-        (What::Send(one), Row::Send { device, value }) => {
-            nothing_if(one == device && is_number(&offer.value, value))
-        }
-        (What::Request, Row::Request(want)) | (What::Release, Row::Release(want)) => {
-            nothing_if(offer.list.as_slice() == want)
-        }
-        (
-            What::Suspend(_)
-            | What::Prevent(_)
-            | What::Enable(_)
-            | What::Disable(_)
-            | What::Trigger(_),
-            Row::Acts(want),
-        ) => nothing_if(offer.what == want),
         _ => None,
     }
 }
 
-// Whether the action is the row's, and the task hears nothing more.
-fn ends(what: What, row: Row) -> bool {
+fn traps(what: What, row: Row) -> bool {
     match (what, row) {
         (What::Trap(trap), Row::Trap(want)) => trap == want,
-        (What::End, Row::End) => true,
         _ => false,
     }
 }
 
-// How many rows are left from the first on that the task doesn't keep to; its end is the last that it keeps to.
+// How many rows are left from the first on that the task doesn't keep to; a trap is the last that it keeps to.
 fn left(
     code: &Valid,
     stack: &mut Loaded,
@@ -468,7 +333,7 @@ fn left(
         return 0;
     };
     settle(code, stack, offer);
-    if ends(offer.what, *row) {
+    if traps(offer.what, *row) {
         return others.len();
     }
     match heard(code, offer, *row, beside) {
@@ -495,7 +360,7 @@ fn first_depth(code: &Valid) -> Option<u64>
 }
 
 // How many of the rows are left where the first task is begun and answered as they say.
-fn rows_left(alloc: Global, code: &Valid, rows: &[Row]) -> Result<usize, AllocError> {
+fn rows_left(alloc: Global, code: &Valid) -> Result<usize, AllocError> {
     let frames = code.object().procedures.as_slice().len() + 1;
     match first_depth(code) {
         Some(depth) => {
@@ -503,23 +368,19 @@ fn rows_left(alloc: Global, code: &Valid, rows: &[Row]) -> Result<usize, AllocEr
             let mut offer = Offer::new();
             let mut beside = Beside::new();
             begin(code, 0, &mut stack);
-            Ok(left(code, &mut stack, rows, &mut offer, &mut beside))
+            Ok(left(code, &mut stack, &ROWS, &mut offer, &mut beside))
         }
-        None => Ok(rows.len()),
-    }
-}
-
-// Whether a task of these instructions offers what the rows say.
-fn offers(alloc: Global, lines: &[Line], rows: &[Row]) -> Result<bool, AllocError> {
-    match verify(alloc, object(alloc, lines)?) {
-        Ok(code) => Ok(rows_left(alloc, &code, rows)? == 0),
-        Err(_) => Ok(false),
+        None => Ok(ROWS.len()),
     }
 }
 
 #[test]
 fn a_task_offers_what_its_instructions_mean(rt: HostRuntime) -> Result<(), Fail> {
-    assert!(rt; offers(rt.alloc(), &TASK, &ROWS)?);
-    assert!(rt; offers(rt.alloc(), &ACTIONS, &ACTION_ROWS)?);
+    let alloc = rt.alloc();
+    let mut rows = ROWS.len();
+    if let Ok(code) = verify(alloc, object(alloc)?) {
+        rows = rows_left(alloc, &code)?;
+    }
+    assert_eq!(rt; rows, 0);
     Ok(())
 }

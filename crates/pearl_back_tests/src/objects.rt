@@ -57,15 +57,10 @@ pub enum Line {
     Advance { first: u64, past: u64 },
     NonZero,
     Dyadic(Dyad),
-    Now,
     Request(&'static [u64]),
-    Release(&'static [u64]),
     Try(u64),
     Suspend(u64),
-    Prevent(u64),
     Enable(u64),
-    Disable(u64),
-    Trigger(u64),
     Put { device: u64, format: u64 },
     Get(Reading),
     Take(u64),
@@ -146,19 +141,6 @@ fn instruction(alloc: Global, line: Line) -> Result<Instr, AllocError>
         Line::ToFixed => Ok(Instr::Conv(Kind::Fixed(2))),
         Line::Index(list) => Ok(Instr::Index(bounds(alloc, list)?)),
         Line::LoadAt { first, count } => Ok(Instr::LoadAt { first, count }),
-        Line::NonZero => Ok(Instr::NonZero),
-        Line::Dyadic(operator) => Ok(Instr::Dyadic(operator)),
-        Line::Within(first) => Ok(Instr::Within(first)),
-        Line::Advance { first, past } => Ok(Instr::Advance { first, past }),
-        _ => flow(alloc, line),
-    }
-}
-
-// Variables of the module, references and jumps, and then the others.
-fn flow(alloc: Global, line: Line) -> Result<Instr, AllocError>
-    ensures { IfOk result IsInstr }
-{
-    match line {
         Line::Read(leaf) => Ok(Instr::Read(leaf)),
         Line::Write(leaf) => Ok(Instr::Write(leaf)),
         Line::ReadAt(leaf) => Ok(Instr::ReadAt(leaf)),
@@ -173,29 +155,19 @@ fn flow(alloc: Global, line: Line) -> Result<Instr, AllocError>
         Line::Turn => Ok(Instr::Turn),
         Line::Call(procedure) => Ok(Instr::Call(procedure)),
         Line::Return => Ok(Instr::Return),
-        _ => action(alloc, line),
-    }
-}
-
-// Actions; END alone is left.
-fn action(alloc: Global, line: Line) -> Result<Instr, AllocError>
-    ensures { IfOk result IsInstr }
-{
-    match line {
-        Line::Now => Ok(Instr::Now),
+        Line::End => Ok(Instr::End),
+        Line::Within(first) => Ok(Instr::Within(first)),
+        Line::Advance { first, past } => Ok(Instr::Advance { first, past }),
+        Line::NonZero => Ok(Instr::NonZero),
+        Line::Dyadic(operator) => Ok(Instr::Dyadic(operator)),
         Line::Request(list) => Ok(Instr::Request(numbers(alloc, list)?)),
-        Line::Release(list) => Ok(Instr::Release(numbers(alloc, list)?)),
         Line::Try(semaphore) => Ok(Instr::Try(semaphore)),
         Line::Suspend(task) => Ok(Instr::Suspend(task)),
-        Line::Prevent(task) => Ok(Instr::Prevent(task)),
         Line::Enable(device) => Ok(Instr::Enable(device)),
-        Line::Disable(device) => Ok(Instr::Disable(device)),
-        Line::Trigger(device) => Ok(Instr::Trigger(device)),
         Line::Put { device, format } => Ok(Instr::Put { device, format }),
         Line::Get(reading) => Ok(Instr::Get(Box::new(alloc, reading)?)),
         Line::Take(device) => Ok(Instr::Take(device)),
         Line::Send(device) => Ok(Instr::Send(device)),
-        _ => Ok(Instr::End),
     }
 }
 
