@@ -28,7 +28,7 @@ class LongTranscripts(unittest.TestCase):
         self.folder.cleanup()
 
     def test_a_long_text_is_written(self):
-        """A canonical text of some 130 KB, which is one piece: the text of that text is the same."""
+        """A canonical text of some 90 KB, which is one piece: the text of that text is the same."""
         with open(self.source, "w", encoding="ascii") as file:
             file.write("MODULE(m);PROBLEM;t:TASK;" + "x:=1;" * 10000 + "END;MODEND;")
         first = subprocess.run([PROGRAM, "print", self.source], stdout=subprocess.PIPE, timeout=600, check=True).stdout
@@ -36,7 +36,7 @@ class LongTranscripts(unittest.TestCase):
             file.write(first)
         again = subprocess.run([PROGRAM, "print", self.source], stdout=subprocess.PIPE, timeout=600, check=True).stdout
         self.assertEqual(first, again)
-        self.assertGreater(len(first), 100000)
+        self.assertGreater(len(first), 80000)
         self.assertEqual(first.count(b"x := 1"), 10000)
 
     def run_into(self, out):
@@ -50,6 +50,7 @@ class LongTranscripts(unittest.TestCase):
         self.assertEqual([line for line in lines if " out " in line], ["0 out 1 '%9d\\n'" % (i + 1) for i in range(TURNS)])
         self.assertEqual(lines[-1], "0 close")
 
+    @unittest.skipUnless(os.path.exists("/dev/full"), "needs /dev/full")
     def test_a_full_disk_is_told(self):
         """Where nothing can be written, also by the last write of all, the status is that of a write fault."""
         with open("/dev/full", "wb") as full:
