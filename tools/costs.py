@@ -37,10 +37,10 @@ def filled(form, size):
     return (text + "\n" * (size - len(text))).encode("ascii")
 
 
-def run(program, command, path):
+def run(words):
     """Status, processor seconds and greatest resident set in bytes of one run, and the front of what it wrote."""
     with tempfile.TemporaryFile() as out:
-        child = subprocess.Popen([program, command, path], stdout=out, stderr=subprocess.STDOUT)
+        child = subprocess.Popen(words, stdout=out, stderr=subprocess.STDOUT)
         _, status, usage = os.wait4(child.pid, 0)
         child.returncode = os.waitstatus_to_exitcode(status)
         out.seek(0)
@@ -55,7 +55,7 @@ def measured(program, command, folder, form, size, runs):
         file.write(filled(form, size))
     seconds, peak = [], []
     for _ in range(runs):
-        status, spent, resident, said = run(program, command, path)
+        status, spent, resident, said = run([program, command, path])
         if status not in STATUSES[command]:
             sys.exit(f"a source of {size} bytes ended with status {status}: {said!r}")
         seconds.append(spent)

@@ -1,0 +1,137 @@
+#!/usr/bin/env python3
+"""What a run costs where a plant has many tasks, plans or lines that wait: one workload a row.
+
+usage: tools/run_costs.py [--program PROGRAM] [--runs N] [--only WORD] [--markdown]
+
+PROGRAM (default: crates/pearl/out/pearl beside this folder; `./pearl` builds it) runs each plant with a long journal and
+with a short one of the same kind, N times each. Told are the seconds of a processor that the long one takes more, the
+least of all runs, and what that is for each pick, millisecond, line or start, in microseconds.
+"""
+
+import argparse
+import os
+import sys
+import tempfile
+
+from costs import run
+
+HEAD = "MODULE(m); SYSTEM; tty: TERMINAL(1); PROBLEM; SPC tty DATION INOUT ALPHIC;\n"
+TAIL = "MODEND;\n"
+
+
+def tasks(count, body, attributes=""):
+    """So many tasks with this body, in which # is the number of the task."""
+    text = f"t#: TASK{attributes};\n{body}\nEND;\n"
+    return "".join(text.replace("#", str(number)) for number in range(count))
+
+
+def ready(count):
+    """All ready: each goes round and hands nothing over; the first one alone acts."""
+    return HEAD + "DCL x FIXED;\n" + tasks(count, "REPEAT x := 1; END;", " PRIO 5 MAIN") + TAIL
+
+
+def waiting(count):
+    """One acts, and all others wait for a semaphore that nobody releases."""
+    return (HEAD + "DCL x FIXED; DCL s SEMA PRESET(0);\nworks: TASK PRIO 9 MAIN;\nREPEAT x := 1; END;\nEND;\n"
+            + tasks(count - 1, "REQUEST s;", " PRIO 5 MAIN") + TAIL)
+
+
+def dormant(count):
+    """One acts, and no other is started."""
+    return (HEAD + "DCL x FIXED;\nworks: TASK PRIO 9 MAIN;\nREPEAT x := 1; END;\nEND;\n"
+            + tasks(count - 1, "x := 1;", " PRIO 5") + TAIL)
+
+
+def handing(count):
+    """All hand a semaphore around."""
+    presets = ",".join(["1"] + ["0"] * (count - 1))
+    names = ",".join(f"s{number}" for number in range(count))
+    bodies = "".join(f"t{n}: TASK PRIO {n % 250 + 1} MAIN;\nREPEAT REQUEST s{n}; RELEASE s{(n + 1) % count}; END;\nEND;\n"
+                     for n in range(count))
+    return f"{HEAD}DCL ({names}) SEMA PRESET({presets});\n{bodies}{TAIL}"
+
+
+def locking(count):
+    """All request and release one semaphore."""
+    return HEAD + "DCL s SEMA PRESET(1);\n" + tasks(count, "REPEAT REQUEST s; RELEASE s; END;", " PRIO 5 MAIN") + TAIL
+
+
+def planned(count, first, period):
+    """So many plans that start a task each, with these schedules in milliseconds."""
+    starts = "".join(f"AFTER {first(n)} SEC ALL {period(n)} SEC ACTIVATE t{n};\n" for n in range(count))
+    return f"{HEAD}DCL x FIXED;\nbegins: TASK PRIO 1 MAIN;\n{starts}END;\n{tasks(count, 'x := 1;', ' PRIO 5')}{TAIL}"
+
+
+def series(count):
+    """Two plans for each of so many tasks, none of which fires in the first hours: starts, and goings on."""
+    starts = "".join(f"AFTER {n + 1} HRS ALL 1 HRS ACTIVATE t{n};\n" for n in range(count))
+    bodies = tasks(count, "AFTER 90 HRS RESUME;", " PRIO 5 MAIN")
+    return f"{HEAD}begins: TASK PRIO 200 MAIN;\n{starts}END;\n{bodies}{TAIL}"
+
+
+def gets(count, items):
+    """So many tasks that wait in a GET of one value for these items."""
+    return HEAD + tasks(count, f"DCL a FIXED; REPEAT GET a FROM tty BY {items}; END;", " PRIO 5 MAIN") + TAIL
+
+
+# Each row: a name, the plant, the journal's part that is measured, and how much of what it has.
+WORK = [
+    *[(f"a pick, {count} tasks, {what}", plant(count), f"run {picks}\n", picks, "pick")
+      for what, plant, picks in [("all ready", ready, 1_000_000), ("all but one waiting", waiting, 1_000_000),
+                                 ("all but one dormant", dormant, 1_000_000), ("handing around", handing, 400_000),
+                                 ("locking", locking, 400_000)]
+      for count in (2, 20, 200)],
+    ("a millisecond, 400 series, none due", series(198), "pass 1000000 1\n", 1_000_000, "millisecond"),
+    ("a day, a start each minute", planned(1, lambda _: 60, lambda _: 60), "pass 86400000 1000\n", 1439, "start"),
+    ("a day, 198 plans of a second each, all at once", planned(198, lambda _: 1, lambda _: 1), "pass 86400000 1000\n",
+     86_399 * 198, "start"),
+    ("1,000 lines, 198 tasks wait in a GET of F(4)", gets(198, "F(4)"), "line 1 '1'\n" * 1000, 1000, "line"),
+    ("1,000 lines, 198 tasks wait in a GET of 2,040 lines", gets(198, "SKIP(255), " * 8 + "F(4)"), "line 1 '1'\n" * 1000,
+     1000, "line"),
+    ("1,000 lines of a byte, 198 tasks wait in a GET", gets(198, "SKIP(1), F(4)"), "chars 1 '1'\n" * 1000, 1000, "line"),
+    ("1,000 states, 199 tasks, all ready", ready(199), "state\n" * 1000, 1000, "state"),
+]
+
+
+def seconds(program, source, journal, runs):
+    """The least seconds of a processor of so many runs."""
+    least = None
+    for _ in range(runs):
+        status, spent, _, said = run([program, "run", source, journal])
+        if status != 0:
+            sys.exit(f"a run ended with status {status}: {said!r}")
+        least = spent if least is None else min(least, spent)
+    return least
+
+
+def main():
+    here = os.path.dirname(os.path.dirname(os.path.abspath(__file__)))
+    parser = argparse.ArgumentParser(description=__doc__.splitlines()[0])
+    parser.add_argument("--program", default=os.path.join(here, "crates", "pearl", "out", "pearl"))
+    parser.add_argument("--runs", type=int, default=3)
+    parser.add_argument("--only", default="", help="workloads whose name has this in it")
+    parser.add_argument("--markdown", action="store_true", help="rows of a table for docs/evidence.md")
+    args = parser.parse_args()
+    if not os.access(args.program, os.X_OK):
+        sys.exit(f"{args.program} is no program: build it first, or name one by --program")
+    form = "| {} | {:.3f} s | {:.3f} |" if args.markdown else "{:52}{:10.3f} s {:12.3f} microseconds"
+    if args.markdown:
+        print("| Workload | Seconds | Microseconds each |\n|---|---|---|")
+    with tempfile.TemporaryDirectory() as folder:
+        source, journal = (os.path.join(folder, name) for name in ("source.pearl", "journal"))
+        for name, plant, part, count, _ in WORK:
+            if args.only not in name:
+                continue
+            spent = []
+            for text in (part, ""):
+                with open(source, "w", encoding="ascii") as file:
+                    file.write(plant)
+                with open(journal, "w", encoding="ascii") as file:
+                    file.write("run 1000\n" + text)
+                spent.append(seconds(args.program, source, journal, args.runs))
+            more = max(0.0, spent[0] - spent[1])
+            print(form.format(name, more, more * 1e6 / count), flush=True)
+
+
+if __name__ == "__main__":
+    main()
