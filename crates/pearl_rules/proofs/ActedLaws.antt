@@ -1,5 +1,5 @@
 -- Whoever acted last is a task.
-use Rattle.std.proofs.Common.{◌≡◌, ℕ, ◌<◌, ◌++◌, ◌∷◌, [], List, Bool, true, false, Option, Some, None, IfSome, Result, Ok, Err, length, nat_le, nat_lt, refl, sym, ap, subst, ◌∙◌}
+use Rattle.std.proofs.Common.{◌≡◌, ℕ, ◌<◌, ◌++◌, ◌∷◌, [], List, Bool, true, false, Option, Some, None, IfSome, Result, Ok, Err, length, nat_le, nat_lt, refl, sym, subst}
 use Rattle.std.proofs.lemmas.Bool.{and_parts, false≢true}
 use Rattle.std.proofs.lemmas.Option.{slice_get_within}
 use Rattle.pearl_value.specs.declared.cell.Cell.{Cell}

@@ -20,7 +20,7 @@ use Rattle.pearl_rules.specs.Plans.{on_row, changed_row, with_mode, millisecond}
 use Rattle.pearl_rules.specs.Devices.{channel_of, items_of, bytes_at, without_bytes, values_at, without_value_by, without_value, arrived}
 use Rattle.pearl_rules.specs.Scan.{Scanned, Short, Bad, Got, scan}
 use Rattle.pearl_rules.specs.Effect.{Hears, Ends, Effect, effect_of, effect, finished, prevented, answering, ending, priority_or_declared, stopped_by, stopped_tasks, reply_if_other, stopping, releasing, trying, getting, taking}
-use Rattle.pearl_rules.specs.Laws.{TellsEnds}
+use Rattle.pearl_rules.specs.Laws.{IsOver, TellsEnds, LeavesDormant}
 use Rattle.pearl_rules.proofs.Places.{no_member, alone, only_member, set-same, set-other}
 use Rattle.pearl_rules.proofs.Serving.{Stays, Closed, OnlyValues, mark-kept, millisecond-kept, interrupted-kept, activated-kept, continues-kept, resuming-kept, arrived-kept}
 use Rattle.pearl_rules.proofs.EffectLaws.{AnyPriority, AnyPlan, any_continuation, any_activation}
@@ -119,15 +119,27 @@ no_end answer e = cc
 pub ends_unheard : (answer : Answer) → Ends ≡ Hears answer → ⊥
 ends_unheard answer e = cc
 
+-- of an effect all at once: what it tells of ends, and that those that ended are dormant
+record Tells (core : Core) (own : ℕ) (done : Effect) : Type 0 where
+  ended : (t : ℕ) → is_active core t ≡ true → is_active done.core t ≡ false → Contains done.ended t
+  dormant : (t : ℕ) → Contains done.ended t → is_active done.core t ≡ false
+  others : (t : ℕ) → (Contains done.ended t → ⊥) → is_active core t ≡ true → is_active done.core t ≡ true
+  hears : (answer : Answer) → done.reply ≡ Hears answer → is_active core own ≡ true → is_active done.core own ≡ true
+  goes_on : (answer : Answer) → done.reply ≡ Hears answer → Contains done.ended own → ⊥
+  ends : done.reply ≡ Ends → is_active done.core own ≡ false
+  own_ended : done.reply ≡ Ends → is_active core own ≡ true → Contains done.ended own
+
 -- where every active task stays so and the one that acted hears an answer
 all_last : (core : Core) (own : ℕ) (after : Core) (answer : Answer) → ((t : ℕ) → is_active core t ≡ true → is_active after t ≡ true) →
-    TellsEnds core own (answering after answer)
+    Tells core own (answering after answer)
 all_last core own after answer stays = record {
   ended = λ t is not. absurd (true≢false (sym (stays t is) ∙ not));
   dormant = λ t inside. absurd (no_member t inside);
   others = λ t outside is. stays t is;
   hears = λ heard e is. stays own is;
+  goes_on = λ heard e inside. no_member own inside;
   ends = λ e. absurd (no_end answer e);
+  own_ended = λ e. absurd (no_end answer e);
 }
 
 -- another task stays as it is where one ends
@@ -151,71 +163,97 @@ outside_lasts : (core : Core) (t u : ℕ) → (Contains (t ∷ []) u → ⊥) �
 outside_lasts core t u outside is = other_lasts core t u (λ same. outside (alone t u same)) ∙ is
 
 -- an end
-ending_tells : (core : Core) (own : ℕ) (e : Event) → TellsEnds core own (ending core own e)
+ending_tells : (core : Core) (own : ℕ) (e : Event) → Tells core own (ending core own e)
 ending_tells core own e = record {
   ended = λ t is not. is_ended core own t is not;
   dormant = λ t inside. is_dormant core own t inside;
   others = λ t outside is. outside_lasts core own t outside is;
   hears = λ answer same is. absurd (ends_unheard answer same);
+  goes_on = λ answer same. absurd (ends_unheard answer same);
   ends = λ same. dormant_here core own;
+  own_ended = λ same is. alone own own refl;
 }
 
 -- an end from outside
-stopping_tells : (core : Core) (own t : ℕ) → TellsEnds core own (stopping core own t)
+stopping_tells : (core : Core) (own t : ℕ) → Tells core own (stopping core own t)
 stopping_tells core own t = by_mode (mode_of core t) refl (nat_eq t own) refl
   where
     done : Mode → Bool → Effect
     done mode is_own = record { core = stopped_by mode core t; reply = reply_if_other is_own; ended = stopped_tasks mode t }
 
-    by_mode : (mode : Mode) → mode_of core t ≡ mode → (is_own : Bool) → nat_eq t own ≡ is_own → TellsEnds core own (done mode is_own)
+    by_mode : (mode : Mode) → mode_of core t ≡ mode → (is_own : Bool) → nat_eq t own ≡ is_own → Tells core own (done mode is_own)
     by_mode Dormant at false other = all_last core own core Nothing (λ u is. is)
-    by_mode Dormant at true same = record {
-      ended = λ u is not. absurd (true≢false (sym is ∙ not));
-      dormant = λ u inside. absurd (no_member u inside);
-      others = λ u outside is. is;
-      hears = λ answer e is. is;
-      ends = λ e. subst (λ v. is_active core v ≡ false) (eqb-true t own same) (active_row (row_of core t) ∙ ap is_active_mode at);
-    }
+    by_mode Dormant at true same =
+        let own_dormant : is_active core own ≡ false =
+        subst (λ v. is_active core v ≡ false) (eqb-true t own same) (active_row (row_of core t) ∙ ap is_active_mode at) in
+        record {
+          ended = λ u is not. absurd (true≢false (sym is ∙ not));
+          dormant = λ u inside. absurd (no_member u inside);
+          others = λ u outside is. is;
+          hears = λ answer e is. is;
+          goes_on = λ answer e inside. no_member own inside;
+          ends = λ e. own_dormant;
+          own_ended = λ e is. absurd (true≢false (sym is ∙ own_dormant));
+        }
     by_mode (Active priority suspended) at false other = record {
       ended = λ u is not. is_ended core t u is not;
       dormant = λ u inside. is_dormant core t u inside;
       others = λ u outside is. outside_lasts core t u outside is;
       hears = λ answer e is. other_lasts core t own (λ same. eqb-false t own other (sym same)) ∙ is;
+      goes_on = λ answer e inside. eqb-false t own other (sym (only_member t own inside));
       ends = λ e. absurd (no_end Nothing e);
+      own_ended = λ e. absurd (no_end Nothing e);
     }
     by_mode (Active priority suspended) at true same = record {
       ended = λ u is not. is_ended core t u is not;
       dormant = λ u inside. is_dormant core t u inside;
       others = λ u outside is. outside_lasts core t u outside is;
       hears = λ answer e is. absurd (ends_unheard answer e);
+      goes_on = λ answer e. absurd (ends_unheard answer e);
       ends = λ e. is_dormant core t own (alone t own (sym (eqb-true t own same)));
+      own_ended = λ e is. alone t own (sym (eqb-true t own same));
     }
 
 -- a release
-releasing_tells : (core : Core) (own : ℕ) (semaphores : List ℕ) (can_raise : Bool) → TellsEnds core own (releasing core own semaphores can_raise)
+releasing_tells : (core : Core) (own : ℕ) (semaphores : List ℕ) (can_raise : Bool) → Tells core own (releasing core own semaphores can_raise)
 releasing_tells core own semaphores true = all_last core own _ Nothing (λ t is. is)
 releasing_tells core own semaphores false = ending_tells core own (event.Trap own SemaLimit)
 
 -- a try
-trying_tells : (core : Core) (own semaphore : ℕ) (is_free : Bool) → TellsEnds core own (trying core semaphore is_free)
+trying_tells : (core : Core) (own semaphore : ℕ) (is_free : Bool) → Tells core own (trying core semaphore is_free)
 trying_tells core own semaphore true = all_last core own _ _ (λ t is. is)
 trying_tells core own semaphore false = all_last core own core _ (λ t is. is)
 
 -- who acted last is no part of it
-since_last : (core : Core) (own : ℕ) (done : Effect) → TellsEnds (record core { last = Some own }) own done → TellsEnds core own done
-since_last core own done tells =
-    record { ended = tells.ended; dormant = tells.dormant; others = tells.others; hears = tells.hears; ends = tells.ends }
+since_last : (core : Core) (own : ℕ) (done : Effect) → Tells (record core { last = Some own }) own done → Tells core own done
+since_last core own done tells = record {
+  ended = tells.ended;
+  dormant = tells.dormant;
+  others = tells.others;
+  hears = tells.hears;
+  goes_on = tells.goes_on;
+  ends = tells.ends;
+  own_ended = tells.own_ended;
+}
 
 -- what is read from a terminal
-getting_tells : (core : Core) (own device : ℕ) (scanned : Scanned) → TellsEnds core own (getting core own device scanned)
+getting_tells : (core : Core) (own device : ℕ) (scanned : Scanned) → Tells core own (getting core own device scanned)
 getting_tells core own device Short = ending_tells core own (event.End own)
 getting_tells core own device (Bad used) =
     let tells = ending_tells (without_bytes core device used) own (event.Trap own Format) in
-    record { ended = tells.ended; dormant = tells.dormant; others = tells.others; hears = tells.hears; ends = tells.ends }
+    record {
+      ended = tells.ended;
+      dormant = tells.dormant;
+      others = tells.others;
+      hears = tells.hears;
+      goes_on = tells.goes_on;
+      ends = tells.ends;
+      own_ended = tells.own_ended;
+    }
 getting_tells core own device (Got used values) = all_last core own _ (Many (record { items = values })) (λ t is. is)
 
 -- what is taken from an input
-taking_tells : (core : Core) (own device : ℕ) (values : List Cell) → TellsEnds core own (taking core own device values)
+taking_tells : (core : Core) (own device : ℕ) (values : List Cell) → Tells core own (taking core own device values)
 taking_tells core own device [] = ending_tells core own (event.End own)
 taking_tells core own device (x ∷ values) = all_last core own (without_value core device) (One x) (by_channel (channel_of core device))
   where
@@ -227,18 +265,18 @@ taking_tells core own device (x ∷ values) = all_last core own (without_value c
     by_channel (Some Outward) u is = is
 
 -- every action
-pub effect-ends : (core : Core) (own : ℕ) (action : Action) → TellsEnds core own (effect core own action)
+effect-tells : (core : Core) (own : ℕ) (action : Action) → Tells core own (effect core own action)
 unfolding effect
-effect-ends core own asked = since_last core own _ (by_action asked)
+effect-tells core own asked = since_last core own _ (by_action asked)
   where
     acted : Core
     acted = record core { last = Some own }
 
     -- nobody ends
-    none : (after : Core) (answer : Answer) → AllLast acted after → TellsEnds acted own (answering after answer)
+    none : (after : Core) (answer : Answer) → AllLast acted after → Tells acted own (answering after answer)
     none after answer last = all_last acted own after answer last
 
-    by_action : (asked : Action) → TellsEnds acted own (effect_of acted own asked)
+    by_action : (asked : Action) → Tells acted own (effect_of acted own asked)
     by_action (action.Read slot) = none acted _ (λ t is. is)
     by_action (action.Write slot value) = none _ Nothing (λ t is. is)
     by_action action.Turn = none acted Nothing (λ t is. is)
@@ -268,3 +306,29 @@ effect-ends core own asked = since_last core own _ (by_action asked)
     by_action (action.Send device value) = none _ Nothing (λ t is. is)
     by_action action.End = ending_tells acted own (event.End own)
     by_action (action.Trap trap) = ending_tells acted own (event.Trap own trap)
+
+-- a task that isn't active is dormant
+over_if : (mode : Mode) → is_active_mode mode ≡ false → IsOver mode
+over_if Dormant not = tt
+over_if (Active priority suspended) not = absurd (true≢false not)
+
+is_over : (core : Core) (t : ℕ) → is_active core t ≡ false → IsOver (mode_of core t)
+is_over core t not = over_if (mode_of core t) (sym (active_row (row_of core t)) ∙ not)
+
+pub effect-ends : (core : Core) (own : ℕ) (action : Action) → TellsEnds core own (effect core own action)
+effect-ends core own asked =
+    let tells = effect-tells core own asked in
+    record {
+      ended = tells.ended;
+      others = tells.others;
+      over = λ t inside. is_over (effect core own asked).core t (tells.dormant t inside);
+      hears = tells.hears;
+      goes_on = tells.goes_on;
+      ends = tells.own_ended;
+    }
+
+-- no task that ends starts again at once
+pub effect-dormant : (core : Core) (own : ℕ) (action : Action) → LeavesDormant own (effect core own action)
+effect-dormant core own asked =
+    let tells = effect-tells core own asked in
+    record { dormant = tells.dormant; ends = tells.ends }

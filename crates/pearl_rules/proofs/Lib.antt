@@ -9,6 +9,7 @@ mod EndsLaws
 mod TaskLaws
 mod CountLaws
 mod UrgencyLaws
+mod EndingPlans
 mod TimeLaws
 mod ActedLaws
 mod KeptLaws
@@ -18,4 +19,7 @@ mod Faithful
 mod EndLaws
 mod RunLaws
 mod MarkLaws
+mod RunKeeps
+mod TimeOfRuns
+mod FirstStarts
 pub mod Offered

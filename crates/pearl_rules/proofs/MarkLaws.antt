@@ -1,11 +1,13 @@
 -- Which marks come of a journal's entries, and what the marks of time and of what comes in do.
 use Rattle.std.proofs.Common.{◌≡◌, ℕ, zero, suc, ◌+◌, List, ◌∷◌, Option, Some, None, refl, ap, subst, ◌∙◌, add-one, zero-add, arith}
+use Rattle.pearl_rules.specs.declared.action.Answer.{Answer}
 use Rattle.pearl_rules.specs.declared.entry.Entry.{Entry}
 use Rattle.pearl_rules.specs.declared.entry.Entry.TheVariants.{Run, Tick, Pass, Clock, Irpt, Chars, Line, Value}
 use Rattle.pearl_rules.specs.Plans.{millisecond}
 use Rattle.pearl_rules.specs.Devices.{arrived}
-use Rattle.pearl_rules.specs.Pick.{pick}
-use Rattle.pearl_rules.specs.Runs.{Acts, Passes, Arrives, Coming, next_mark, Supplier, Source, source_offers, source_next, source_mark, source_step, source_after}
+use Rattle.pearl_rules.specs.Effect.{effect}
+use Rattle.pearl_rules.specs.Pick.{pick, turned, showing}
+use Rattle.pearl_rules.specs.Runs.{Acts, Turns, Tells, Passes, Arrives, Coming, next_mark, kept_at, Supplier, Source, source_offers, source_next, source_acts, source_mark, source_step, source_after}
 use Rattle.pearl_rules.specs.Laws.{ComesIn, passed}
 use Rattle.pearl_rules.proofs.Simulation.{step_source}
 use Rattle.pearl_rules.proofs.RunLaws.{step-entries}
@@ -42,6 +44,26 @@ one_mark picked (Value device x) rest comes = refl
 one_mark picked entry rest comes = absurd comes
 
 -- WHAT A MARK DOES
+
+-- an action of a task that has heard these answers
+pub step-acts : (offer : Supplier) (s : Source) (coming : Coming) (t : ℕ) (heard : List Answer) → source_next offer s ≡ Some coming →
+    coming.mark ≡ Acts t → kept_at s.heard t ≡ Some heard → (source_step offer s).core ≡ (effect s.core t (offer t heard)).core
+step-acts offer s coming t heard e is so_far =
+    ap (λ x. x.core) (step_source offer s (Some coming) e)
+    ∙ ap (λ mark. (source_mark offer s mark coming.rest).core) is
+    ∙ ap (λ o. (source_acts offer s t coming.rest o).core) so_far
+
+-- a turn
+pub step-turns : (offer : Supplier) (s : Source) (coming : Coming) (t : ℕ) → source_next offer s ≡ Some coming → coming.mark ≡ Turns t →
+    (source_step offer s).core ≡ turned s.core (source_offers offer s) t
+step-turns offer s coming t e is =
+    ap (λ x. x.core) (step_source offer s (Some coming) e) ∙ ap (λ mark. (source_mark offer s mark coming.rest).core) is
+
+-- that the states are told
+pub step-tells : (offer : Supplier) (s : Source) (coming : Coming) → source_next offer s ≡ Some coming → coming.mark ≡ Tells →
+    (source_step offer s).core ≡ showing s.core (source_offers offer s)
+step-tells offer s coming e is =
+    ap (λ x. x.core) (step_source offer s (Some coming) e) ∙ ap (λ mark. (source_mark offer s mark coming.rest).core) is
 
 -- a millisecond
 pub step-passes : (offer : Supplier) (s : Source) (coming : Coming) → source_next offer s ≡ Some coming → coming.mark ≡ Passes →

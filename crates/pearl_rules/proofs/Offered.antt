@@ -26,7 +26,7 @@ pub use Rattle.pearl_rules.proofs.CountLaws.{effect-counts, millisecond-counts, 
 pub use Rattle.pearl_rules.proofs.UrgencyLaws.{effect-urgencies, millisecond-urgencies, arrived-urgencies}
 pub use Rattle.pearl_rules.proofs.UrgencyLaws.{opening-urgencies, effect-plans, millisecond-plans, arrived-plans}
 -- what is kept for each task, on the two sides of a run: the lists stand side by side, place by place
-pub use Rattle.pearl_rules.proofs.KeptLaws.{dropped_outside, begins_afresh}
+pub use Rattle.pearl_rules.proofs.KeptLaws.{dropped_inside, dropped_outside, begins_afresh}
 -- the machine goes the way of the source: step by step the same core, the same entries, and each task at the same place
 pub use Rattle.pearl_rules.proofs.Simulation.{step_source}
 -- what holds of one task at a time is enough for a whole run

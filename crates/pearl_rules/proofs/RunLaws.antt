@@ -21,7 +21,7 @@ use Rattle.pearl_rules.proofs.EndLaws.{stays_to}
 -- EVERY RUN ENDS
 
 -- how many marks the entries ask for
-abbrev marks_left : List Entry → ℕ
+abbrev pub marks_left : List Entry → ℕ
 marks_left [] = 0
 marks_left (Run n ∷ es) = n + marks_left es
 marks_left (Tick n ∷ es) = n + marks_left es
@@ -29,9 +29,9 @@ marks_left (Pass times picks ∷ es) = times * suc picks + marks_left es
 marks_left (entry ∷ es) = suc (marks_left es)
 
 -- the mark that comes leaves fewer, and where a task acts it is the picked one
-record Takes (chosen : Option ℕ) (es : List Entry) (coming : Coming) : Type 0 where
-  is_chosen : (t : ℕ) → coming.mark ≡ Acts t → chosen ≡ Some t
-  fewer : marks_left coming.rest < marks_left es
+pub record Takes (chosen : Option ℕ) (es : List Entry) (coming : Coming) : Type 0 where
+  pub is_chosen : (t : ℕ) → coming.mark ≡ Acts t → chosen ≡ Some t
+  pub fewer : marks_left coming.rest < marks_left es
 
 -- a mark of the later entries leaves fewer of all
 takes_later : (chosen : Option ℕ) (first : Entry) (es : List Entry) (coming : Coming) → Takes chosen es coming → Takes chosen (first ∷ es) coming
@@ -48,7 +48,7 @@ same_task : (t u : ℕ) → Acts t ≡ Acts u → t ≡ u
 same_task t u e = cc
 
 -- each mark leaves fewer
-next_takes : (chosen : Option ℕ) (es : List Entry) (coming : Coming) → next_mark chosen es ≡ Some coming → Takes chosen es coming
+pub next_takes : (chosen : Option ℕ) (es : List Entry) (coming : Coming) → next_mark chosen es ≡ Some coming → Takes chosen es coming
 next_takes chosen [] coming e = absurd (none-some coming e)
 next_takes chosen (Run n ∷ es) coming e = by_pick chosen n (next_mark chosen es) (λ h. next_takes chosen es coming h) e
   where

@@ -43,17 +43,17 @@ pub record Simulates (setup : Setup) {S : Type 0} (engine : Engine S) (Stands : 
 -- WHAT REMAINS OF FITTING ENTRIES
 
 -- what comes in by a mark fits
-abbrev FitsMark : Setup → Mark → Type 0
+abbrev pub FitsMark : Setup → Mark → Type 0
 FitsMark setup (Arrives entry) = IsFitting setup entry
 FitsMark setup mark = Unit {0}
 
 -- a mark and what remains after it fit
-record FitsAfter (setup : Setup) (coming : Coming) : Type 0 where
-  mark : FitsMark setup coming.mark
-  rest : AreFitting setup coming.rest
+pub record FitsAfter (setup : Setup) (coming : Coming) : Type 0 where
+  pub mark : FitsMark setup coming.mark
+  pub rest : AreFitting setup coming.rest
 
 -- of fitting entries a fitting mark comes, and fitting entries remain
-fits_after : (setup : Setup) (picked : Option ℕ) (es : List Entry) (coming : Coming) → AreFitting setup es → next_mark picked es ≡ Some coming →
+pub fits_after : (setup : Setup) (picked : Option ℕ) (es : List Entry) (coming : Coming) → AreFitting setup es → next_mark picked es ≡ Some coming →
     FitsAfter setup coming
 fits_after setup picked [] coming fits e = absurd (none-some coming e)
 fits_after setup picked (Run n ∷ es) coming fits e = by_pick picked n fits.0 (next_mark picked es) (fits_after setup picked es coming fits.1) e

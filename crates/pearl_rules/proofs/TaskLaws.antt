@@ -18,13 +18,13 @@ use Rattle.pearl_rules.specs.declared.setup.Setup.{Setup}
 use Rattle.pearl_rules.specs.Core.{Core, note, row_of, with_row, mode_of_row, mode_of}
 use Rattle.pearl_rules.specs.Counts.{count_at, all_below_most}
 use Rattle.pearl_value.specs.declared.cell.Cell.{Cell}
-use Rattle.pearl_rules.specs.Plans.{on_row, changed_row, with_mode, started_by, marked_mode, with_mark}
+use Rattle.pearl_rules.specs.Plans.{on_row, changed_row, with_mode, continuation_in, continuation_of, activation_in, activation_of, started_by, marked_mode, with_mark}
 use Rattle.pearl_rules.specs.Devices.{items_of, bytes_at, values_at}
 use Rattle.pearl_rules.specs.Scan.{Scanned, Short, Bad, Got, scan}
-use Rattle.pearl_rules.specs.Effect.{Reply, Hears, Ends, Effect, effect, answering, priority_or_declared, stopped_by, stopped_tasks, reply_if_other, releasing, trying, getting, taking}
+use Rattle.pearl_rules.specs.Effect.{Reply, Hears, Ends, Effect, effect, finished, answering, priority_or_declared, stopped_by, stopped_tasks, reply_if_other, releasing, trying, getting, taking}
 use Rattle.pearl_rules.specs.Pick.{Offered, is_possible, is_ready, is_ready_row, is_eligible}
 use Rattle.pearl_rules.specs.Slots.{Fits}
-use Rattle.pearl_rules.specs.Laws.{ChangesTask, IsGot, EndsItself}
+use Rattle.pearl_rules.specs.Laws.{IsToldBehind, ChangesTask, EndsTask, StartsLate, IsGot, EndsItself}
 use Rattle.pearl_rules.proofs.Places.{set-same, set-other, there_at, here, there}
 use Rattle.pearl_rules.proofs.CountLaws.{not_all_below}
 
@@ -149,6 +149,11 @@ module _ (core : Core) (own : ℕ) where
       subst (λ mode. ChangesTask core own t (Active before suspended) (event.Overrun t ∷ []) (Hears Nothing) (answering (started_by mode acted t chosen) Nothing))
       (sym active) (told_alone t (Active before suspended) (event.Overrun t) (Hears Nothing) [] active)
 
+  pub start_late : (t before : ℕ) (suspended : Bool) (priority : Option ℕ) → mode_of core t ≡ Active before suspended →
+      StartsLate core own t (Active before suspended) (effect core own (action.Activate t Free Once priority))
+  start_late t before suspended priority active =
+      record { told = event.Overrun t; late = refl; changes = start_overruns t before suspended priority active }
+
   -- MARKS OF SUSPENSION
 
   -- an active task's mark
@@ -215,6 +220,74 @@ module _ (core : Core) (own : ℕ) where
       subst (λ b. ChangesTask core own own Dormant (event.Stop own ∷ []) Ends
       (leading (stopped_by (mode_of core own) acted own) (reply_if_other b) (stopped_tasks (mode_of core own) own)))
       (sym (eq-eqb own own refl)) (stops own Ends priority suspended active)
+
+  -- THE END IS TOLD FIRST
+
+  -- an end after which the task is dormant
+  dormant_end : (t : ℕ) (told : Event) (reply : Reply) (done : Effect) → ChangesTask core own t Dormant (told ∷ []) reply done →
+      continuation_of done.core t ≡ None → activation_of done.core t ≡ activation_of core t → done.ended ≡ t ∷ [] →
+      EndsTask core own t told reply done
+  dormant_end t told reply done changes goes_on starts ended = record {
+    behind = [];
+    told_behind = subst (λ mode. IsToldBehind t mode []) (sym changes.stands) refl;
+    changes = record { stands = refl; others = changes.others; rest = changes.rest; replies = changes.replies };
+    goes_on = goes_on;
+    starts = starts;
+    ended = ended;
+  }
+
+  -- it goes on by no plan, and the plan by which it is started stays
+  no_continuation : (t : ℕ) → continuation_of (finished acted t) t ≡ None
+  no_continuation t = by_row (row_of acted t) refl
+    where
+      by_row : (row : Option TaskRow) → row_of acted t ≡ row → continuation_of (on_row row acted (λ r. with_row acted t (ends_row r))) t ≡ None
+      by_row None at = ap continuation_in at
+      by_row (Some row) at = ap continuation_in (set-same acted.tasks t row (ends_row row) at)
+
+  same_activation : (t : ℕ) → activation_of (finished acted t) t ≡ activation_of core t
+  same_activation t = by_row (row_of acted t) refl
+    where
+      by_row : (row : Option TaskRow) → row_of acted t ≡ row →
+          activation_of (on_row row acted (λ r. with_row acted t (ends_row r))) t ≡ activation_of core t
+      by_row None at = refl
+      by_row (Some row) at = ap activation_in (set-same acted.tasks t row (ends_row row) at) ∙ sym (ap activation_in at)
+
+  finished_end : (t : ℕ) (told : Event) (reply : Reply) → EndsTask core own t told reply (leading (note (finished acted t) told) reply (t ∷ []))
+  finished_end t told reply =
+      dormant_end t told reply (leading (note (finished acted t) told) reply (t ∷ []))
+      (told_change t ends_row Dormant told reply (t ∷ []) (mode_dormant acted t ends_row (λ r. refl)))
+      (no_continuation t) (same_activation t) refl
+
+  pub end_told : EndsTask core own own (event.End own) Ends (effect core own action.End)
+  unfolding effect
+  end_told = finished_end own (event.End own) Ends
+
+  pub trap_told : (trap : traps.Trap) → EndsTask core own own (event.Trap own trap) Ends (effect core own (action.Trap trap))
+  unfolding effect
+  trap_told trap = finished_end own (event.Trap own trap) Ends
+
+  -- of an active task that is ended from outside
+  stopped_told : (t : ℕ) (reply : Reply) (priority : ℕ) (suspended : Bool) → mode_of core t ≡ Active priority suspended →
+      EndsTask core own t (event.Stop t) reply (leading (stopped_by (mode_of core t) acted t) reply (stopped_tasks (mode_of core t) t))
+  stopped_told t reply priority suspended active =
+      subst (λ mode. EndsTask core own t (event.Stop t) reply (leading (stopped_by mode acted t) reply (stopped_tasks mode t)))
+      (sym active) (finished_end t (event.Stop t) reply)
+
+  pub stop_told : (t priority : ℕ) (suspended : Bool) → mode_of core t ≡ Active priority suspended → t ≢ own →
+      EndsTask core own t (event.Stop t) (Hears Nothing) (effect core own (action.Terminate t))
+  unfolding effect
+  stop_told t priority suspended active other =
+      subst (λ b. EndsTask core own t (event.Stop t) (Hears Nothing)
+      (leading (stopped_by (mode_of core t) acted t) (reply_if_other b) (stopped_tasks (mode_of core t) t)))
+      (sym (ne_eqb t own other)) (stopped_told t (Hears Nothing) priority suspended active)
+
+  pub stop_itself_told : (priority : ℕ) (suspended : Bool) → mode_of core own ≡ Active priority suspended →
+      EndsTask core own own (event.Stop own) Ends (effect core own (action.Terminate own))
+  unfolding effect
+  stop_itself_told priority suspended active =
+      subst (λ b. EndsTask core own own (event.Stop own) Ends
+      (leading (stopped_by (mode_of core own) acted own) (reply_if_other b) (stopped_tasks (mode_of core own) own)))
+      (sym (eq-eqb own own refl)) (stopped_told own Ends priority suspended active)
 
   pub dormant_stopped : (t : ℕ) → mode_of core t ≡ Dormant → t ≢ own →
       ChangesTask core own t Dormant [] (Hears Nothing) (effect core own (action.Terminate t))

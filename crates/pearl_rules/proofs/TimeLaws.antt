@@ -1,5 +1,5 @@
 -- A dormant task has no plan to go on, and the plans of tasks have series with near moments.
-use Rattle.std.proofs.Common.{◌≡◌, ℕ, ◌+◌, ◌^◌, ◌<◌, ◌≤◌, List, [], ◌∷◌, Bool, true, false, Option, Some, None, IfSome, IsSome, IsTrue, map, refl, sym, ap, subst, ◌∙◌, arith}
+use Rattle.std.proofs.Common.{◌≡◌, ℕ, ◌+◌, ◌^◌, ◌≤◌, List, [], ◌∷◌, true, Option, Some, None, IfSome, IsSome, map, refl, sym, ap, subst, ◌∙◌, arith}
 use Rattle.std.specs.List.{AllByRecursion}
 use Rattle.std.proofs.lemmas.Bool.{true≢false}
 use Rattle.std.proofs.lemmas.Option.{none-some, same_Some}
@@ -10,7 +10,6 @@ use Rattle.pearl_rules.specs.declared.action.Start.TheVariants as start
 use Rattle.pearl_rules.specs.declared.action.Repeat.{Repeat}
 use Rattle.pearl_rules.specs.declared.action.Repeat.TheVariants.{Once}
 use Rattle.pearl_rules.specs.declared.entry.Entry.{Entry}
-use Rattle.pearl_rules.specs.declared.entry.Entry.TheVariants as entry
 use Rattle.pearl_rules.specs.declared.row.Mode.{Mode}
 use Rattle.pearl_rules.specs.declared.row.Mode.TheVariants.{Dormant, Active}
 use Rattle.pearl_rules.specs.declared.row.Plan.{Plan}
@@ -23,7 +22,7 @@ use Rattle.pearl_rules.specs.Plans.{on_row, marked_mode, with_mark, interrupt_of
 use Rattle.pearl_rules.specs.Devices.{arrived}
 use Rattle.pearl_rules.specs.Effect.{effect}
 use Rattle.pearl_rules.specs.Pick.{Offered, turned}
-use Rattle.pearl_rules.specs.Slots.{Fits, IsStart, IsRepeat, IsPlan, IsPlannedRow, HasPlans, IsTimed, IsTimedRow, HasTimes}
+use Rattle.pearl_rules.specs.Slots.{Fits, IsStart, IsRepeat, IsPlan, IsPlannedRow, IsTimed, IsTimedRow, HasTimes}
 use Rattle.pearl_rules.specs.Entries.{IsFitting}
 use Rattle.pearl_rules.proofs.Places.{each_at, all_set, set-same}
 use Rattle.pearl_rules.proofs.Serving.{Stays, Starts, Goes, ClosedFor, ClosedAtEnds, OnlyValues, BringsTo, effect-stays, millisecond-keeps, arrived-keeps}

@@ -14,7 +14,6 @@ use Rattle.pearl_rules.specs.declared.entry.Entry.TheVariants as entry
 use Rattle.pearl_rules.specs.declared.row.Mode.{Mode}
 use Rattle.pearl_rules.specs.declared.row.Mode.TheVariants.{Dormant, Active}
 use Rattle.pearl_rules.specs.declared.series.Series.{Series}
-use Rattle.pearl_rules.specs.declared.row.End.TheVariants as end
 use Rattle.pearl_rules.specs.declared.row.Plan.{Plan}
 use Rattle.pearl_rules.specs.declared.row.Activation.{Activation}
 use Rattle.pearl_rules.specs.declared.row.TaskRow.{TaskRow}
@@ -157,11 +156,6 @@ length_within : (least : ℕ) (time : ℤ) → Lasts (pos least) time → millis
 length_within least (pos n) is = let high = is.1.high in omega (arith, ints, high)
 length_within least (negsuc n) is = omega arith
 
--- a period is at least one
-period_some : (time : ℤ) → Lasts (pos 1) time → 0 < milliseconds time
-period_some (pos n) is = let low = is.0 in omega (arith, ints, low)
-period_some (negsuc n) is = let low = is.0 in absurd (omega (arith, ints, low))
-
 -- a plan as it is written is lawful
 lawful_written : (setup : Setup) (when : Start) (how : Repeat) → IsStart setup when → IsRepeat how →
     IsPlan setup (written when how)
@@ -170,7 +164,6 @@ lawful_written setup when how is repeats = record {
   after = after when is;
   period = period how repeats;
   end = ends how repeats;
-  once = once how repeats;
 }
   where
     interrupt : (when : Start) → IsStart setup when →
@@ -200,12 +193,6 @@ lawful_written setup when how is repeats = record {
     ends (repeat.Until time until) is = is.1
     ends (repeat.During time during) is = length_within 0 during is.1
 
-    once : (how : Repeat) → IsRepeat how → period_of how ≡ 0 → end_of how ≡ end.Never
-    once repeat.Once is none = refl
-    once (repeat.All time) is none = refl
-    once (repeat.Until time until) is none = let some = period_some time is.0 in absurd (omega (arith, some, none))
-    once (repeat.During time during) is none = let some = period_some time is.0 in absurd (omega (arith, some, none))
-
 module _ (setup : Setup) where
   pub plans_at : (core : Core) (t : ℕ) (row : TaskRow) → row_of core t ≡ Some row → HasPlans setup core →
       IsPlannedRow setup row
@@ -227,8 +214,7 @@ module _ (setup : Setup) where
   -- a series is no part of that
   pub with_series : (plan : Plan) (series : Option Series) → IsPlan setup plan →
       IsPlan setup (record plan { series = series })
-  with_series plan series is =
-      record { when = is.when; after = is.after; period = is.period; end = is.end; once = is.once }
+  with_series plan series is = record { when = is.when; after = is.after; period = is.period; end = is.end }
 
   -- a plan that is made now
   pub lawful_planned : (core : Core) (when : Start) (how : Repeat) → IsStart setup when → IsRepeat how →

@@ -1,5 +1,5 @@
 -- Which entries of a journal fit the tables.
-use Rattle.std.specs.Prelude.{◌≡◌, ℕ, ◌+◌, ◌<◌, ◌≤◌, ◌^◌, List, Option, Some, None, Ok, length, slice_get}
+use Rattle.std.specs.Prelude.{◌≡◌, ◌≢◌, ℕ, ◌+◌, ◌<◌, ◌≤◌, ◌^◌, List, [], ◌∷◌, Bool, true, false, Option, Some, None, Ok, length, slice_get}
 use Rattle.std.specs.List.{AllByRecursion}
 use Rattle.pearl_value.specs.declared.cell.Cell.{Cell}
 use Rattle.pearl_value.specs.declared.kind.Kind.{Kind}
@@ -56,3 +56,28 @@ abbrev pub moment_after : (moment : ℕ) → Entry → ℕ
 moment_after moment (Tick milliseconds) = moment + milliseconds
 moment_after moment (Pass times picks) = moment + times
 moment_after moment entry = moment
+
+-- ENTRIES ONE AFTER THE OTHER
+
+-- an entry that sets the clock is the first of all, and one that brings bytes brings at least one
+abbrev pub MayCome : (is_first : Bool) → Entry → Type 0
+MayCome is_first (Clock time) = is_first ≡ true
+MayCome is_first (Chars device text) = text.items ≢ []
+MayCome is_first entry = Unit {0}
+
+-- each of these entries may come, and fits at the moment to which those before it lead
+abbrev pub FitFrom : Setup → (is_first : Bool) (moment : ℕ) → List Entry → Type 0
+FitFrom setup is_first moment [] = Unit {0}
+FitFrom setup is_first moment (entry ∷ entries) =
+    MayCome is_first entry × EntryFits setup moment entry × FitFrom setup false (moment_after moment entry) entries
+
+-- the entries of a journal fit one after the other
+abbrev pub FitInTurn : Setup → List Entry → Type 0
+FitInTurn setup entries = FitFrom setup true 0 entries
+
+-- how many milliseconds these entries let pass
+abbrev pub time_in : List Entry → ℕ
+time_in [] = 0
+time_in (Tick milliseconds ∷ entries) = milliseconds + time_in entries
+time_in (Pass times picks ∷ entries) = times + time_in entries
+time_in (entry ∷ entries) = time_in entries

@@ -1,41 +1,62 @@
 -- What the laws say of turns, of effects and of runs.
-use Rattle.std.specs.Prelude.{◌≡◌, ◌≢◌, ℕ, zero, suc, ◌-◌, ◌^◌, ◌<◌, ◌≤◌, List, [], ◌∷◌, ◌++◌, false, Option, Some, None, IsTrue, Contains}
+use Rattle.std.specs.Prelude.{◌≡◌, ◌≢◌, ℕ, zero, suc, ◌-◌, ◌^◌, ◌<◌, ◌≤◌, List, [], ◌∷◌, ◌++◌, Bool, true, false, Option, Some, None, IsTrue, Contains, map, slice_get}
 use Rattle.pearl_rules.specs.declared.action.Action.{Action}
 use Rattle.pearl_rules.specs.declared.action.Action.TheVariants as action
 use Rattle.pearl_rules.specs.declared.action.Answer.{Answer}
+use Rattle.pearl_rules.specs.declared.action.Answer.TheVariants.{Nothing}
 use Rattle.pearl_rules.specs.declared.event.Event.{Event}
+use Rattle.pearl_rules.specs.declared.event.Event.TheVariants as event
 use Rattle.pearl_rules.specs.declared.row.Mode.{Mode}
+use Rattle.pearl_rules.specs.declared.row.Mode.TheVariants.{Dormant, Active}
 use Rattle.pearl_rules.specs.declared.entry.Entry.{Entry}
 use Rattle.pearl_rules.specs.declared.entry.Entry.TheVariants.{Clock, Irpt, Chars, Line, Value}
 use Rattle.pearl_rules.specs.declared.row.TaskRow.{TaskRow}
 use Rattle.pearl_rules.specs.declared.setup.Setup.{Setup}
-use Rattle.pearl_rules.specs.Core.{Core, Report, Happened, row_of, mode_of, is_active, is_active_mode, told_before}
+use Rattle.pearl_rules.specs.declared.setup.TaskEntry.{TaskEntry}
+use Rattle.pearl_rules.specs.Core.{Core, Report, Happened, row_of, mode_of, is_active, is_active_mode, declared_of, told_before}
 use Rattle.pearl_rules.specs.Counts.{count_at}
-use Rattle.pearl_rules.specs.Plans.{millisecond}
+use Rattle.pearl_rules.specs.Plans.{continuation_of, activation_of, millisecond}
 use Rattle.pearl_rules.specs.Devices.{items_of, bytes_at, values_at}
 use Rattle.pearl_rules.specs.Scan.{Scanned, Got, scan}
 use Rattle.pearl_rules.specs.Effect.{Reply, Hears, Ends, Effect, answering}
-use Rattle.pearl_rules.specs.Pick.{Offered, is_eligible, priority_of}
+use Rattle.pearl_rules.specs.Pick.{Offered, possible_of, is_eligible_by, priority_of}
+use Rattle.pearl_rules.specs.Slots.{HasKinds, HasCounts, HasUrgencies, HasPlans, HasEnds, HasTimes, HasLast}
+use Rattle.pearl_rules.specs.Entries.{last_moment_of_all}
 use Rattle.pearl_rules.specs.Runs.{dropped, kept_at, refreshed, Supplier, Source, Engine, Machine, source_run, source_next, source_offers, machine_run, machine_offers, machine_next, marked, unsettled, told_at_end}
 
 -- TURNS AND EFFECTS
 
 -- a task that is eligible, where no eligible task has a smaller priority number
-pub record IsFirstInRank (core : Core) (offers : Offered) (t : ℕ) : Type 0 where
-  pub eligible : IsTrue (is_eligible core offers t)
-  pub urgent : (u : ℕ) → IsTrue (is_eligible core offers u) → priority_of core t ≤ priority_of core u
+pub record IsFirstInRankBy (core : Core) (possible : ℕ → Bool) (t : ℕ) : Type 0 where
+  pub eligible : IsTrue (is_eligible_by core possible t)
+  pub urgent : (u : ℕ) → IsTrue (is_eligible_by core possible u) → priority_of core t ≤ priority_of core u
+
+abbrev pub IsFirstInRank : Core → Offered → ℕ → Type 0
+IsFirstInRank core offers t = IsFirstInRankBy core (possible_of core offers) t
 
 -- the same effect, with this told before
 abbrev pub effect_told_before : List (ℕ × Report) → Effect → Effect
 effect_told_before before done = record done { core = told_before before done.core }
 
--- what an effect tells of ends: an active task that becomes dormant is among those that ended, and no task among those stays active;
--- the task that acted stays active where it hears an answer, and else it is dormant
+-- a task whose life is over is dormant, or active anew, and then it isn't suspended
+abbrev pub IsOver : Mode → Type 0
+IsOver Dormant = Unit {0}
+IsOver (Active priority suspended) = suspended ≡ false
+
+-- What an effect tells of ends: an active task that becomes dormant is among those that ended, and one that isn't among those stays
+-- active. Those that ended are dormant, or active anew. The task that acted isn't among them where it hears an answer, and stays
+-- active; where it ends, it is.
 pub record TellsEnds (core : Core) (own : ℕ) (done : Effect) : Type 0 where
   pub ended : (t : ℕ) → IsTrue (is_active core t) → is_active done.core t ≡ false → Contains done.ended t
-  pub dormant : (t : ℕ) → Contains done.ended t → is_active done.core t ≡ false
   pub others : (t : ℕ) → (Contains done.ended t → ⊥) → IsTrue (is_active core t) → IsTrue (is_active done.core t)
+  pub over : (t : ℕ) → Contains done.ended t → IsOver (mode_of done.core t)
   pub hears : (answer : Answer) → done.reply ≡ Hears answer → IsTrue (is_active core own) → IsTrue (is_active done.core own)
+  pub goes_on : (answer : Answer) → done.reply ≡ Hears answer → Contains done.ended own → ⊥
+  pub ends : done.reply ≡ Ends → IsTrue (is_active core own) → Contains done.ended own
+
+-- each task that an effect ends is dormant behind it, and so is the task that acted where it hears no answer
+pub record LeavesDormant (own : ℕ) (done : Effect) : Type 0 where
+  pub dormant : (t : ℕ) → Contains done.ended t → is_active done.core t ≡ false
   pub ends : done.reply ≡ Ends → is_active done.core own ≡ false
 
 -- these events, each at this moment
@@ -49,6 +70,32 @@ pub record ChangesTask (core : Core) (own t : ℕ) (mode : Mode) (events : List 
   pub others : (u : ℕ) → u ≢ t → row_of done.core u ≡ row_of core u
   pub rest : done.core ≡ record core { last = Some own; tasks = done.core.tasks; told = core.told ++ happened_at core.moment events }
   pub replies : done.reply ≡ reply
+
+-- what is told of a task in this mode behind its end: nothing where it is dormant, and its start where it is active anew
+abbrev pub IsToldBehind : (t : ℕ) → Mode → List Event → Type 0
+IsToldBehind t Dormant events = events ≡ []
+IsToldBehind t (Active priority suspended) events = (suspended ≡ false) × (events ≡ event.Start t priority ∷ [])
+
+-- An effect ends task t, and this event tells it first. Then t is dormant, or active anew, and what was heard and done before is
+-- gone. It goes on by no plan, the plan by which it is started stays, and nothing else changes.
+pub record EndsTask (core : Core) (own t : ℕ) (told : Event) (reply : Reply) (done : Effect) : Type 0 where
+  pub behind : List Event
+  pub told_behind : IsToldBehind t (mode_of done.core t) behind
+  pub changes : ChangesTask core own t (mode_of done.core t) (told ∷ behind) reply done
+  pub goes_on : continuation_of done.core t ≡ None
+  pub starts : activation_of done.core t ≡ activation_of core t
+  pub ended : done.ended ≡ t ∷ []
+
+-- what is told of a start for which an active task has no room
+abbrev pub IsLate : (t : ℕ) → Event → Type 0
+IsLate t (event.Overrun u) = u ≡ t
+IsLate t other = ⊥
+
+-- a start of an active task: it stays as it is, and one event tells what becomes of the start
+pub record StartsLate (core : Core) (own t : ℕ) (mode : Mode) (done : Effect) : Type 0 where
+  pub told : Event
+  pub late : IsLate t told
+  pub changes : ChangesTask core own t mode (told ∷ []) (Hears Nothing) done
 
 -- all fields are there and good
 abbrev pub IsGot : Scanned → Type 0
@@ -138,3 +185,35 @@ machine_with_more m more = record m { entries = m.entries ++ more }
 -- the machine's run isn't at its end before step n
 abbrev pub IsBeforeEnd : {S : Type 0} → Engine S → Setup → List Entry → ℕ → Type 0
 IsBeforeEnd engine setup es n = (k : ℕ) → k < n → HasEnded engine setup es k → ⊥
+
+-- WHAT HOLDS OF EACH CORE OF A RUN
+
+-- Each value is of its kind. There are as many counts as semaphores, each below 2^31, and the declared tasks with their declared
+-- priorities; all priorities are from 1 to 255. Plans are lawful ones, of which periods alone have an end. Whoever acted last is
+-- a task. Up to the last moment that there is no dormant task has a plan to go on, and plans have their series.
+pub record IsCoreOf (setup : Setup) (core : Core) : Type 0 where
+  pub kinds : HasKinds setup core
+  pub counts : HasCounts setup core
+  pub declared : map declared_of core.tasks ≡ map (λ task. task.priority) setup.tasks
+  pub urgent : HasUrgencies core
+  pub plans : HasPlans setup core
+  pub ends : HasEnds core
+  pub last : HasLast core
+  pub times : core.moment ≤ last_moment_of_all → HasTimes setup core
+
+-- WHAT IS TOLD AT THE START
+
+-- the start of a MAIN task with its declared priority, at moment 0
+pub record IsFirstStart (tasks : List TaskEntry) (told : ℕ × Report) (t : ℕ) : Type 0 where
+  pub task : TaskEntry
+  pub declared : slice_get tasks t ≡ Some task
+  pub main : task.main ≡ true
+  pub starts : told ≡ (0, Happened (event.Start t task.priority))
+
+-- the starts of the MAIN tasks, one for each of them in order of declaration, and nothing else
+pub record AreFirstStarts (tasks : List TaskEntry) (told : List (ℕ × Report)) : Type 0 where
+  pub each : (t : ℕ) (task : TaskEntry) → slice_get tasks t ≡ Some task → task.main ≡ true →
+      Contains told (0, Happened (event.Start t task.priority))
+  pub only : (x : ℕ × Report) → Contains told x → (t : ℕ) × IsFirstStart tasks x t
+  pub in_order : (i j t u p q : ℕ) → i < j → slice_get told i ≡ Some (0, Happened (event.Start t p)) →
+      slice_get told j ≡ Some (0, Happened (event.Start u q)) → t < u

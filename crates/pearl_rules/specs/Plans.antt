@@ -3,7 +3,7 @@ use Rattle.std.specs.Prelude.{ℕ, zero, suc, ◌+◌, ◌-◌, ◌^◌, ◌%◌
 use Rattle.pearl_rules.specs.declared.series.Series.{Series}
 use Rattle.pearl_rules.specs.Series.{fires_if}
 use Rattle.pearl_rules.specs.declared.action.Start.{Start}
-use Rattle.pearl_rules.specs.declared.action.Start.TheVariants.{Free, At, After, When, WhenAfter}
+use Rattle.pearl_rules.specs.declared.action.Start.TheVariants.{At, After, When, WhenAfter}
 use Rattle.pearl_rules.specs.declared.action.Repeat.{Repeat}
 use Rattle.pearl_rules.specs.declared.action.Repeat.TheVariants.{Once, All, Until, During}
 use Rattle.pearl_rules.specs.declared.event.Event.TheVariants as event

@@ -184,13 +184,11 @@ IsEnd end.Never = Unit {0}
 IsEnd (end.Until time) = time < 86400000
 IsEnd (end.During time) = time ≤ 2 ^ 40
 
--- The interrupt of a plan is there, its lengths of time are at most 2^40 milliseconds, and its end is one; without a
--- period it has none.
+-- the interrupt of a plan is there, its lengths of time are at most 2^40 milliseconds, and its end is one
 pub record IsPlan (setup : Setup) (plan : Plan) : Type 0 where
   pub when : IfSome plan.when (λ interrupt. IsInterrupt (slice_get setup.devices interrupt))
   pub after : plan.after ≤ 2 ^ 40
   pub period : plan.period ≤ 2 ^ 40
-  pub once : plan.period ≡ 0 → plan.end ≡ end.Never
   pub end : IsEnd plan.end
 
 abbrev pub IsPlannedRow : Setup → TaskRow → Type 0
@@ -200,6 +198,17 @@ IsPlannedRow setup row = IfSome row.continuation (IsPlan setup) × IfSome row.ac
 pub record HasPlans (setup : Setup) (core : Core) : Type 0 where
   pub plans : AllByRecursion (IsPlannedRow setup) core.tasks
   pub clock : core.clock < 86400000
+
+-- periods alone have an end: a plan without a period has none
+abbrev pub EndsPeriods : Plan → Type 0
+EndsPeriods plan = plan.period ≡ 0 → plan.end ≡ end.Never
+
+abbrev pub EndsPeriodsOf : TaskRow → Type 0
+EndsPeriodsOf row = IfSome row.continuation EndsPeriods × IfSome row.activation (λ activation. EndsPeriods activation.plan)
+
+-- so it is of each task's plans
+abbrev pub HasEnds : Core → Type 0
+HasEnds core = AllByRecursion EndsPeriodsOf core.tasks
 
 -- A plan that waits for no interrupt has a series. A first moment is at most 2^42, and a period at most 2^40
 -- milliseconds.

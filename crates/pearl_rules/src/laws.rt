@@ -14,11 +14,12 @@ ghost use Rattle.pearl_rules.specs.declared.action.Repeat.TheVariants.{Once};
 ghost use Rattle.pearl_rules.specs.declared.action.Answer.{Answer};
 ghost use Rattle.pearl_rules.specs.declared.action.Answer.TheVariants.{Nothing, One};
 ghost use Rattle.pearl_rules.specs.declared.entry.Entry.{Entry};
-ghost use Rattle.pearl_rules.specs.declared.entry.Entry.TheVariants.{Run, Tick, Pass, Turn, State};
+ghost use Rattle.pearl_rules.specs.declared.entry.Entry.TheVariants.{Clock, Run, Tick, Pass, Chars, Turn, State};
 ghost use Rattle.pearl_rules.specs.declared.event.Event.TheVariants as event;
 ghost use Rattle.pearl_rules.specs.declared.row.Mode.TheVariants.{Dormant, Active};
 ghost use Rattle.pearl_rules.specs.declared.row.TaskRow.{TaskRow};
 ghost use Rattle.pearl_rules.specs.declared.setup.Setup.{Setup};
+ghost use Rattle.pearl_rules.specs.declared.setup.TaskEntry.{TaskEntry};
 ghost use Rattle.pearl_rules.specs.Core.{Core, Report, mode_of, is_active, declared_of, first_events, opening, told_before};
 ghost use Rattle.pearl_rules.specs.Counts.{count_at};
 ghost use Rattle.pearl_rules.specs.Plans.{millisecond};
@@ -26,23 +27,31 @@ ghost use Rattle.pearl_rules.specs.Devices.{arrived};
 ghost use Rattle.pearl_rules.specs.Effect.{Hears, Ends, answering, priority_or_declared, effect};
 ghost use Rattle.pearl_value.specs.Devices.{IsDevice};
 ghost use Rattle.pearl_value.specs.Counts.{IsPreset};
-ghost use Rattle.pearl_rules.specs.Tables.{IsTaskEntry};
-ghost use Rattle.pearl_rules.specs.Slots.{Suits, Fits, HasKinds, HasCounts, HasUrgencies, HasPlans, HasTimes, HasLast};
-ghost use Rattle.pearl_rules.specs.Entries.{IsFitting, AreFitting};
-ghost use Rattle.pearl_rules.specs.Pick.{Offered, guard, is_eligible, pick, IsPicked, can_turn, turned, shown_of, states, showing};
-ghost use Rattle.pearl_rules.specs.Runs.{Acts, Turns, Tells, Passes, Arrives, Coming, next_mark, Supplier, Source, Engine, source_step, source_after, source_run, source_next, machine_run, marked};
+ghost use Rattle.pearl_rules.specs.Tables.{IsTaskEntry, IsSetup};
+ghost use Rattle.pearl_rules.specs.Slots.{Suits, Fits, HasKinds, HasCounts, HasUrgencies, HasPlans, HasEnds, HasTimes, HasLast};
+ghost use Rattle.pearl_rules.specs.Entries.{last_moment_of_all, IsFitting, AreFitting, FitInTurn, time_in};
+ghost use Rattle.pearl_rules.specs.Pick.{Offered, guard, is_eligible_by, is_eligible, pick_by, pick, IsPickedBy, IsPicked, can_turn_by, can_turn, turned_by, turned, shown_of, states_by, states, showing};
+ghost use Rattle.pearl_rules.specs.Runs.{Acts, Turns, Tells, Passes, Arrives, Coming, next_mark, kept_at, Supplier, Source, Engine, source_offers, source_step, source_after, source_run, source_next, machine_run, marked};
 ghost use Rattle.pearl_rules.specs.Faithful.{IsFaithful, Alone, Soon};
-ghost use Rattle.pearl_rules.specs.Laws.{IsFirstInRank, effect_told_before, TellsEnds, ChangesTask, EndsItself, BeginsAfresh, ChangesCounts, HasEnded, EndsAlike, EndsSoon, EndsTelling, Comes, IsBeforeEnd, ComesIn, passed, with_more, machine_with_more};
+ghost use Rattle.pearl_rules.specs.Laws.{IsFirstInRankBy, IsFirstInRank, effect_told_before, TellsEnds, LeavesDormant, ChangesTask, EndsTask, StartsLate, EndsItself, BeginsAfresh, ChangesCounts, HasEnded, EndsAlike, EndsSoon, EndsTelling, Comes, IsBeforeEnd, ComesIn, passed, with_more, machine_with_more, IsCoreOf, AreFirstStarts};
 
-/// The task that acts next is the one that the rule of picking names, and there is none only where no task is eligible.
+/// The task that acts next is the one that the rule of picking names, and there is none only where no task is eligible: whatever
+/// tells which tasks' actions are possible, and so where their offers tell it.
 pub fn picks_the_most_urgent()
+    ensures picked_by { (core : Core) (possible : ℕ → Bool) (t : ℕ) → (pick_by core possible ≡ Some t) ↔ IsPickedBy core possible t }
+    ensures none_by { (core : Core) (possible : ℕ → Bool) → pick_by core possible ≡ None → (t : ℕ) → is_eligible_by core possible t ≡ false }
     ensures picked { (core : Core) (offers : Offered) (t : ℕ) → (pick core offers ≡ Some t) ↔ IsPicked core offers t }
     ensures none { (core : Core) (offers : Offered) → pick core offers ≡ None → (t : ℕ) → is_eligible core offers t ≡ false }
 {}
 
-/// Who acts next, and how the tasks stand, depends only on the tasks' rows, on the counts, on what waits at terminals and inputs,
-/// on who acted last and on what each task offers; the moment is shown beside it. The formats are always the tables'.
+/// Who acts next, and how the tasks stand, depends only on the tasks' rows, on who acted last and on which tasks' actions are
+/// possible; so on the counts, on what waits at terminals and inputs and on what each task offers. The moment is shown beside
+/// it. The formats are always the tables'.
 pub fn picks_alike()
+    ensures pick_by { (core other : Core) (possible others : ℕ → Bool) → core.tasks ≡ other.tasks → core.last ≡ other.last →
+        ((t : ℕ) → possible t ≡ others t) → pick_by core possible ≡ pick_by other others }
+    ensures states_by { (core other : Core) (possible others : ℕ → Bool) → core.moment ≡ other.moment → core.tasks ≡ other.tasks →
+        core.last ≡ other.last → ((t : ℕ) → possible t ≡ others t) → states_by core possible ≡ states_by other others }
     ensures pick { (core other : Core) (offers others : Offered) → core.tasks ≡ other.tasks → core.last ≡ other.last →
         core.counts ≡ other.counts → core.channels ≡ other.channels → core.formats ≡ other.formats →
         ((t : ℕ) → offers t ≡ others t) → pick core offers ≡ pick other others }
@@ -54,6 +63,12 @@ pub fn picks_alike()
 /// It can be a task's turn exactly where it is eligible and no eligible task has a smaller priority number. Then it counts as the
 /// one that acted last, so that it acts next; else nothing changes.
 pub fn turns_to_the_named()
+    ensures exactly_by { (core : Core) (possible : ℕ → Bool) (t : ℕ) → IsTrue (can_turn_by core possible t) ↔ IsFirstInRankBy core possible t }
+    ensures turns_by { (core : Core) (possible : ℕ → Bool) (t : ℕ) → IsFirstInRankBy core possible t →
+        turned_by core possible t ≡ record core { last = Some t } }
+    ensures next_by { (core : Core) (possible : ℕ → Bool) (t : ℕ) → IsFirstInRankBy core possible t →
+        pick_by (turned_by core possible t) possible ≡ Some t }
+    ensures stays_by { (core : Core) (possible : ℕ → Bool) (t : ℕ) → (IsFirstInRankBy core possible t → ⊥) → turned_by core possible t ≡ core }
     ensures exactly { (core : Core) (offers : Offered) (t : ℕ) → IsTrue (can_turn core offers t) ↔ IsFirstInRank core offers t }
     ensures turns { (core : Core) (offers : Offered) (t : ℕ) → IsFirstInRank core offers t → turned core offers t ≡ record core { last = Some t } }
     ensures next { (core : Core) (offers : Offered) (t : ℕ) → IsFirstInRank core offers t → pick (turned core offers t) offers ≡ Some t }
@@ -79,11 +94,13 @@ pub fn tells_after()
         shown_of (told_before before core) offers t ≡ shown_of core offers t }
 {}
 
-/// Each task that an action makes dormant is among those that it ends, and what is kept of those begins afresh; of all other
-/// active tasks the same is kept as before. A task that hears an answer stays active. No task ends in a millisecond, nor by what
+/// Each task that an action makes dormant is among those that it ends, and what is kept of those begins afresh, also where one is
+/// active anew; of all other active tasks the same is kept as before. The task that acts isn't among those where it hears an
+/// answer, and stays active. No task is active anew yet: each that ends is dormant. None ends in a millisecond, nor by what
 /// comes in.
 pub fn ended_tasks_begin_afresh<X>()
     ensures ends { (core : Core) (own : ℕ) (action : Action) → TellsEnds core own (effect core own action) }
+    ensures dormant { (core : Core) (own : ℕ) (action : Action) → LeavesDormant own (effect core own action) }
     ensures passes { (core : Core) (t : ℕ) → IsTrue (is_active core t) → IsTrue (is_active (millisecond core) t) }
     ensures arrives { (core : Core) (entry : Entry) (t : ℕ) → IsTrue (is_active core t) → IsTrue (is_active (arrived core entry) t) }
     ensures keeps { (fresh : ℕ → X) (rows : List TaskRow) (ended : List ℕ) (before : List (Option X)) (t : ℕ) (row : TaskRow) →
@@ -91,13 +108,15 @@ pub fn ended_tasks_begin_afresh<X>()
 {}
 
 /// A start makes a dormant task active, with the priority that it names, or else the declared one, and not suspended. A task that
-/// is active stays as it is, and the overrun is told.
+/// is active stays as it is, and one event tells what becomes of the start: that it is lost.
 pub fn starts_make_dormant_tasks_active()
     ensures starts { (core : Core) (own t : ℕ) (priority : Option ℕ) → t < length core.tasks → mode_of core t ≡ Dormant →
         ChangesTask core own t (Active (priority_or_declared core t priority) false)
         (event.Start t (priority_or_declared core t priority) ∷ []) (Hears Nothing) (effect core own (Activate t Free Once priority)) }
     ensures overruns { (core : Core) (own t before : ℕ) (suspended : Bool) (priority : Option ℕ) → mode_of core t ≡ Active before suspended →
         ChangesTask core own t (Active before suspended) (event.Overrun t ∷ []) (Hears Nothing) (effect core own (Activate t Free Once priority)) }
+    ensures late { (core : Core) (own t before : ℕ) (suspended : Bool) (priority : Option ℕ) → mode_of core t ≡ Active before suspended →
+        StartsLate core own t (Active before suspended) (effect core own (Activate t Free Once priority)) }
 {}
 
 /// An active task can be suspended and continued, with the priority that it has; on a dormant one neither does anything. A
@@ -114,7 +133,7 @@ pub fn suspended_tasks_wait()
     ensures waits { (core : Core) (offers : Offered) (t priority : ℕ) → mode_of core t ≡ Active priority true → is_eligible core offers t ≡ false }
 {}
 
-/// A task that ends, is broken off or is ended from outside becomes dormant, and that is told.
+/// A task that ends, is broken off or is ended from outside becomes dormant, and that alone is told.
 pub fn ends_make_tasks_dormant()
     ensures ends { (core : Core) (own : ℕ) → ChangesTask core own own Dormant (event.End own ∷ []) Ends (effect core own End) }
     ensures breaks_off { (core : Core) (own : ℕ) (trap : traps.Trap) →
@@ -125,6 +144,18 @@ pub fn ends_make_tasks_dormant()
         ChangesTask core own own Dormant (event.Stop own ∷ []) Ends (effect core own (Terminate own)) }
     ensures dormant_stopped { (core : Core) (own t : ℕ) → mode_of core t ≡ Dormant → t ≢ own →
         ChangesTask core own t Dormant [] (Hears Nothing) (effect core own (Terminate t)) }
+{}
+
+/// The end of a task is told first. Then the task is dormant, or active anew, which is told next. It goes on by no plan, the plan
+/// by which it is started stays, and nothing else changes.
+pub fn ends_are_told_first()
+    ensures ends { (core : Core) (own : ℕ) → EndsTask core own own (event.End own) Ends (effect core own End) }
+    ensures breaks_off { (core : Core) (own : ℕ) (trap : traps.Trap) →
+        EndsTask core own own (event.Trap own trap) Ends (effect core own (Trap trap)) }
+    ensures stops { (core : Core) (own t priority : ℕ) (suspended : Bool) → mode_of core t ≡ Active priority suspended → t ≢ own →
+        EndsTask core own t (event.Stop t) (Hears Nothing) (effect core own (Terminate t)) }
+    ensures stops_itself { (core : Core) (own priority : ℕ) (suspended : Bool) → mode_of core own ≡ Active priority suspended →
+        EndsTask core own own (event.Stop own) Ends (effect core own (Terminate own)) }
 {}
 
 /// Of the actions that fit the tables only these end the task that acts: its end, a trap, that it terminates itself, a release
@@ -199,6 +230,16 @@ pub fn plans_stay_lawful()
         HasPlans setup (arrived core entry) }
 {}
 
+/// Periods alone have an end: no plan without a period has one.
+pub fn periods_alone_have_an_end()
+    ensures opens { (setup : Setup) → HasEnds (opening setup) }
+    ensures acts { (setup : Setup) (core : Core) (own : ℕ) (action : Action) → HasEnds core → Fits setup action →
+        HasEnds (effect core own action).core }
+    ensures turns { (core : Core) (offers : Offered) (t : ℕ) → HasEnds core → HasEnds (turned core offers t) }
+    ensures passes { (core : Core) → HasEnds core → HasEnds (millisecond core) }
+    ensures arrives { (core : Core) (entry : Entry) → HasEnds core → HasEnds (arrived core entry) }
+{}
+
 /// A dormant task has no plan to go on. A plan that waits for no interrupt has a series, and no plan's first moment is
 /// above 2^42, nor its period above 2^40 milliseconds.
 pub fn plans_have_their_series()
@@ -269,9 +310,15 @@ pub fn entries_make_marks()
     ensures end { (picked : Option ℕ) → next_mark picked [] ≡ None }
 {}
 
-/// What the marks of time and of what comes in do to the core, and which entries a mark leaves. `tick` lets its milliseconds pass
-/// one by one, whoever could act.
+/// What each mark does to the core, and which entries it leaves: a task that acts does what it does next after the answers that it
+/// has heard. `tick` lets its milliseconds pass one by one, whoever could act.
 pub fn marks_change_the_core()
+    ensures acts { (offer : Supplier) (s : Source) (coming : Coming) (t : ℕ) (heard : List Answer) → source_next offer s ≡ Some coming →
+        coming.mark ≡ Acts t → kept_at s.heard t ≡ Some heard → (source_step offer s).core ≡ (effect s.core t (offer t heard)).core }
+    ensures turns { (offer : Supplier) (s : Source) (coming : Coming) (t : ℕ) → source_next offer s ≡ Some coming → coming.mark ≡ Turns t →
+        (source_step offer s).core ≡ turned s.core (source_offers offer s) t }
+    ensures tells { (offer : Supplier) (s : Source) (coming : Coming) → source_next offer s ≡ Some coming → coming.mark ≡ Tells →
+        (source_step offer s).core ≡ showing s.core (source_offers offer s) }
     ensures leaves { (offer : Supplier) (s : Source) (coming : Coming) → source_next offer s ≡ Some coming →
         (source_step offer s).entries ≡ coming.rest }
     ensures passes { (offer : Supplier) (s : Source) (coming : Coming) → source_next offer s ≡ Some coming → coming.mark ≡ Passes →
@@ -314,6 +361,38 @@ pub fn always_has_kinds<S: Code>()
         HasKinds setup (machine_run S.engine setup es n).core }
 {}
 
+/// Under the same conditions each core of a run is one over the tables: no count, no priority and no plan leaves its range. So it
+/// is after any number of machine steps, and after any number of marks that come of the source's run.
+pub fn always_keeps_its_ranges<S: Code>()
+    ensures machine { (setup : Setup) → IsSetup setup → Alone setup S.offer S.engine S.Stands → (es : List Entry) → AreFitting setup es →
+        (n : ℕ) → IsCoreOf setup (machine_run S.engine setup es n).core }
+    ensures source { (setup : Setup) → IsSetup setup → Alone setup S.offer S.engine S.Stands →
+        Soon (length setup.tasks) S.engine S.Stands S.weight S.rows → (es : List Entry) → AreFitting setup es → (m : ℕ) →
+        Comes S.offer setup es m → IsCoreOf setup (source_run S.offer setup es m).core }
+{}
+
+/// The moment of a run and the time that is in the entries left come to the time in all entries; so at its end the moment is that.
+pub fn time_is_in_the_entries()
+    ensures always { (offer : Supplier) (setup : Setup) (es : List Entry) (m : ℕ) →
+        (source_run offer setup es m).core.moment + time_in (source_run offer setup es m).entries ≡ time_in es }
+    ensures ends { (offer : Supplier) (setup : Setup) (es : List Entry) (m : ℕ) → source_next offer (source_run offer setup es m) ≡ None →
+        (source_run offer setup es m).core.moment ≡ time_in es }
+{}
+
+/// Entries that fit one after the other fit each for itself. In all they let no more time pass than leads to the last moment that
+/// there is, and no run over them comes to a later one. The clock is set by the first of them or not at all, and bytes that come
+/// in are one at least.
+pub fn entries_fit_one_after_the_other()
+    ensures each { (setup : Setup) (es : List Entry) → FitInTurn setup es → AreFitting setup es }
+    ensures time { (setup : Setup) (es : List Entry) → FitInTurn setup es → time_in es ≤ last_moment_of_all }
+    ensures moments { (offer : Supplier) (setup : Setup) (es : List Entry) (m : ℕ) → FitInTurn setup es →
+        (source_run offer setup es m).core.moment ≤ last_moment_of_all }
+    ensures clock { (setup : Setup) (front : List Entry) (time : ℕ) (rest : List Entry) → FitInTurn setup (front ++ Clock time ∷ rest) →
+        front ≡ [] }
+    ensures bytes { (setup : Setup) (front : List Entry) (device : ℕ) (text : ArrayVec ℕ) (rest : List Entry) →
+        FitInTurn setup (front ++ Chars device text ∷ rest) → text.items ≢ [] }
+{}
+
 /// Where a faithful machine is at its end, so is the source's run after the same marks, and both tell the same at the same
 /// moment, down to how each task stands.
 pub fn ends_alike<S>()
@@ -353,9 +432,10 @@ pub fn last_tells()
     ensures { (offer : Supplier) (setup : Setup) (es : List Entry) (m : ℕ) → EndsTelling offer setup es m }
 {}
 
-/// At its start a run has told the starts of the MAIN tasks, in order of declaration, and nothing else; and whatever it has
-/// told later begins with those.
+/// At its start a run has told the start of each MAIN task with its declared priority, in order of declaration, and nothing else;
+/// and whatever it has told later begins with those.
 pub fn opens_with()
+    ensures main { (tasks : List TaskEntry) → AreFirstStarts tasks (first_events 0 tasks) }
     ensures at_start { (offer : Supplier) (setup : Setup) (es : List Entry) →
         (source_run offer setup es 0).core.told ≡ first_events 0 setup.tasks }
     ensures later { (offer : Supplier) (setup : Setup) (es : List Entry) (m : ℕ) →

@@ -76,7 +76,7 @@ kept_none t (row ∷ rows) [] (suc i) not = kept_none (t + 1) rows [] i not
 kept_none t (row ∷ rows) (x ∷ xs) (suc i) not = kept_none (t + 1) rows xs i not
 
 -- a place of which nothing is kept stays so where others are emptied
-emptied : (xs : List (Option (List Answer))) (i : ℕ) → kept_at (slice_set xs i None) i ≡ None
+pub emptied : (xs : List (Option (List Answer))) (i : ℕ) → kept_at (slice_set xs i None) i ≡ None
 emptied [] i = refl
 emptied (x ∷ xs) zero = refl
 emptied (x ∷ xs) (suc i) = emptied xs i

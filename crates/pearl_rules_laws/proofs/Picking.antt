@@ -1,7 +1,7 @@
 -- What one action of a task makes of a run, and that `run` comes to so many of them.
-use Rattle.std.proofs.Common.{◌≡◌, ◌≢◌, ℕ, zero, suc, ◌+◌, ◌<◌, List, [], ◌∷◌, ◌++◌, false, IsTrue, Option, Some, None, refl, sym, ap, ◌∙◌, zero-add, ◌-◌, arith}
+use Rattle.std.proofs.Common.{◌≡◌, ◌≢◌, ℕ, zero, suc, ◌+◌, ◌<◌, List, [], ◌∷◌, ◌++◌, Bool, true, false, nat_eq, IsTrue, Option, Some, None, refl, sym, ap, subst, ◌∙◌, zero-add, eqb-true, ◌-◌, arith}
 use Rattle.std.specs.List.{Contains}
-use Rattle.std.proofs.lemmas.Bool.{true≢false}
+use Rattle.std.proofs.lemmas.Bool.{eqb-false}
 use Rattle.pearl_rules.specs.declared.action.Action.{Action}
 use Rattle.pearl_rules.specs.declared.action.Answer.{Answer}
 use Rattle.pearl_rules.specs.declared.entry.Entry.{Entry}
@@ -9,14 +9,14 @@ use Rattle.pearl_rules.specs.declared.entry.Entry.TheVariants.{Run, Turn, State}
 use Rattle.pearl_rules.specs.declared.row.Mode.TheVariants.{Active}
 use Rattle.pearl_rules.specs.declared.row.TaskRow.{TaskRow}
 use Rattle.pearl_rules.specs.Core.{Core, row_of, mode_of_row, mode_of, is_active_mode, is_active_row, is_active}
-use Rattle.pearl_rules.specs.Effect.{Hears, Effect, effect}
+use Rattle.pearl_rules.specs.Effect.{Reply, Hears, Ends, Effect, effect}
 use Rattle.pearl_rules.specs.Pick.{pick, turned, states}
 use Rattle.pearl_rules.specs.Runs.{Acts, Turns, Tells, dropped, kept_at, mapped, Supplier, Source, source_offers, heard_more, source_settled, source_acts, source_step, source_after}
-use Rattle.pearl_rules.proofs.Offered.{picked, effect-ends, dropped_outside, step-entries, step_source}
+use Rattle.pearl_rules.proofs.Offered.{picked, effect-ends, dropped_inside, dropped_outside, step-entries, step_source}
 use Rattle.pearl_rules_laws.specs.Runs.{DoesOneAction}
 use Rattle.pearl_rules_laws.proofs.Standing.{can_act}
 use Rattle.pearl_rules_laws.proofs.Marks.{run_acts, turn_marks, state_marks}
-use Rattle.pearl_rules_laws.proofs.Hearing.{kept_none, kept_stays, kept_anew, kept_set, heard_other, heard_none}
+use Rattle.pearl_rules_laws.proofs.Hearing.{kept_none, kept_stays, kept_anew, kept_set, emptied, heard_other, heard_none}
 
 -- a task that stands so is active
 stands_active : (core : Core) (t priority : ℕ) → mode_of core t ≡ Active priority false → IsTrue (is_active core t)
@@ -68,7 +68,7 @@ module _ (offer : Supplier) (s : Source) (t n : ℕ) (rest : List Entry) (here :
     hears_more answer reply =
         let ends = effect-ends s.core t (offer t before) in
         let after = ends.hears answer reply active in
-        let outside : Contains done.ended t → ⊥ = λ inside. true≢false (sym after ∙ ends.dormant t inside) in
+        let outside : Contains done.ended t → ⊥ = ends.goes_on answer reply in
         ap (λ x. kept_at x.heard t) step_is
         ∙ kept_stays done.core.tasks (heard_more left t before done.reply) t (before ++ answer ∷ []) after
         (ap (λ r. kept_at (heard_more left t before r) t) reply
@@ -85,6 +85,26 @@ module _ (offer : Supplier) (s : Source) (t n : ℕ) (rest : List Entry) (here :
         ap (λ x. kept_at x.heard u) step_is
         ∙ kept_stays done.core.tasks (heard_more left t before done.reply) u answers (active_then u after)
         (heard_other left t u before done.reply differ ∙ dropped_outside done.ended s.heard u outside ∙ is)
+
+    -- one that ended has heard nothing, also where it is active again
+    anew_then : (u : ℕ) → Contains done.ended u → IsTrue (is_active (source_step offer s).core u) →
+        kept_at (source_step offer s).heard u ≡ Some []
+    anew_then u inside after =
+        ap (λ x. kept_at x.heard u) step_is
+        ∙ kept_anew done.core.tasks (heard_more left t before done.reply) u (active_then u after)
+        (by_task (nat_eq u t) refl)
+      where
+        by_reply : (reply : Reply) → done.reply ≡ reply → Contains done.ended t →
+            kept_at (heard_more left t before reply) t ≡ None
+        by_reply (Hears answer) is within = absurd ((effect-ends s.core t (offer t before)).goes_on answer is within)
+        by_reply Ends is within = emptied left t
+
+        by_task : (b : Bool) → nat_eq u t ≡ b → kept_at (heard_more left t before done.reply) u ≡ None
+        by_task false differ =
+            heard_other left t u before done.reply (eqb-false u t differ) ∙ dropped_inside done.ended s.heard u inside
+        by_task true same =
+            subst (λ v. kept_at (heard_more left t before done.reply) v ≡ None) (sym (eqb-true u t same))
+            (by_reply done.reply refl (subst (λ v. Contains done.ended v) (eqb-true u t same) inside))
 
     started_anew : (u : ℕ) → kept_at s.heard u ≡ None → IsTrue (is_active (source_step offer s).core u) →
         kept_at (source_step offer s).heard u ≡ Some []
@@ -106,6 +126,7 @@ module _ (offer : Supplier) (s : Source) (t n : ℕ) (rest : List Entry) (here :
       changes = ap (λ x. x.core) step_is;
       hears = hears_more;
       others = others_stay;
+      anew = anew_then;
       started = started_anew;
       dormant = gone_then;
     }

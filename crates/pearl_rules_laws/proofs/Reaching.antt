@@ -16,7 +16,7 @@ use Rattle.pearl_rules.specs.Core.{Core, row_of, mode_of_row, mode_of}
 use Rattle.pearl_rules.specs.Plans.{last_moment, begun, waits_for, serves_if, continuation_in, continuation_of, activation_in, activation_of}
 use Rattle.pearl_rules.specs.Devices.{is_enabled, arrived}
 use Rattle.pearl_rules.specs.Laws.{happened_at}
-use Rattle.pearl_rules_laws.specs.Plans.{ServesAtOnce, IsUntouchedBy, IsTold, mode_after, start_events, plan_after, serves_after, goes_after, starts_after, continuation_after, activation_after, reached_row, reached_events}
+use Rattle.pearl_rules_laws.specs.Plans.{ServesAtOnce, IsUntouchedBy, IsTold, IsToldLate, mode_after, start_events, plan_after, serves_after, goes_after, starts_after, continuation_after, activation_after, reached_row, reached_events}
 use Rattle.pearl_rules_laws.proofs.Steps.{mode_stays}
 use Rattle.pearl_rules_laws.proofs.Planning.{plan_waits, begun_serves}
 use Rattle.pearl_rules_laws.proofs.Rows.{happened_join, occurred_is}
@@ -213,6 +213,15 @@ module _ (core : Core) (device t : ℕ) (row : TaskRow) (enabled : is_enabled co
   overrun_at near activation priority suspended active planned soon =
       told_at (event.Overrun t)
       (ap₂ (λ o mode. start_events t o mode) (starts_soon near activation planned soon) active)
+
+  pub late_at : core.moment < 2 ^ 64 → (activation : Activation) (priority : ℕ) (suspended : Bool) →
+      row.mode ≡ Active priority suspended → row.activation ≡ Some activation →
+      ServesAtOnce device activation.plan → IsToldLate core (arrived core (Irpt device)) t
+  late_at near activation priority suspended active planned soon = record {
+    late = event.Overrun t;
+    is_late = refl;
+    told = overrun_at near activation priority suspended active planned soon;
+  }
 
   pub later_at : (activation : Activation) → row.mode ≡ Dormant → row.activation ≡ Some activation →
       activation.plan.when ≡ Some device → 0 < activation.plan.after → mode_of (arrived core (Irpt device)) t ≡ Dormant

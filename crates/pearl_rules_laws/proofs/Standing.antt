@@ -3,6 +3,8 @@ use Rattle.std.proofs.Common.{◌≡◌, ◌≢◌, ◌↔◌, ℕ, zero, suc, �
 use Rattle.std.proofs.lemmas.Bool.{true≢false, ne_eqb, cases_lt}
 use Rattle.std.proofs.lemmas.List.{length_push, length-map}
 use Rattle.std.proofs.lemmas.Option.{slice_get-map}
+use Rattle.pearl_value.specs.declared.device.Device.{Device}
+use Rattle.pearl_value.specs.declared.device.Device.TheVariants as device
 use Rattle.pearl_rules.specs.declared.action.Action.{Action}
 use Rattle.pearl_rules.specs.declared.action.Action.TheVariants as action
 use Rattle.pearl_rules.specs.declared.event.Shown.TheVariants as shown
@@ -11,7 +13,8 @@ use Rattle.pearl_rules.specs.declared.row.Mode.TheVariants.{Dormant, Active}
 use Rattle.pearl_rules.specs.declared.row.TaskRow.{TaskRow}
 use Rattle.pearl_rules.specs.declared.setup.Setup.{Setup}
 use Rattle.pearl_rules.specs.declared.setup.TaskEntry.{TaskEntry}
-use Rattle.pearl_rules.specs.Core.{Core, Report, Shows, row_of, mode_of_row, mode_of, first_mode, first_row, opening}
+use Rattle.pearl_rules.specs.Core.{Core, Report, Shows, row_of, mode_of_row, mode_of, first_mode, first_row, first_channel, opening}
+use Rattle.pearl_rules.specs.Devices.{channel_of, is_on, is_enabled}
 use Rattle.pearl_rules.specs.Pick.{Offered, guard, is_possible, is_ready, is_ready_row, is_eligible, is_last_of, pick, shown_active, shown_mode, shown_row, shown_of, states_first, states}
 use Rattle.pearl_rules.proofs.Offered.{picked}
 use Rattle.pearl_rules_laws.specs.Laws.{CanAct, StandsAsDeclared, MayWait}
@@ -202,3 +205,13 @@ opens_task setup t task declared = record { main = λ is. begins true is; other 
 
 pub opens_length : (setup : Setup) → length (opening setup).tasks ≡ length setup.tasks
 opens_length setup = length-map setup.tasks first_row
+
+-- how a device stands
+pub opens_channel : (setup : Setup) (n : ℕ) (device : Device) → slice_get setup.devices n ≡ Some device →
+    channel_of (opening setup) n ≡ Some (first_channel device)
+opens_channel setup n device at = slice_get-map first_channel setup.devices n ∙ ap (option_map first_channel) at
+
+-- an interrupt is masked
+pub opens_masked : (setup : Setup) (n number : ℕ) → slice_get setup.devices n ≡ Some (device.Interrupt number) →
+    is_enabled (opening setup) n ≡ false
+opens_masked setup n number at = ap is_on (opens_channel setup n (device.Interrupt number) at)

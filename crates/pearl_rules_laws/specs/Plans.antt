@@ -19,7 +19,7 @@ use Rattle.pearl_rules.specs.Core.{Core, Report, Happened, Channel, Values, row_
 use Rattle.pearl_rules.specs.Plans.{time_at, planned, begun, waits_for, serves_if}
 use Rattle.pearl_rules.specs.Devices.{channel_of}
 use Rattle.pearl_rules.specs.Effect.{Effect, Ends, priority_or_declared}
-use Rattle.pearl_rules.specs.Laws.{happened_at}
+use Rattle.pearl_rules.specs.Laws.{happened_at, IsLate}
 
 -- TIME
 
@@ -59,6 +59,12 @@ pub record IsTold (old new : Core) (event : Event) : Type 0 where
   pub front : List (ℕ × Report)
   pub behind : List (ℕ × Report)
   pub told : new.told ≡ old.told ++ (front ++ (old.moment, Happened event) ∷ behind)
+
+-- and it tells what became of a start of a task that was active
+pub record IsToldLate (old new : Core) (t : ℕ) : Type 0 where
+  pub late : Event
+  pub is_late : IsLate t late
+  pub told : IsTold old new late
 
 -- ONE TASK
 

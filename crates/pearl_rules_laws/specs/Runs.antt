@@ -42,8 +42,8 @@ pub record KeepsHeard (before after : Source) : Type 0 where
 
 -- The next mark is the action that this task does after exactly the answers that it has heard. Its effect is the core
 -- then, and the answer that it hears is its newest. Any other that didn't end and is active then has heard the same.
--- One of which nothing was kept and that is active then has heard no answers, and nothing is kept of one that is
--- dormant then.
+-- One that ended, or of which nothing was kept, and that is active then has heard no answers, and nothing is kept of one
+-- that is dormant then.
 pub record DoesOneAction (offer : Supplier) (s : Source) (task : ℕ) : Type 0 where
   pub before : List Answer
   pub heard : kept_at s.heard task ≡ Some before
@@ -54,6 +54,8 @@ pub record DoesOneAction (offer : Supplier) (s : Source) (task : ℕ) : Type 0 w
       (Contains (effect s.core task (offer task before)).ended u → ⊥) →
       kept_at s.heard u ≡ Some answers → IsTrue (is_active (source_step offer s).core u) →
       kept_at (source_step offer s).heard u ≡ Some answers
+  pub anew : (u : ℕ) → Contains (effect s.core task (offer task before)).ended u →
+      IsTrue (is_active (source_step offer s).core u) → kept_at (source_step offer s).heard u ≡ Some []
   pub started : (u : ℕ) → kept_at s.heard u ≡ None → IsTrue (is_active (source_step offer s).core u) →
       kept_at (source_step offer s).heard u ≡ Some []
   pub dormant : (u : ℕ) → is_active (source_step offer s).core u ≡ false → kept_at (source_step offer s).heard u ≡ None

@@ -10,7 +10,7 @@ ghost use Rattle.pearl_rules.specs.declared.row.TaskRow.{TaskRow};
 ghost use Rattle.pearl_rules.specs.Core.{Core, row_of, mode_of};
 ghost use Rattle.pearl_rules.specs.Devices.{is_enabled, arrived};
 ghost use Rattle.pearl_rules.specs.Plans.{time_at, begun, continuation_of, activation_of};
-ghost use Rattle.pearl_rules_laws.specs.Plans.{ServesAtOnce, IsUntouchedBy, IsTold};
+ghost use Rattle.pearl_rules_laws.specs.Plans.{ServesAtOnce, IsUntouchedBy, IsTold, IsToldLate};
 
 /// `clock` says the time of day at moment 0, and changes nothing else.
 pub fn clocks_say_the_time_of_day()
@@ -39,6 +39,11 @@ pub fn interrupts_serve_those_that_wait()
         core.moment < 2 ^ 64 → (activation : Activation) (priority : ℕ) (suspended : Bool) →
         row.mode ≡ Active priority suspended → row.activation ≡ Some activation →
         ServesAtOnce device activation.plan → IsTold core (arrived core (Irpt device)) (event.Overrun t) }
+    ensures late { (core : Core) (device t : ℕ) (row : TaskRow) → is_enabled core device ≡ true →
+        row_of core t ≡ Some row →
+        core.moment < 2 ^ 64 → (activation : Activation) (priority : ℕ) (suspended : Bool) →
+        row.mode ≡ Active priority suspended → row.activation ≡ Some activation →
+        ServesAtOnce device activation.plan → IsToldLate core (arrived core (Irpt device)) t }
     ensures keeps { (core : Core) (device t : ℕ) (row : TaskRow) → is_enabled core device ≡ true →
         row_of core t ≡ Some row →
         (priority : ℕ) (suspended : Bool) → row.mode ≡ Active priority suspended →

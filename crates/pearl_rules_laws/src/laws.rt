@@ -6,6 +6,8 @@ ghost use Rattle.arrayvec.specs.ArrayVec.{ArrayVec};
 ghost use Rattle.pearl_value.specs.declared.cell.Cell.{Cell};
 ghost use Rattle.pearl_value.specs.declared.cell.Cell.TheVariants.{Clock};
 ghost use Rattle.pearl_value.specs.declared.kind.Kind.{Kind};
+ghost use Rattle.pearl_value.specs.declared.device.Device.TheVariants as device;
+ghost use Rattle.pearl_value.specs.declared.device.Direction.{Direction};
 ghost use Rattle.pearl_value.specs.declared.trap.Trap as traps;
 ghost use Rattle.pearl_rules.specs.Series.{fires_if};
 ghost use Rattle.pearl_rules.specs.declared.action.Action.{Action};
@@ -118,6 +120,14 @@ pub fn runs_open_as_declared()
     ensures counts { (setup : Setup) → (opening setup).counts ≡ setup.semaphores }
     ensures clock { (setup : Setup) → (opening setup).clock ≡ 0 }
     ensures channels { (setup : Setup) → (opening setup).channels ≡ map first_channel setup.devices }
+    ensures masked { (setup : Setup) (n number : ℕ) → slice_get setup.devices n ≡ Some (device.Interrupt number) →
+        is_enabled (opening setup) n ≡ false }
+    ensures no_bytes { (setup : Setup) (n number : ℕ) (direction : Direction) →
+        slice_get setup.devices n ≡ Some (device.Terminal number direction) →
+        channel_of (opening setup) n ≡ Some (Bytes []) }
+    ensures no_values { (setup : Setup) (n number : ℕ) (kind : Kind) →
+        slice_get setup.devices n ≡ Some (device.Input number kind) →
+        channel_of (opening setup) n ≡ Some (Values kind []) }
 {}
 
 /// Over `run` with picks left the next mark is an action of the task that acts next, and one pick fewer is left; with

@@ -30,6 +30,8 @@ pub fn plans_of_one_meaning_are_the_same()
     ensures this_time { (core : Core) (time : ℕ) (repeat : Repeat) → time < 86400000 → time_at core core.moment ≡ time →
         planned core (At time) repeat ≡ planned core Free repeat }
     ensures other_time { (time : ℕ) (repeat : Repeat) → written (At time) repeat ≡ written Free repeat }
+    ensures other_series { (core : Core) (time : ℕ) (repeat : Repeat) → planned core (At time) repeat
+        ≡ record (planned core Free repeat) { series = (planned core (At time) repeat).series } }
 {}
 
 /// A plan waits for an interrupt exactly where it is written with this one, without or with a time after it.

@@ -1,5 +1,5 @@
 use Rattle.pearl_rules.proofs.RunLaws.{step-entries}
-use Rattle.pearl_rules.proofs.MarkLaws.{step-passes, step-arrives, ticks_pass, ticks_leave}
+use Rattle.pearl_rules.proofs.MarkLaws.{step-acts, step-turns, step-tells, step-passes, step-arrives, ticks_pass, ticks_leave}
 use Rattle.pearl_rules.proofs.laws.marks_change_the_core.Goals as goal
 
 pub returns-clause-leaves : goal.returns-clause-leaves
@@ -16,3 +16,12 @@ returns-clause-tick_passes c = ticks_pass
 
 pub returns-clause-tick_leaves : goal.returns-clause-tick_leaves
 returns-clause-tick_leaves c = ticks_leave
+
+pub returns-clause-acts : goal.returns-clause-acts
+returns-clause-acts c = step-acts
+
+pub returns-clause-turns : goal.returns-clause-turns
+returns-clause-turns c = step-turns
+
+pub returns-clause-tells : goal.returns-clause-tells
+returns-clause-tells c = step-tells

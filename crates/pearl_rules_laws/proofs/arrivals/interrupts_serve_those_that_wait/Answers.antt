@@ -1,4 +1,4 @@
-use Rattle.pearl_rules_laws.proofs.Reaching.{goes_on_at, starts_at, overrun_at, keeps_at, begins_at, later_at, anew_at, untouched_at}
+use Rattle.pearl_rules_laws.proofs.Reaching.{goes_on_at, starts_at, overrun_at, late_at, keeps_at, begins_at, later_at, anew_at, untouched_at}
 use Rattle.pearl_rules_laws.proofs.arrivals.interrupts_serve_those_that_wait.Goals as goal
 
 pub returns-clause-goes_on : goal.returns-clause-goes_on
@@ -24,3 +24,6 @@ returns-clause-anew c = anew_at
 
 pub returns-clause-others : goal.returns-clause-others
 returns-clause-others c = untouched_at
+
+pub returns-clause-late : goal.returns-clause-late
+returns-clause-late c = late_at

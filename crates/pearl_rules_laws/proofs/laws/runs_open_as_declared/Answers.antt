@@ -1,5 +1,6 @@
 use Rattle.std.proofs.Common.{refl}
-use Rattle.pearl_rules_laws.proofs.Standing.{opens_task, opens_length}
+use Rattle.pearl_value.specs.declared.device.Device.TheVariants as device
+use Rattle.pearl_rules_laws.proofs.Standing.{opens_task, opens_length, opens_masked, opens_channel}
 use Rattle.pearl_rules_laws.proofs.laws.runs_open_as_declared.Goals as goal
 
 pub returns-clause-tasks : goal.returns-clause-tasks
@@ -25,3 +26,12 @@ returns-clause-clock c = λ setup. refl
 
 pub returns-clause-channels : goal.returns-clause-channels
 returns-clause-channels c = λ setup. refl
+
+pub returns-clause-masked : goal.returns-clause-masked
+returns-clause-masked c = opens_masked
+
+pub returns-clause-no_bytes : goal.returns-clause-no_bytes
+returns-clause-no_bytes c = λ setup n number direction at. opens_channel setup n (device.Terminal number direction) at
+
+pub returns-clause-no_values : goal.returns-clause-no_values
+returns-clause-no_values c = λ setup n number kind at. opens_channel setup n (device.Input number kind) at

@@ -10,3 +10,6 @@ returns-clause-this_time c = planned_at_this_time
 
 pub returns-clause-other_time : goal.returns-clause-other_time
 returns-clause-other_time c = λ time repeat. refl
+
+pub returns-clause-other_series : goal.returns-clause-other_series
+returns-clause-other_series c = λ core time repeat. refl
