@@ -1,1 +1,2 @@
 mod BestLaws
+mod RowLaws

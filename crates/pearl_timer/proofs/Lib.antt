@@ -1,2 +1,5 @@
 mod NextMoments
 mod TimetableLaws
+mod PlaceLaws
+mod WheelLaws
+mod KeptLaws

@@ -3,4 +3,6 @@
 
 pub mod laws;
 mod next;
+mod places;
 pub mod timer;
+mod wheel;

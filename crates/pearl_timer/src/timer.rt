@@ -1,13 +1,19 @@
 // The series that are kept of tasks, and when one of them fires.
 
-ghost use Rattle.std.specs.Prelude.{◌≡◌, ◌<◌, List, Option, Some, None, IfOk, MatchOption, length, replicate};
+ghost use Rattle.std.specs.Prelude.{◌≡◌, ◌<◌, ◌≤◌, ◌||◌, List, Option, Some, None, IfOk, MatchOption, length, replicate, slice_set};
 ghost use Rattle.pearl_timer.specs.Next.{IsNext, NoneIsNext, earlier};
 ghost use Rattle.pearl_timer.specs.Timetable.{Timetable, FiresIn, IsDue, changed, due, of_kind};
+ghost use Rattle.pearl_timer.specs.Kept.{both, FiresOf, IsKept, near, is_far};
+ghost use Rattle.pearl_timer.specs.Wheel.{Moments, EachMoment};
 
 use crate::next::next_after;
+use crate::wheel::Wheel;
 use pearl_rules::series::Series;
 use std::alloc::{AllocError as NoMemory, Global};
 use std::marker::Model;
+
+// From this moment on the wheel keeps none.
+const FAR: u64 = 1 << 42;
 
 /// Which plan of a task a series belongs to.
 #[derive(Clone, Copy, PartialEq, Eq, Debug)]
@@ -22,25 +28,38 @@ pub enum Which {
 pub struct Timer {
     continuations: Vec<Option<Series>>,
     activations: Vec<Option<Series>>,
+    // The next moment of each series, below 2^42: of a continuation under its task's number, of an activation 200 above.
+    wheel: Wheel,
+    // Whether some series may fire at 2^42 or later.
+    far: bool,
 }
 
 impl Model for Timer {
+    ghost use Rattle.pearl_timer.specs.Timetable.{Timetable};
+    ghost use Rattle.pearl_timer.specs.Kept.{both, IsKept};
+
     ghost Value = { Timetable };
 
     ghost view = { λ t. record { continuations = t.continuations.items; activations = t.activations.items } };
+
+    ghost invariant = { λ t. IsKept (both t.continuations.items t.activations.items) t.wheel t.far };
 }
 
 impl Timer {
     /// A timer for so many tasks, of which no series is kept. It takes all the memory that it will ever need.
     pub fn new(alloc: Global, tasks: usize) -> Result<Timer, NoMemory>
+        requires { tasks ≤ 200 }
         ensures { IfOk result (λ t.
             t ≡ record { continuations = replicate tasks None; activations = replicate tasks None }) }
     {
         let continuations = none_kept(alloc, tasks)?;
         let activations = none_kept(alloc, tasks)?;
+        let wheel = Wheel::new(alloc, 400)?;
         Ok(Timer {
             continuations,
             activations,
+            wheel,
+            far: false,
         })
     }
 
@@ -49,9 +68,16 @@ impl Timer {
         requires { task < length (of_kind which self.old) }
         ensures { self.new ≡ changed self.old task which (Some series) }
     {
+        let next = next_after(series, self.wheel.elapsed());
         match which {
-            Which::Continuation => self.continuations[task] = Some(series),
-            Which::Activation => self.activations[task] = Some(series),
+            Which::Continuation => {
+                self.continuations[task] = Some(series);
+                keep(&mut self.wheel, &mut self.far, task, next);
+            }
+            Which::Activation => {
+                self.activations[task] = Some(series);
+                keep(&mut self.wheel, &mut self.far, task + 200, next);
+            }
         }
     }
 
@@ -61,8 +87,14 @@ impl Timer {
         ensures { self.new ≡ changed self.old task which None }
     {
         match which {
-            Which::Continuation => self.continuations[task] = None,
-            Which::Activation => self.activations[task] = None,
+            Which::Continuation => {
+                self.continuations[task] = None;
+                self.wheel.clear(task);
+            }
+            Which::Activation => {
+                self.activations[task] = None;
+                self.wheel.clear(task + 200);
+            }
         }
     }
 
@@ -81,16 +113,122 @@ impl Timer {
         }
     }
 
-    /// The least later moment at which a kept series fires. It looks at each series once. It changes none: it takes
-    /// `&mut` for the sake of a timer that finds them sooner by noting how far it has come.
+    /// The least later moment at which a kept series fires. It changes none: it notes how far it has come, and finds the
+    /// moment the sooner for it. Where it has come further before, it looks at each series once.
     pub fn next_due(&mut self, after: u64) -> Option<u64>
         ensures next { MatchOption result (NoneIsNext (IsDue self.old) after) (IsNext (IsDue self.old) after) }
         ensures same { self.new ≡ self.old }
     {
-        let continuation = next_in(self.continuations.as_slice(), after);
-        let activation = next_in(self.activations.as_slice(), after);
-        earlier(continuation, activation)
+        let continuations = self.continuations.as_slice();
+        let activations = self.activations.as_slice();
+        if after < self.wheel.elapsed() {
+            return scan(continuations, activations, after);
+        }
+        move_on(
+            &mut self.wheel,
+            &mut self.far,
+            continuations,
+            activations,
+            after,
+        );
+        soonest(&self.wheel, self.far, continuations, activations, after)
     }
+}
+
+// Keeps the next moment of a series, or notes that it is far.
+fn keep(wheel: &mut Wheel, far: &mut bool, key: usize, next: Option<u64>)
+    requires { key < length wheel.old.moments }
+    ensures wheel { wheel.new ≡ record wheel.old { moments = slice_set wheel.old.moments key (near next) } }
+    ensures far { far.new ≡ (is_far next || far.old) }
+{
+    match next {
+        None => wheel.clear(key),
+        Some(moment) => {
+            if moment < FAR {
+                wheel.set(key, moment);
+            } else {
+                wheel.clear(key);
+                *far = true;
+            }
+        }
+    }
+}
+
+// The next moment of the series of a key.
+fn next_of(
+    continuations: &[Option<Series>],
+    activations: &[Option<Series>],
+    key: usize,
+    after: u64,
+) -> Option<u64>
+    ensures { let timetable : Timetable = both continuations.now activations.now in
+        MatchOption result (NoneIsNext (FiresOf timetable key) after) (IsNext (FiresOf timetable key) after) }
+{
+    let series = if key < 200 {
+        continuations.get(key)
+    } else {
+        activations.get(key - 200)
+    };
+    match series {
+        Some(Some(series)) => next_after(*series, after),
+        _ => None,
+    }
+}
+
+// Moves the wheel on, and keeps the next moment of each series.
+fn move_on(
+    wheel: &mut Wheel,
+    far: &mut bool,
+    continuations: &[Option<Series>],
+    activations: &[Option<Series>],
+    after: u64,
+)
+    requires forward { wheel.old.elapsed ≤ after }
+    requires kept { IsKept (both continuations.now activations.now) wheel.old far.old }
+    ensures kept { IsKept (both continuations.now activations.now) wheel.new far.new }
+    ensures reached { wheel.new.elapsed ≡ after }
+    ensures ahead { EachMoment wheel.new (λ when. after < when) }
+{
+    while let Some(key) = wheel.poll(after) {
+        let next = next_of(continuations, activations, key, after);
+        keep(wheel, far, key, next);
+    }
+}
+
+// The next moment of all, where the wheel has come to the moment that it is to follow.
+fn soonest(
+    wheel: &Wheel,
+    far: bool,
+    continuations: &[Option<Series>],
+    activations: &[Option<Series>],
+    after: u64,
+) -> Option<u64>
+    requires kept { IsKept (both continuations.now activations.now) wheel.now far }
+    requires reached { wheel.now.elapsed ≡ after }
+    requires ahead { EachMoment wheel.now (λ when. after < when) }
+    ensures { let timetable : Timetable = both continuations.now activations.now in
+        MatchOption result (NoneIsNext (IsDue timetable) after) (IsNext (IsDue timetable) after) }
+{
+    match wheel.least() {
+        Some(next) => Some(next),
+        None => {
+            if far {
+                scan(continuations, activations, after)
+            } else {
+                None
+            }
+        }
+    }
+}
+
+// The next moment of all, by a look at each series.
+fn scan(continuations: &[Option<Series>], activations: &[Option<Series>], after: u64) -> Option<u64>
+    ensures { let timetable : Timetable = both continuations.now activations.now in
+        MatchOption result (NoneIsNext (IsDue timetable) after) (IsNext (IsDue timetable) after) }
+{
+    let continuation = next_in(continuations, after);
+    let activation = next_in(activations, after);
+    earlier(continuation, activation)
 }
 
 fn none_kept(alloc: Global, tasks: usize) -> Result<Vec<Option<Series>>, NoMemory>

@@ -1,0 +1,2 @@
+mod BitsLaws
+pub mod Offered
