@@ -21,12 +21,12 @@ use Rattle.pearl_kernel.specs.declared.changes.Changed.{Changed}
 use Rattle.pearl_kernel.specs.declared.changes.Changed.TheVariants.{Nothing}
 use Rattle.pearl_kernel.specs.Changes.{ChangesOnly, Stirs, renewed, IsRenewedAt, AreRenewed, AreRenewedIf}
 use Rattle.pearl_kernel.specs.declared.changes.Touched.{Touched}
-use Rattle.pearl_kernel.specs.declared.changes.Touched.TheVariants.{Own, Other, All}
-use Rattle.pearl_kernel.specs.Touched.{IsUntouched, changed_by, Leaves, IsThere, IsRenewed}
+use Rattle.pearl_kernel.specs.declared.changes.Touched.TheVariants.{Own, Other, Waiters, All}
+use Rattle.pearl_kernel.specs.Touched.{IsUntouched, KeepsOthers, changed_by, Leaves, IsThere, IsRenewed}
 use Rattle.pearl_kernel.proofs.Lawful.{lawful-after}
 use Rattle.pearl_kernel.proofs.Naming.{names-all}
 use Rattle.pearl_kernel.proofs.Places.{kept-other, some-before, some-dropped}
-use Rattle.pearl_kernel.proofs.Entries.{possible-same, entry-same, renewed-is}
+use Rattle.pearl_kernel.proofs.Entries.{possible-same, possible-unless, entry-same, renewed-is}
 
 -- WHAT IS PICKED CAN BE DONE
 
@@ -74,12 +74,12 @@ stand_of k s size set_size each = record {
   ready = record { size = set_size; each = λ t there. (each t there).1 };
 }
 
--- neither its row nor its offer changes, nor what the offer waits for
+-- neither its row nor its offer changes, nor whether that can be done
 stays : (k new : Kept) (s after : Stand) (t : ℕ) → row_of new.core t ≡ row_of k.core t → offered new t ≡ offered k t →
-    ChangesOnly Nothing k.core new.core → IsSameAt s after t → StandsSo k s t → StandsSo new after t
-stays k new s after t row offer only same so = (
-  same.able ∙ so.0 ∙ ap (λ b. Some b) (sym (possible-same k new t offer only)),
-  same.set ∙ so.1 ∙ ap (λ e. Some e) (sym (entry-same k new t row offer only)),
+    possible new t ≡ possible k t → IsSameAt s after t → StandsSo k s t → StandsSo new after t
+stays k new s after t row offer able same so = (
+  same.able ∙ so.0 ∙ ap (λ b. Some b) (sym able),
+  same.set ∙ so.1 ∙ ap (λ e. Some e) (sym (entry-same k new t row able)),
 )
 
 -- it is renewed
@@ -102,6 +102,7 @@ still-of setup k new s before lawful kept =
     record {
       few = subst (λ n. n ≤ 200) size kept.few;
       size = kept.stand.size ∙ size;
+      same = lawful.same;
       names = names-all setup new lawful;
     }
 
@@ -111,13 +112,18 @@ pub there-after : (k new : Kept) (touched : Touched) → length new.core.tasks �
     IsThere k.core touched → IsThere new.core touched
 there-after k new Own same there = tt
 there-after k new (Other u) same there = subst (λ n. u < n) (sym same) there
+there-after k new (Waiters list) same there = tt
 there-after k new (All changed) same there = tt
 
-nothing_changed : (touched : Touched) (t : ℕ) (old core : Core) → IsUntouched touched t →
-    ChangesOnly (changed_by touched) old core → ChangesOnly Nothing old core
-nothing_changed Own t old core far only = only
-nothing_changed (Other u) t old core far only = only
-nothing_changed (All changed) t old core far only = absurd far
+-- a task that isn't touched stands as before
+left_so : (k new : Kept) (s after : Stand) (touched : Touched) (t : ℕ) → IsUntouched new touched t →
+    ChangesOnly (changed_by touched) k.core new.core → KeepsOthers touched k.core new.core →
+    row_of new.core t ≡ row_of k.core t → offered new t ≡ offered k t → IsSameAt s after t → StandsSo k s t →
+    StandsSo new after t
+left_so k new s after Own t far only kept row offer same so = stays k new s after t row offer (possible-same k new t offer only) same so
+left_so k new s after (Other u) t far only kept row offer same so = stays k new s after t row offer (possible-same k new t offer only) same so
+left_so k new s after (Waiters list) t far only kept row offer same so = stays k new s after t row offer (possible-unless k new list.items t far only kept offer) same so
+left_so k new s after (All changed) t far only kept row offer same so = absurd far
 
 pub kept-after : (setup : Setup) (k : Kept) (s after : Stand) (own : ℕ) (a : Action) (touched : Touched) →
     IsLawful setup k → IsLawful setup (done k own a) → IsWhole k s →
@@ -140,7 +146,7 @@ kept-after setup k s after own a touched before lawful kept leaving renewed =
     only = leaving.only
 
     by_each : (t : ℕ) → t < length k.core.tasks →
-        IsRenewedAt new (changed_by touched) s after t ⊎ ((t ≢ own) × IsUntouched touched t × IsSameAt s after t) →
+        IsRenewedAt new (changed_by touched) s after t ⊎ ((t ≢ own) × IsUntouched new touched t × IsSameAt s after t) →
         StandsSo new after t
     by_each t there (inl is) =
         renews (changed_by touched) k new s after t only
@@ -149,8 +155,7 @@ kept-after setup k s after own a touched before lawful kept leaving renewed =
         (stood k s t kept there) is
     by_each t there (inr same) =
         let left = leaving.others t same.0 same.1 in
-        stays k new s after t left.0 (left.1 ∙ kept-other k.offers own t None same.0)
-        (nothing_changed touched t k.core new.core same.1 only) same.2
+        left_so k new s after touched t same.1 only leaving.kept left.0 (left.1 ∙ kept-other k.offers own t None same.0) same.2
         (stood k s t kept there)
 
 -- what became of the offers and then of the core
@@ -190,7 +195,8 @@ kept-same setup k new s lawful tasks offers only kept =
       few = subst (λ n. n ≤ 200) (sym size) kept.few;
       lawful = (setup, lawful);
       stand = stand_of new s (kept.stand.size ∙ sym size) (kept.stand.ready.size ∙ sym size)
-          (λ t there. stays k new s s t (ap (λ rows. slice_get rows t) tasks) (ap (λ xs. kept_at xs t) offers) only
+          (λ t there. stays k new s s t (ap (λ rows. slice_get rows t) tasks) (ap (λ xs. kept_at xs t) offers)
+          (possible-same k new t (ap (λ xs. kept_at xs t) offers) only)
           (record { able = refl; set = refl }) (stood k s t kept (subst (λ n. t < n) size there)));
     }
 

@@ -8,17 +8,20 @@ use Rattle.pearl_rules.specs.declared.action.Action.{Action}
 use Rattle.pearl_rules.specs.declared.action.Action.TheVariants as action
 use Rattle.pearl_rules.specs.declared.setup.Setup.{Setup}
 use Rattle.pearl_rules.specs.Core.{Core, row_of}
-use Rattle.pearl_rules.specs.Counts.{all_free}
+use Rattle.pearl_rules.specs.Counts.{all_free, count_at}
 use Rattle.pearl_rules.specs.Devices.{bytes_at, items_of}
 use Rattle.pearl_rules.specs.Pick.{guard, is_complete, is_some_value, is_ready_row, is_possible, priority_of_row}
 use Rattle.pearl_rules.specs.Runs.{flattened, kept_at}
 use Rattle.pearl_rules.specs.Scan.{scan}
 use Rattle.pearl_rules.specs.Tables.{items_or_none}
 use Rattle.pearl_kernel.specs.declared.changes.Changed.{Changed}
-use Rattle.pearl_kernel.specs.declared.changes.Changed.TheVariants.{Nothing}
+use Rattle.pearl_kernel.specs.declared.changes.Changed.TheVariants.{Nothing, Counts}
 use Rattle.pearl_kernel.specs.Kept.{Kept, offered, IsLawful}
 use Rattle.pearl_kernel.specs.Eligible.{possible, number_if, entry, Stand, is_told, able_at, IsStandOf}
 use Rattle.pearl_kernel.specs.Changes.{ChangesOnly, looks_at, renewed_offer, renewed}
+use Rattle.pearl_kernel.specs.Requests.{requested, WaitsForOne}
+use Rattle.pearl_kernel.proofs.Requesting.{free-same, requests-named}
+use Rattle.pearl_sema.specs.Waiting.{names}
 
 -- WHAT OFFERS WAIT FOR
 
@@ -50,13 +53,39 @@ pub possible-same : (k new : Kept) (t : ℕ) → offered new t ≡ offered k t �
     possible new t ≡ possible k t
 possible-same k new t offer only = offer_same k.core new.core (offered new t) only ∙ ap (λ o. is_possible k.core o) offer
 
--- the same row, the same offer, and what guards look at is the same
-pub entry-same : (k new : Kept) (t : ℕ) → row_of new.core t ≡ row_of k.core t → offered new t ≡ offered k t →
-    ChangesOnly Nothing k.core new.core → entry new t ≡ entry k t
-entry-same k new t row offer only =
+-- counts that change, where the offer waits for none of these semaphores
+pub possible-unless : (k new : Kept) (list : List ℕ) (t : ℕ) → (WaitsForOne new.offers list t → ⊥) →
+    ChangesOnly Counts k.core new.core →
+    ((semaphore : ℕ) → names list semaphore ≡ false → count_at new.core.counts semaphore ≡ count_at k.core.counts semaphore) →
+    offered new t ≡ offered k t → possible new t ≡ possible k t
+possible-unless k new list t far only kept offer =
+    by_offer (offered new t) refl ∙ ap (λ o. is_possible k.core o) offer
+  where
+    by_name : (semaphore : ℕ) → names (requested (offered new t)) semaphore ≡ true → (named : Bool) →
+        names list semaphore ≡ named → count_at new.core.counts semaphore ≡ count_at k.core.counts semaphore
+    by_name semaphore waits true is = absurd (far (record {
+      semaphore = semaphore;
+      named = is;
+      waits = requests-named new.offers semaphore t waits;
+    }))
+    by_name semaphore waits false is = kept semaphore is
+
+    by_offer : (offer : Option Action) → offered new t ≡ offer → is_possible new.core offer ≡ is_possible k.core offer
+    by_offer None e = refl
+    by_offer (Some (action.Request asked)) e = free-same k.core.counts new.core.counts asked.items
+        (λ semaphore named. by_name semaphore (ap (λ o. names (requested o) semaphore) e ∙ named)
+        (names list semaphore) refl)
+    by_offer (Some (action.Get d format kinds)) e =
+        guard_same Counts k.core new.core (action.Get d format kinds) only refl
+    by_offer (Some (action.Take d)) e = guard_same Counts k.core new.core (action.Take d) only refl
+    by_offer (Some other) e = refl
+
+-- the same row, and whether the offer can be done is the same
+pub entry-same : (k new : Kept) (t : ℕ) → row_of new.core t ≡ row_of k.core t → possible new t ≡ possible k t →
+    entry new t ≡ entry k t
+entry-same k new t row able =
     ap (λ r. number_if (is_ready_row r (possible new t)) (priority_of_row r)) row
-    ∙ ap (λ b. number_if (is_ready_row (row_of k.core t) b) (priority_of_row (row_of k.core t)))
-    (possible-same k new t offer only)
+    ∙ ap (λ b. number_if (is_ready_row (row_of k.core t) b) (priority_of_row (row_of k.core t))) able
 
 -- WHAT IS RENEWED
 
@@ -78,14 +107,19 @@ renewed-is changed k new t only offers = by_offer (offered new t) offers
         ap (λ b. if looks_at changed a then guard new.core a else b) (ap (λ o. is_possible k.core o) (offers a refl))
         ∙ renewed_action changed k.core new.core a (looks_at changed a) refl only
 
-offer_twice : (core : Core) (offer : Option Action) (before : Bool) →
-    renewed_offer Nothing core offer (renewed_offer Nothing core offer before) ≡ renewed_offer Nothing core offer before
-offer_twice core None before = refl
-offer_twice core (Some a) before =
-    ap (λ (b : Bool). if b then guard core a else renewed_offer Nothing core (Some a) before) (nothing_looked a)
+offer_twice : (changed : Changed) (core : Core) (offer : Option Action) (before : Bool) →
+    renewed_offer changed core offer (renewed_offer changed core offer before) ≡ renewed_offer changed core offer before
+offer_twice changed core None before = refl
+offer_twice changed core (Some a) before = by_look (looks_at changed a)
+  where
+    by_look : (looks : Bool) → (if looks then guard core a else (if looks then guard core a else before))
+        ≡ (if looks then guard core a else before)
+    by_look true = refl
+    by_look false = refl
 
-pub renewed-twice : (k : Kept) (t : ℕ) (before : Bool) → renewed Nothing k t (renewed Nothing k t before) ≡ renewed Nothing k t before
-renewed-twice k t before = offer_twice k.core (offered k t) before
+pub renewed-twice : (changed : Changed) (k : Kept) (t : ℕ) (before : Bool) →
+    renewed changed k t (renewed changed k t before) ≡ renewed changed k t before
+renewed-twice changed k t before = offer_twice changed k.core (offered k t) before
 
 -- WHAT IS KEPT
 

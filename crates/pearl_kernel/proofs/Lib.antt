@@ -6,6 +6,7 @@ mod Passing
 mod OneTask
 mod Naming
 mod Waiting
+mod Requesting
 mod Entries
 mod Changing
 mod Touching

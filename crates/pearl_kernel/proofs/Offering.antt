@@ -80,7 +80,7 @@ kept-offering setup k s task a there lawful kept = record {
           (λ same. subst (λ u. slice_get (noted new task able s).set u ≡ Some (entry new u)) (sym same)
           (get-same s.set task (entry new task) (subst (λ n. task < n) (sym kept.stand.ready.size) there)))
           (λ other. get-other s.set task t (entry new task) other ∙ kept.stand.ready.each t within
-          ∙ ap (λ e. Some e) (sym (entry-same k new t refl (stays t other) (unchanged k.core))));
+          ∙ ap (λ e. Some e) (sym (entry-same k new t refl (possible-same k new t (stays t other) (unchanged k.core)))));
     };
   };
 }

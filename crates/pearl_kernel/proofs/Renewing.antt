@@ -1,12 +1,16 @@
 -- What is kept of the tasks after it was renewed.
-use Rattle.std.proofs.Common.{◌≡◌, ℕ, ◌<◌, ◌≤◌, ◌+◌, inl, inr, Bool, Some, length, slice_get}
-use Rattle.std.proofs.Common.{sym, ap, subst, ◌∙◌, length-set, arith}
+use Rattle.std.proofs.Common.{◌≡◌, ◌≢◌, ℕ, suc, ◌<◌, ◌≤◌, ◌+◌, ◌-◌, ◌⊎◌, inl, inr, Bool, List, Option, Some, None}
+use Rattle.arrayvec.specs.ArrayVec.{ArrayVec}
+use Rattle.std.proofs.Common.{length, slice_get, slice_index, refl, sym, ap, subst, ◌∙◌, length-set, arith}
 use Rattle.pearl_kernel.specs.declared.changes.Changed.{Changed}
-use Rattle.pearl_kernel.specs.declared.changes.Changed.TheVariants.{Nothing}
-use Rattle.pearl_kernel.specs.declared.changes.Touched.TheVariants.{Own, Other}
+use Rattle.pearl_kernel.specs.declared.changes.Changed.TheVariants.{Nothing, Counts}
+use Rattle.pearl_kernel.specs.declared.changes.Touched.TheVariants.{Own, Other, Waiters}
+use Rattle.pearl_sema.specs.Waiting.{Waits, IsBehind, IsNext}
+use Rattle.pearl_sema.proofs.Offered.{place_of_named}
 use Rattle.pearl_kernel.specs.Kept.{Kept}
 use Rattle.pearl_kernel.specs.Eligible.{entry_if, Stand, is_told, able_at, noted, IsSameAt}
-use Rattle.pearl_kernel.specs.Changes.{renewed, IsRenewedAt, Renews}
+use Rattle.pearl_kernel.specs.Changes.{renewed, IsRenewedAt, Renews, AreRenewedBut}
+use Rattle.pearl_kernel.specs.Requests.{requests, WaitsForOne}
 use Rattle.pearl_kernel.specs.Touched.{IsRenewed}
 use Rattle.pearl_kernel.proofs.Places.{by_task, get-same, get-other}
 use Rattle.pearl_kernel.proofs.Entries.{renewed-twice}
@@ -56,6 +60,121 @@ renewed_of k changed first s new t e is = record {
   able = is.able ∙ ap (λ b. Some b) e;
   set = is.set ∙ ap (λ b. Some (entry_if k t b)) e;
 }
+
+-- WHERE SOME MAY BE LEFT
+
+-- what was renewed, or is as before, and is renewed then
+renewed_then : (k : Kept) (changed : Changed) (MayBeLeft : ℕ → Type 0) (first s new : Stand) (t : ℕ) →
+    IsRenewedAt k changed first s t ⊎ (MayBeLeft t × IsSameAt first s t) → IsRenewedAt k changed s new t →
+    IsRenewedAt k changed first new t
+renewed_then k changed MayBeLeft first s new t (inl was) is = renewed_of k changed first s new t
+    (ap (λ o. renewed changed k t (is_told o)) was.able ∙ renewed-twice changed k t (able_at first t)) is
+renewed_then k changed MayBeLeft first s new t (inr same) is = renewed_of k changed first s new t
+    (ap (λ o. renewed changed k t (is_told o)) same.1.able) is
+
+-- what two steps leave
+pub renewed-both : (k : Kept) (changed : Changed) (First Next : ℕ → Type 0) (first s new : Stand) →
+    AreRenewedBut k changed First first s → AreRenewedBut k changed Next s new →
+    AreRenewedBut k changed (λ t. First t × Next t) first new
+renewed-both k changed First Next first s new before after = record {
+  size = after.size ∙ before.size;
+  set_size = after.set_size ∙ before.set_size;
+  each = λ t. by_each t (before.each t) (after.each t);
+}
+  where
+    by_each : (t : ℕ) → IsRenewedAt k changed first s t ⊎ (First t × IsSameAt first s t) →
+        IsRenewedAt k changed s new t ⊎ (Next t × IsSameAt s new t) →
+        IsRenewedAt k changed first new t ⊎ ((First t × Next t) × IsSameAt first new t)
+    by_each t was (inl is) = inl (renewed_then k changed First first s new t was is)
+    by_each t (inl was) (inr same) = inl (renewed_still k changed first s new t was same.1)
+    by_each t (inr left) (inr same) = inr (
+      (left.0, same.0),
+      record {
+        able = same.1.able ∙ left.1.able;
+        set = same.1.set ∙ left.1.set;
+      },
+    )
+
+-- one step leaves all but its task
+pub renewed-but : (k : Kept) (changed : Changed) (u : ℕ) (s new : Stand) → Renews k changed u s new →
+    AreRenewedBut k changed (λ t. t ≢ u) s new
+renewed-but k changed u s new renews = record {
+  size = renews.size;
+  set_size = renews.set_size;
+  each = λ t. by_task t u _
+      (λ same. inl (subst (λ v. IsRenewedAt k changed s new v) (sym same) renews.here))
+      (λ other. inr (other, renews.others t other));
+}
+
+pub renewed-less : (k : Kept) (changed : Changed) (MayBeLeft Less : ℕ → Type 0) (s new : Stand) →
+    ((t : ℕ) → MayBeLeft t → Less t) → AreRenewedBut k changed MayBeLeft s new → AreRenewedBut k changed Less s new
+renewed-less k changed MayBeLeft Less s new less are = record {
+  size = are.size;
+  set_size = are.set_size;
+  each = λ t. by_each t (are.each t);
+}
+  where
+    by_each : (t : ℕ) → IsRenewedAt k changed s new t ⊎ (MayBeLeft t × IsSameAt s new t) →
+        IsRenewedAt k changed s new t ⊎ (Less t × IsSameAt s new t)
+    by_each t (inl is) = inl is
+    by_each t (inr left) = inr (less t left.0, left.1)
+
+pub none-renewed : (k : Kept) (changed : Changed) (MayBeLeft : ℕ → Type 0) (s : Stand) → ((t : ℕ) → MayBeLeft t) →
+    AreRenewedBut k changed MayBeLeft s s
+none-renewed k changed MayBeLeft s all = record {
+  size = refl;
+  set_size = refl;
+  each = λ t. inr (all t, record { able = refl; set = refl });
+}
+
+-- WAITERS
+
+-- those who wait and don't come behind this task are renewed
+abbrev pub IsBehindIfWaiting : Kept → ℕ → Option ℕ → ℕ → Type 0
+IsBehindIfWaiting k semaphore after t = Waits (requests k.offers) semaphore t → IsBehind after t
+
+-- how many tasks come behind
+abbrev pub left_behind : ℕ → Option ℕ → ℕ
+left_behind tasks None = suc tasks
+left_behind tasks (Some t) = tasks - t
+
+pub fewer-left : (tasks : ℕ) (after : Option ℕ) (t : ℕ) → IsBehind after t → t < tasks →
+    left_behind tasks (Some t) < left_behind tasks after
+fewer-left tasks None t behind there = omega arith
+fewer-left tasks (Some u) t behind there = omega arith
+
+-- one more of those who wait is renewed
+pub waiter-renewed : (k : Kept) (semaphore : ℕ) (after : Option ℕ) (t : ℕ) (first s new : Stand) →
+    IsNext (requests k.offers) semaphore after t → AreRenewedBut k Counts (IsBehindIfWaiting k semaphore after) first s →
+    Renews k Counts t s new → AreRenewedBut k Counts (IsBehindIfWaiting k semaphore (Some t)) first new
+waiter-renewed k semaphore after t first s new next before renews =
+    renewed-less k Counts _ (IsBehindIfWaiting k semaphore (Some t)) first new
+    (λ u left waits. let up = next.first u (left.0 waits) waits in let other = left.1 in omega (arith, up, other))
+    (renewed-both k Counts (IsBehindIfWaiting k semaphore after) (λ u. u ≢ t) first s new before
+    (renewed-but k Counts t s new renews))
+
+-- those who wait for one of the first n semaphores of a list are renewed
+abbrev pub WaitsForNone : Kept → List ℕ → ℕ → ℕ → Type 0
+WaitsForNone k list n t = (i : ℕ) → i < n → Waits (requests k.offers) (slice_index list i) t → ⊥
+
+pub semaphore-renewed : (k : Kept) (list : List ℕ) (n : ℕ) (first s new : Stand) →
+    AreRenewedBut k Counts (WaitsForNone k list n) first s →
+    AreRenewedBut k Counts (λ t. Waits (requests k.offers) (slice_index list n) t → ⊥) s new →
+    AreRenewedBut k Counts (WaitsForNone k list (n + 1)) first new
+semaphore-renewed k list n first s new before after =
+    renewed-less k Counts _ (WaitsForNone k list (n + 1)) first new
+    (λ t left i less. by_task i n _
+    (λ same. subst (λ i. Waits (requests k.offers) (slice_index list i) t → ⊥) (sym same) left.1)
+    (λ other. left.0 i (omega (arith, less, other))))
+    (renewed-both k Counts (WaitsForNone k list n) (λ t. Waits (requests k.offers) (slice_index list n) t → ⊥)
+    first s new before after)
+
+pub all-renewed : (k : Kept) (list : List ℕ) (s new : Stand) →
+    AreRenewedBut k Counts (WaitsForNone k list (length list)) s new →
+    AreRenewedBut k Counts (λ t. WaitsForOne k.offers list t → ⊥) s new
+all-renewed k list s new are = renewed-less k Counts (WaitsForNone k list (length list)) _ s new
+    (λ t left one. let found = place_of_named list one.semaphore one.named in
+    left found.0 found.1 (subst (λ u. Waits (requests k.offers) u t) (sym found.2) one.waits)) are
 
 -- TASK BY TASK
 
@@ -109,8 +228,28 @@ touched-other k own u s mid new first last = record {
     known = by_task own u _
         (λ same. ap (λ o. renewed Nothing k own (is_told o))
         (subst (λ v. IsRenewedAt k Nothing s mid v) (sym same) first.here).able
-        ∙ renewed-twice k own (able_at s own))
+        ∙ renewed-twice Nothing k own (able_at s own))
         (λ other. ap (λ o. renewed Nothing k own (is_told o)) (first.others own other).able)
 
     both : {t : ℕ} → IsSameAt mid new t → IsSameAt s mid t → IsSameAt s new t
     both a b = record { able = a.able ∙ b.able; set = a.set ∙ b.set }
+
+pub touched-waiters : (k : Kept) (own : ℕ) (list : ArrayVec ℕ) (s mid new : Stand) →
+    AreRenewedBut k Counts (λ t. WaitsForOne k.offers list.items t → ⊥) s mid → Renews k Counts own mid new →
+    IsRenewed k own (Waiters list) s new
+touched-waiters k own list s mid new each last = record {
+  size = are.size;
+  set_size = are.set_size;
+  each = λ t within. by_each t (are.each t);
+}
+  where
+    None_waits : ℕ → Type 0
+    None_waits t = WaitsForOne k.offers list.items t → ⊥
+
+    are : AreRenewedBut k Counts (λ t. None_waits t × (t ≢ own)) s new
+    are = renewed-both k Counts None_waits (λ t. t ≢ own) s mid new each (renewed-but k Counts own mid new last)
+
+    by_each : (t : ℕ) → IsRenewedAt k Counts s new t ⊎ ((None_waits t × (t ≢ own)) × IsSameAt s new t) →
+        IsRenewedAt k Counts s new t ⊎ ((t ≢ own) × None_waits t × IsSameAt s new t)
+    by_each t (inl is) = inl is
+    by_each t (inr left) = inr (left.0.1, left.0.0, left.1)

@@ -1,26 +1,30 @@
 -- What each action touches besides its own task.
-use Rattle.std.proofs.Common.{◌≡◌, ◌≢◌, ℕ, ◌<◌, List, Bool, true, Option, Some, None, length, slice_get}
+use Rattle.std.proofs.Common.{◌≡◌, ◌≢◌, ℕ, ◌<◌, List, Bool, true, false, Option, Some, None, length, slice_get}
+use Rattle.arrayvec.specs.ArrayVec.{ArrayVec}
 use Rattle.std.proofs.Common.{refl, sym, subst, ap, ◌∙◌}
 use Rattle.std.proofs.lemmas.Bool.{true≢false}
 use Rattle.pearl_rules.specs.declared.action.Start.{Start}
 use Rattle.pearl_rules.specs.declared.action.Repeat.{Repeat}
 use Rattle.pearl_rules.specs.declared.row.TaskRow.{TaskRow}
 use Rattle.pearl_rules.specs.Core.{Core, Switch, row_of, with_row}
+use Rattle.pearl_rules.specs.Counts.{count_at, lowered, raised}
 use Rattle.pearl_rules.specs.Devices.{channel_of, with_channel}
 use Rattle.pearl_rules.specs.Effect.{activated, continues, resuming}
 use Rattle.pearl_rules.specs.Plans.{on_row, with_mark}
 use Rattle.pearl_rules.specs.Runs.{kept_at}
 use Rattle.pearl_kernel.specs.declared.changes.Changed.{Changed}
-use Rattle.pearl_kernel.specs.declared.changes.Changed.TheVariants.{Nothing, Counts}
+use Rattle.pearl_kernel.specs.declared.changes.Changed.TheVariants.{Nothing}
 use Rattle.pearl_kernel.specs.declared.changes.Touched.{Touched}
-use Rattle.pearl_kernel.specs.declared.changes.Touched.TheVariants.{Own, Other, All}
+use Rattle.pearl_kernel.specs.declared.changes.Touched.TheVariants.{Own, Other, Waiters, All}
 use Rattle.pearl_kernel.specs.Kept.{Kept}
 use Rattle.pearl_kernel.specs.Channels.{HasSwitch}
 use Rattle.pearl_kernel.specs.Changes.{ChangesOnly, Stirs}
-use Rattle.pearl_kernel.specs.Touched.{touched_if, Leaves}
+use Rattle.pearl_kernel.specs.Touched.{KeepsOthers, IsThere, touched_if, Leaves}
+use Rattle.pearl_sema.specs.Waiting.{AreThere, names}
 use Rattle.pearl_kernel.proofs.Places.{get-other}
 use Rattle.pearl_kernel.proofs.OneTask as one
 use Rattle.pearl_kernel.proofs.Entries.{unchanged}
+use Rattle.pearl_kernel.proofs.Requesting.{lowered-others, raised-others}
 use Rattle.pearl_kernel.proofs.Changing.{same_but, closed, switch-changes}
 
 -- NO ROW AND NO OFFER CHANGES
@@ -29,11 +33,13 @@ pub leaves-stirred : (own : ℕ) (k new : Kept) (changed : Option Changed) → n
     Stirs k.core new.core changed → Leaves own k new (touched_if changed)
 leaves-stirred own k new None offers stirs = record {
   only = stirs.1;
+  kept = tt;
   others = λ t other far. (ap (λ rows. slice_get rows t) stirs.0, ap (λ xs. kept_at xs t) offers);
   there = tt;
 }
 leaves-stirred own k new (Some changed) offers stirs = record {
   only = stirs;
+  kept = tt;
   others = λ t other far. absurd far;
   there = tt;
 }
@@ -45,18 +51,34 @@ leaves-quiet own k is tasks offers counts channels formats =
     subst (λ (x : Kept). Leaves own k x Own) (sym is) (leaves-stirred own k _ None offers
     (tasks, same_but Nothing k.core k.core _ (unchanged k.core) counts channels formats))
 
-pub leaves-counts : (own : ℕ) (k new : Kept) (counts : List ℕ) →
-    new ≡ record k { core = record k.core { counts = counts } } → Leaves own k new (All Counts)
-leaves-counts own k new counts is = subst (λ (x : Kept). Leaves own k x (All Counts)) (sym is) (record {
+-- counts change, and no others than these
+pub leaves-counts : (own : ℕ) (k new : Kept) (counts : List ℕ) (list : ArrayVec ℕ) →
+    ((semaphore : ℕ) → names list.items semaphore ≡ false → count_at counts semaphore ≡ count_at k.core.counts semaphore) →
+    new ≡ record k { core = record k.core { counts = counts } } → Leaves own k new (Waiters list)
+leaves-counts own k new counts list kept is = subst (λ (x : Kept). Leaves own k x (Waiters list)) (sym is) (record {
   only = record { counts = λ e. absurd (true≢false e); bytes = λ d e. refl; values = λ d e. refl; formats = refl };
-  others = λ t other far. absurd far;
+  kept = kept;
+  others = λ t other far. (refl, refl);
   there = tt;
 })
+
+pub leaves-lowered : (own : ℕ) (k new : Kept) (list : ArrayVec ℕ) → AreThere k.core.counts list.items →
+    new ≡ record k { core = record k.core { counts = lowered k.core.counts list.items } } →
+    Leaves own k new (Waiters list)
+leaves-lowered own k new list there is = leaves-counts own k new (lowered k.core.counts list.items) list
+    (lowered-others k.core.counts list.items there.distinct) is
+
+pub leaves-raised : (own : ℕ) (k new : Kept) (list : ArrayVec ℕ) → AreThere k.core.counts list.items →
+    new ≡ record k { core = record k.core { counts = raised k.core.counts list.items } } →
+    Leaves own k new (Waiters list)
+leaves-raised own k new list there is = leaves-counts own k new (raised k.core.counts list.items) list
+    (raised-others k.core.counts list.items there.distinct) is
 
 pub leaves-switch : (own : ℕ) (k new : Kept) (d : ℕ) (enabled : Bool) → HasSwitch (channel_of k.core d) →
     new ≡ record k { core = with_channel k.core d (Switch enabled) } → Leaves own k new Own
 leaves-switch own k new d enabled switch is = subst (λ (x : Kept). Leaves own k x Own) (sym is) (record {
   only = switch-changes k.core d enabled switch;
+  kept = tt;
   others = λ t other far. (refl, refl);
   there = tt;
 })
@@ -84,6 +106,7 @@ Alters u old core = (P : Core → Type 0) → one.Closed P u → P old → P cor
 leaves_own : (own : ℕ) (k : Kept) (core : Core) → Alters own k.core core → Leaves own k (record k { core = core }) Own
 leaves_own own k core alters = record {
   only = alters (ChangesOnly Nothing k.core) (closed Nothing k.core own) (unchanged k.core);
+  kept = tt;
   others = λ t other far. (alters (IsRowOf k.core t) (row_closed k.core own t other) refl, refl);
   there = tt;
 }
@@ -92,6 +115,7 @@ leaves_other : (own u : ℕ) (k : Kept) (core : Core) → u < length k.core.task
     Leaves own k (record k { core = core }) (Other u)
 leaves_other own u k core there alters = record {
   only = alters (ChangesOnly Nothing k.core) (closed Nothing k.core u) (unchanged k.core);
+  kept = tt;
   others = λ t other far. (alters (IsRowOf k.core t) (row_closed k.core u t far) refl, refl);
   there = there;
 }
@@ -122,6 +146,7 @@ module _ (own : ℕ) (k new : Kept) where
     pub leaves-row : (row : TaskRow) → new ≡ record k { core = with_row k.core u row } → Leaves own k new (Other u)
     leaves-row row is = subst (λ (x : Kept). Leaves own k x (Other u)) (sym is) (record {
       only = same_but Nothing k.core k.core (with_row k.core u row) (unchanged k.core) refl refl refl;
+      kept = tt;
       others = λ t other far. (get-other k.core.tasks u t row far, refl);
       there = there;
     })
@@ -141,6 +166,20 @@ leaves-last own k mid new last touched is leaves =
         values = of.only.values;
         formats = of.only.formats;
       };
+      kept = kept_last touched of.kept;
       others = of.others;
-      there = of.there;
+      there = there_last touched of.there;
     }
+  where
+    kept_last : (touched : Touched) → KeepsOthers touched (record k.core { last = last }) new.core →
+        KeepsOthers touched k.core new.core
+    kept_last Own kept = tt
+    kept_last (Other task) kept = tt
+    kept_last (Waiters list) kept = kept
+    kept_last (All changed) kept = tt
+
+    there_last : (touched : Touched) → IsThere (record k.core { last = last }) touched → IsThere k.core touched
+    there_last Own there = tt
+    there_last (Other task) there = there
+    there_last (Waiters list) there = tt
+    there_last (All changed) there = tt

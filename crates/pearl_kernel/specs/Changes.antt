@@ -1,5 +1,5 @@
 -- What of all that decides whether an offer can be done may have changed, and whose offers are asked again after that.
-use Rattle.std.specs.Prelude.{◌≡◌, ◌≢◌, ℕ, ◌<◌, Bool, true, false, Option, Some, None, length, nat_eq}
+use Rattle.std.specs.Prelude.{◌≡◌, ◌≢◌, ◌⊎◌, ℕ, ◌<◌, Bool, true, false, Option, Some, None, length, nat_eq}
 use Rattle.std.specs.Prelude.{slice_get, if◌then◌else◌}
 use Rattle.pearl_rules.specs.declared.action.Action.{Action}
 use Rattle.pearl_rules.specs.declared.action.Action.TheVariants.{Request, Get, Take}
@@ -57,6 +57,12 @@ pub record Renews (k : Kept) (changed : Changed) (u : ℕ) (old new : Stand) : T
   pub set_size : length new.set ≡ length old.set
   pub here : IsRenewedAt k changed old new u
   pub others : (t : ℕ) → t ≢ u → IsSameAt old new t
+
+-- what is kept of each task is renewed, or of a task that may be left it is as before
+pub record AreRenewedBut (k : Kept) (changed : Changed) (MayBeLeft : ℕ → Type 0) (old new : Stand) : Type 0 where
+  pub size : length new.able ≡ length old.able
+  pub set_size : length new.set ≡ length old.set
+  pub each : (t : ℕ) → IsRenewedAt k changed old new t ⊎ (MayBeLeft t × IsSameAt old new t)
 
 -- what is kept of each task is renewed
 pub record AreRenewed (k : Kept) (changed : Changed) (old new : Stand) : Type 0 where

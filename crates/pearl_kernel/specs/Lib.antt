@@ -14,5 +14,7 @@ pub mod Eligible
 pub mod Whole
 -- what may have changed of all that offers wait for
 pub mod Changes
+-- which semaphores the request of each task names
+pub mod Requests
 -- which tasks besides its own an action touches
 pub mod Touched

@@ -16,6 +16,7 @@ pub record IsWhole (k : Kept) (s : Stand) : Type 0 where
 pub record IsOfTasks (k : Kept) (s : Stand) : Type 0 where
   pub few : length k.core.tasks ≤ 200
   pub size : length s.able ≡ length k.core.tasks
+  pub same : length k.offers ≡ length k.core.tasks
   pub names : NamesAll k
 
 -- the task is there, each task has its place for an offer, no moment is too far, and there is room for the events of all tasks

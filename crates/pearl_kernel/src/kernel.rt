@@ -119,7 +119,7 @@ impl Kernel {
             return Acted::Idle;
         }
         let done = self.state.act(task, &self.acting, beside);
-        self.standing.renew(&self.state, task, done.touched);
+        self.standing.renew(&self.state, task, &done.touched);
         done.acted
     }
 

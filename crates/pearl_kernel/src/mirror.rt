@@ -1,11 +1,17 @@
-// The series of the tasks' plans, kept where the next one that fires is found.
+// What a state keeps beside its tasks: the series of their plans, where the next one that fires is found, and the
+// semaphores of their requests, where those that wait for one are found.
 
 ghost use Rattle.std.specs.Prelude.{◌≡◌, ◌<◌, length, slice_set};
 ghost use Rattle.pearl_timer.specs.Timetable.{changed, of_kind};
+ghost use Rattle.pearl_sema.specs.Waiting.{AreThere};
+ghost use Rattle.pearl_exchange.specs.Offers.{action_of};
+ghost use Rattle.pearl_kernel.specs.Requests.{requested_by};
 ghost use Rattle.pearl_kernel.specs.Timing.{series_of_plan as plan_series, series_of_activation as activation_series};
 
+use pearl_exchange::offer::{Offer, What};
 use pearl_rules::row::{Activation, Plan, TaskRow};
 use pearl_rules::series::Series;
+use pearl_sema::semas::Semas;
 use pearl_timer::timer::{Timer, Which};
 
 fn series_of_plan(plan: Option<Plan>) -> Option<Series>
@@ -57,4 +63,18 @@ pub fn keep_row(timer: &mut Timer, task: usize, row: &TaskRow)
         Which::Activation,
         series_of_activation(row.activation),
     );
+}
+
+/// The task waits for the semaphores of what it offers: those of a request, and else none.
+pub fn keep_request(semas: &mut Semas, task: usize, offer: &Offer)
+    requires task { task < length semas.old.waiting }
+    requires list { AreThere semas.old.counts (requested_by (action_of offer.now)) }
+    ensures { semas.new ≡ record semas.old {
+      waiting = slice_set semas.old.waiting task (requested_by (action_of offer.now));
+    } }
+{
+    match offer.what {
+        What::Request => semas.wait(task, &offer.list),
+        _ => semas.forget(task),
+    }
 }

@@ -21,6 +21,7 @@ ghost use Rattle.pearl_kernel.specs.declared.kernel.Acted.TheVariants.{Went};
 ghost use Rattle.pearl_kernel.specs.Kept.{after, Replied};
 ghost use Rattle.pearl_kernel.specs.Changes.{Stirs};
 ghost use Rattle.pearl_kernel.specs.Touched.{Leaves};
+ghost use Rattle.pearl_kernel.specs.declared.changes.Touched.TheVariants.{Waiters};
 ghost use Rattle.pearl_value.specs.Kinds.{IsKind};
 ghost use Rattle.pearl_kernel.specs.Channels.{HasBytes};
 ghost use Rattle.pearl_kernel.specs.Names.{Names};
@@ -43,7 +44,7 @@ use pearl_value::kind::Kind;
 use pearl_value::trap::Trap;
 
 /// What an action did: what became of its task, and which tasks besides it are touched.
-#[derive(Clone, Copy)]
+#[derive(Drop)]
 pub struct Done {
     pub acted: Acted,
     pub touched: Touched,
@@ -308,7 +309,7 @@ impl State {
         ensures leaves { Leaves own self.old self.new result.touched }
     {
         self.lower(list);
-        goes_on(own, Touched::All(Changed::Counts))
+        goes_on(own, waiters_of(list))
     }
 
     // Each of these counts is higher by 1, or where one can't be raised none is, and the task is broken off.
@@ -322,7 +323,7 @@ impl State {
         ensures leaves { Leaves own self.old self.new result.touched }
     {
         if self.raise(list) {
-            return goes_on(own, Touched::All(Changed::Counts));
+            return goes_on(own, waiters_of(list));
         }
         let trap = Trap::SemaLimit;
         self.end(own, Event::Trap { task: own, trap })
@@ -345,7 +346,7 @@ impl State {
         }
         self.lower(&list);
         put_bits(&mut beside.one, 1, 1);
-        hears(own, Touched::All(Changed::Counts))
+        hears(own, waiters_of(&list))
     }
 
     // An interrupt occurs; a masked one touches no task.
@@ -434,6 +435,13 @@ impl State {
             }
         }
     }
+}
+
+// Those that wait for one of these semaphores.
+fn waiters_of(list: &ArrayVec<u16, 16>) -> Touched
+    ensures { result ≡ Waiters list.now }
+{
+    Touched::Waiters(list.clone().unwrap())
 }
 
 // The task goes on and hears nothing.

@@ -2,11 +2,14 @@
 // after each change, and only offers that wait for what changed are asked again.
 
 ghost use Rattle.std.specs.Prelude.{◌≡◌, ◌<◌, ◌≤◌, Some, None, false, IfOk, MatchOption, length, replicate};
+ghost use Rattle.pearl_sema.specs.Waiting.{Waits};
 ghost use Rattle.pearl_ready.specs.Best.{best_of, IsEmpty, IsBest};
 ghost use Rattle.pearl_kernel.specs.Names.{NamesAll};
 ghost use Rattle.pearl_kernel.specs.Eligible.{possible, able_at, noted};
 ghost use Rattle.pearl_kernel.specs.Whole.{IsOfTasks};
-ghost use Rattle.pearl_kernel.specs.Changes.{Renews, AreRenewed, AreRenewedIf};
+ghost use Rattle.pearl_kernel.specs.declared.changes.Changed.TheVariants.{Counts};
+ghost use Rattle.pearl_kernel.specs.Changes.{Renews, AreRenewed, AreRenewedBut, AreRenewedIf};
+ghost use Rattle.pearl_kernel.specs.Requests.{requests, WaitsForOne};
 ghost use Rattle.pearl_kernel.specs.Touched.{IsThere, IsRenewed};
 
 use crate::changes::{Changed, Touched};
@@ -103,6 +106,28 @@ impl Standing {
         }
     }
 
+    // Each task whose request names this semaphore stands as it does now.
+    fn renew_waiters(&mut self, state: &State, semaphore: u16)
+        requires { IsOfTasks state.now self.old }
+        ensures { AreRenewedBut state.now Counts (λ t. Waits (requests state.now.offers) semaphore t → ⊥) self.old self.new }
+    {
+        let mut after = None;
+        while let Some(task) = state.waiter(semaphore, after) {
+            self.renew_one(state, task as u32, Changed::Counts);
+            after = Some(task);
+        }
+    }
+
+    // Each task whose request names one of these semaphores stands as it does now.
+    fn renew_each(&mut self, state: &State, list: &[u16])
+        requires { IsOfTasks state.now self.old }
+        ensures { AreRenewedBut state.now Counts (λ t. WaitsForOne state.now.offers list.now t → ⊥) self.old self.new }
+    {
+        for semaphore in list {
+            self.renew_waiters(state, *semaphore);
+        }
+    }
+
     /// The same where something may have changed that matters to a task.
     pub fn renew_if(&mut self, state: &State, changed: Option<Changed>)
         requires { IsOfTasks state.now self.old }
@@ -115,19 +140,23 @@ impl Standing {
     }
 
     /// Each task stands as it does after an action of the task `own`.
-    pub fn renew(&mut self, state: &State, own: u32, touched: Touched)
+    pub fn renew(&mut self, state: &State, own: u32, touched: &Touched)
         requires tasks { IsOfTasks state.now self.old }
         requires own { own < length state.now.core.tasks }
-        requires there { IsThere state.now.core touched }
-        ensures { IsRenewed state.now own touched self.old self.new }
+        requires there { IsThere state.now.core touched.now }
+        ensures { IsRenewed state.now own touched.now self.old self.new }
     {
         match touched {
             Touched::Own => self.renew_one(state, own, Changed::Nothing),
             Touched::Other(task) => {
-                self.renew_one(state, task, Changed::Nothing);
+                self.renew_one(state, *task, Changed::Nothing);
                 self.renew_one(state, own, Changed::Nothing);
             }
-            Touched::All(changed) => self.renew_all(state, changed),
+            Touched::Waiters(list) => {
+                self.renew_each(state, list.as_slice());
+                self.renew_one(state, own, Changed::Counts);
+            }
+            Touched::All(changed) => self.renew_all(state, *changed),
         }
     }
 }

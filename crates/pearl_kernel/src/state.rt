@@ -17,7 +17,7 @@ ghost use Rattle.pearl_rules.specs.Plans.{with_mode};
 ghost use Rattle.pearl_rules.specs.Pick.{is_complete as is_complete_of, is_possible as is_possible_in, is_some_value, guard};
 ghost use Rattle.pearl_value.specs.Counts.{IsPreset};
 ghost use Rattle.pearl_value.specs.WellFormed.{IsTyped};
-ghost use Rattle.pearl_sema.specs.Waiting.{AreThere};
+ghost use Rattle.pearl_sema.specs.Waiting.{AreThere, IsNext as IsNextWaiter, NoneIsNext as NoneIsNextWaiter};
 ghost use Rattle.pearl_value.specs.Kinds.{IsKind};
 ghost use Rattle.pearl_exchange.specs.Offers.{action_of};
 ghost use Rattle.pearl_kernel.specs.Channels.{HasSwitch, HasBytes, HasValuesFor, taken_in_of};
@@ -26,6 +26,7 @@ ghost use Rattle.pearl_kernel.specs.Kept.{at_start, offered as offered_of, taken
 ghost use Rattle.pearl_kernel.specs.Kept.{is_silent as is_silent_in, is_unsettled as is_unsettled_in};
 ghost use Rattle.pearl_kernel.specs.Names.{Names};
 ghost use Rattle.pearl_kernel.specs.Timing.{timetable};
+ghost use Rattle.pearl_kernel.specs.Requests.{requests};
 ghost use Rattle.pearl_kernel.specs.Eligible.{entry_if};
 ghost use Rattle.pearl_kernel.specs.Changes.{renewed, renewed_offer};
 
@@ -33,7 +34,7 @@ use crate::bid::Bid;
 use crate::changes::{Changed, looks_at};
 use crate::channel::Channel;
 use crate::happened::Told;
-use crate::mirror::keep_row;
+use crate::mirror::{keep_request, keep_row};
 use crate::opening::{
     copied_formats, first_channels, first_rows, first_values, no_offers, tell_starts,
 };
@@ -61,6 +62,7 @@ pub struct State {
     timer: Timer,
     offers: Vec<Bid>,
     slots: Vec<Cell>,
+    // Of each task it notes the semaphores that its request names.
     semas: Semas,
     channels: Vec<Channel>,
     formats: Vec<Listing<Item>>,
@@ -74,6 +76,7 @@ impl Model for State {
     ghost use Rattle.std.specs.Prelude.{◌≡◌};
     ghost use Rattle.pearl_kernel.specs.Kept.{Kept, stamped};
     ghost use Rattle.pearl_kernel.specs.Timing.{timetable};
+    ghost use Rattle.pearl_kernel.specs.Requests.{requests};
 
     ghost Value = { Kept };
 
@@ -92,7 +95,7 @@ impl Model for State {
       offers = s.offers.items;
     } };
 
-    ghost invariant = { λ s. s.timer ≡ timetable s.rows.items };
+    ghost invariant = { λ s. (s.timer ≡ timetable s.rows.items) × (s.semas.waiting ≡ requests s.offers.items) };
 }
 
 impl State {
@@ -239,9 +242,11 @@ impl State {
 
     /// A task offers this action.
     pub fn set_offer(&mut self, task: u32, offer: &Offer)
-        requires { task < length self.old.offers }
+        requires task { task < length self.old.offers }
+        requires names { Names self.old.core (action_of offer.now) }
         ensures { self.new ≡ record self.old { offers = slice_set self.old.offers task (Some (action_of offer.now)) } }
     {
+        keep_request(&mut self.semas, task as usize, offer);
         self.offers[task as usize].put(offer);
     }
 
@@ -250,6 +255,7 @@ impl State {
         requires { task < length self.old.offers }
         ensures { self.new ≡ record self.old { offers = slice_set self.old.offers task None } }
     {
+        self.semas.forget(task as usize);
         self.offers[task as usize].clear();
     }
 
@@ -260,7 +266,17 @@ impl State {
         ensures none { result ≡ false → offered_of self.old task ≡ None }
         ensures rest { self.new ≡ record self.old { offers = slice_set self.old.offers task None } }
     {
-        self.offers[task as usize].take(into)
+        let place = task as usize;
+        self.semas.forget(place);
+        self.offers[place].take(into)
+    }
+
+    /// The first task whose request names a semaphore among those behind `after`, or among all.
+    pub fn waiter(&self, semaphore: u16, after: Option<usize>) -> Option<usize>
+        ensures { MatchOption result (NoneIsNextWaiter (requests self.now.offers) semaphore after)
+            (IsNextWaiter (requests self.now.offers) semaphore after) }
+    {
+        self.semas.waiting(semaphore, after)
     }
 
     /// Puts a slot's value there.

@@ -3,9 +3,15 @@ use Rattle.pearl_exchange.specs.Offers.{action_of}
 use Rattle.pearl_kernel.specs.Kept.{Kept, is_unsettled, IsLawful}
 use Rattle.pearl_kernel.specs.Whole.{IsWhole}
 use Rattle.pearl_kernel.specs.Eligible.{Stand, possible, noted}
-use Rattle.pearl_kernel.proofs.Naming.{names-all}
+use Rattle.pearl_kernel.proofs.Naming.{fits-names, names-all}
 use Rattle.pearl_kernel.proofs.Offering.{unsettled-there, lawful-offering, kept-offering}
 use Rattle.pearl_kernel.proofs.kernel.Kernel.offered.Goals as goal
+
+pub set_offer-requires-clause-names : goal.set_offer-requires-clause-names
+set_offer-requires-clause-names c =
+    let f = c.requires.fits in
+    let before = subst (λ (k : Kept). IsLawful f.0 k) (sym c.self.view_is) f.1 in
+    fits-names f.0 c.self.inside.state before (action_of c.args.offer.now) f.2
 
 pub offered-requires-clause-names : goal.offered-requires-clause-names
 offered-requires-clause-names c =

@@ -1,0 +1,23 @@
+use Rattle.std.proofs.Common.{◌<◌, [], None, length, slice_set, sym, ap, subst, ◌∙◌, arith}
+use Rattle.pearl_sema.specs.Waiting.{Sema}
+use Rattle.pearl_kernel.specs.Kept.{Kept}
+use Rattle.pearl_kernel.specs.Requests.{requests}
+use Rattle.pearl_kernel.proofs.Requesting.{requests-length, requests-set}
+use Rattle.pearl_kernel.proofs.state.State.clear_offer.Goals as goal
+
+pub forget-requires : goal.forget-requires
+forget-requires c =
+    let s = c.self.inside in
+    let there = subst (λ (k : Kept). c.args.task < length k.offers) (sym c.self.view_is) c.requires in
+    let same = ap (λ xs. length xs) c.self.invariant.1 in
+    omega (arith, there, requests-length s.offers.items, same)
+
+pub invariant_of-self : goal.invariant_of-self
+invariant_of-self c =
+    let s = c.self.inside in (
+      c.self.invariant.0,
+      ap (λ (x : Sema). x.waiting) c.forget.ensures
+          ∙ ap (λ xs. slice_set xs c.args.task []) c.self.invariant.1
+          ∙ sym (requests-set s.offers.items c.args.task None)
+          ∙ ap (λ o. requests (slice_set s.offers.items c.args.task o)) (sym c.clear.ensures),
+    )
