@@ -3,7 +3,7 @@
 ghost use Rattle.std.specs.Prelude.{◌≡◌, ◌+◌, ◌<◌, ◌≤◌, ℕ, length, IfOk, IfSome};
 ghost use Rattle.std.specs.List.{AllByRecursion};
 ghost use Rattle.pearl_format.specs.Items.{IsFormat};
-ghost use Rattle.pearl_instructions.specs.Lawful.{IsLeaf, IsProcedure, IsTask, IsObject};
+ghost use Rattle.pearl_instructions.specs.Lawful.{IsLeaf, IsProcedure, IsTask};
 ghost use Rattle.pearl_instructions.specs.Objects.{slot_kind};
 ghost use Rattle.pearl_instructions.specs.Rows.{begun};
 ghost use Rattle.pearl_instructions.specs.Stacks.{IsStack, Answers, AreOf, room};
@@ -17,7 +17,7 @@ use pearl_exchange::heard::{Beside, Heard};
 use pearl_exchange::offer::{Offer, What};
 use pearl_format::item::{Item, ItemCode};
 use pearl_instructions::instr::{Bounds, Reading};
-use pearl_instructions::object::{Code, Leaf, Object, Procedure, Task};
+use pearl_instructions::object::{Code, Leaf, Object, Parts, Procedure, Task};
 use pearl_instructions::valid::Valid;
 use pearl_solo::answers::answer;
 use pearl_solo::frames::begin;
@@ -222,9 +222,7 @@ fn formats(alloc: Global) -> Result<Listing<Listing<Item>>, AllocError>
     Ok(Listing::new(vec![in alloc; one, two]?))
 }
 
-fn object(alloc: Global) -> Result<Object, AllocError>
-    ensures { IfOk result IsObject }
-{
+fn object(alloc: Global) -> Result<Object, AllocError> {
     let console = Device::Terminal {
         number: 1,
         direction: Direction::InOut,
@@ -234,14 +232,14 @@ fn object(alloc: Global) -> Result<Object, AllocError>
     let formats = formats(alloc)?;
     let procedures = vec![in alloc; scaled(alloc)?]?;
     let tasks = vec![in alloc; task(alloc)?]?;
-    Ok(Object {
+    Ok(Object::new(Parts {
         devices: Listing::new(devices),
         semaphores: Listing::new(Vec::new(alloc)),
         leaves: Listing::new(leaves),
         formats,
         procedures: Listing::new(procedures),
         tasks: Listing::new(tasks),
-    })
+    }))
 }
 
 // The kind of a slot.

@@ -1,20 +1,15 @@
 // An object as each object is to be, which `verify` gives back.
 
-ghost use Rattle.std.specs.Prelude.{IfOk};
-ghost use Rattle.pearl_instructions.specs.Lawful.{IsObject};
-
 use arrayvec::ArrayVec;
 use pearl_instructions::instr::Instr;
-use pearl_instructions::object::{Code, Object, Task};
+use pearl_instructions::object::{Code, Object, Parts, Task};
 use pearl_value::listing::Listing;
 use pearl_verify::verify::verify;
 use std::alloc::{AllocError, Global};
 use std::test::Fail;
 
 // One task, which ends.
-fn smallest(alloc: Global) -> Result<Object, AllocError>
-    ensures { IfOk result IsObject }
-{
+fn smallest(alloc: Global) -> Result<Object, AllocError> {
     let code = Code {
         cells: Listing::new(Vec::new(alloc)),
         depth: 0,
@@ -29,14 +24,14 @@ fn smallest(alloc: Global) -> Result<Object, AllocError>
         main: true,
         code,
     };
-    Ok(Object {
+    Ok(Object::new(Parts {
         devices: Listing::new(Vec::new(alloc)),
         semaphores: Listing::new(Vec::new(alloc)),
         leaves: Listing::new(Vec::new(alloc)),
         formats: Listing::new(Vec::new(alloc)),
         procedures: Listing::new(Vec::new(alloc)),
         tasks: Listing::new(vec![in alloc; task]?),
-    })
+    }))
 }
 
 #[test]
@@ -44,7 +39,7 @@ fn a_valid_object_is_given_back(rt: HostRuntime) -> Result<(), Fail> {
     let alloc = rt.alloc();
     let mut tasks = 0;
     if let Ok(valid) = verify(alloc, smallest(alloc)?) {
-        tasks = valid.into_object().tasks.as_slice().len();
+        tasks = valid.into_object().parts().tasks.as_slice().len();
     }
     assert_eq!(rt; tasks, 1);
     Ok(())

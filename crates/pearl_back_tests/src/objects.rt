@@ -8,8 +8,9 @@ ghost use Rattle.pearl_instructions.specs.Lawful.{IsInstr};
 
 use arrayvec::ArrayVec;
 use pearl_format::item::{Item, ItemCode};
+use pearl_instructions::boxed::Boxed;
 use pearl_instructions::instr::{Bounds, Instr, Reading};
-use pearl_instructions::object::{Code, Leaf, Object, Procedure, Shape, Task};
+use pearl_instructions::object::{Code, Leaf, Parts, Procedure, Shape, Task};
 use pearl_value::cell::Cell;
 use pearl_value::device::{Device, Direction};
 use pearl_value::kind::{CellKind, Kind};
@@ -95,26 +96,26 @@ pub struct Proc {
 pub struct Row {
     pub procedures: &'static [Proc],
     pub task: Routine,
-    pub told: Option<(u64, u64, u8)>,
+    pub told: Option<(u32, u64, u8)>,
 }
 
-fn numbers(alloc: Global, list: &[u64]) -> Result<Box<Listing<u64>>, AllocError> {
+fn numbers(alloc: Global, list: &[u64]) -> Result<Boxed<Listing<u64>>, AllocError> {
     let mut copy = Vec::new(alloc);
     copy.extend_from_slice(list)?;
-    Ok(Box::new(alloc, Listing::new(copy))?)
+    Ok(Boxed::new(alloc, Listing::new(copy))?)
 }
 
-fn bounds(alloc: Global, list: &[Bounds]) -> Result<Box<Listing<Bounds>>, AllocError> {
+fn bounds(alloc: Global, list: &[Bounds]) -> Result<Boxed<Listing<Bounds>>, AllocError> {
     let mut copy = Vec::new(alloc);
     copy.extend_from_slice(list)?;
-    Ok(Box::new(alloc, Listing::new(copy))?)
+    Ok(Boxed::new(alloc, Listing::new(copy))?)
 }
 
 fn literal(alloc: Global, cell: Cell) -> Result<Instr, AllocError>
     requires { IsValue cell }
     ensures { IfOk result IsInstr }
 {
-    Ok(Instr::Const(Box::new(alloc, cell)?))
+    Ok(Instr::Const(Boxed::new(alloc, cell)?))
 }
 
 /// A number of FIXED(31).
@@ -165,7 +166,7 @@ fn instruction(alloc: Global, line: Line) -> Result<Instr, AllocError>
         Line::Suspend(task) => Ok(Instr::Suspend(task)),
         Line::Enable(device) => Ok(Instr::Enable(device)),
         Line::Put { device, format } => Ok(Instr::Put { device, format }),
-        Line::Get(reading) => Ok(Instr::Get(Box::new(alloc, reading)?)),
+        Line::Get(reading) => Ok(Instr::Get(Boxed::new(alloc, reading)?)),
         Line::Take(device) => Ok(Instr::Take(device)),
         Line::Send(device) => Ok(Instr::Send(device)),
     }
@@ -310,9 +311,9 @@ fn formats(alloc: Global) -> Result<Listing<Listing<Item>>, AllocError> {
 }
 
 // It has 17 semaphores.
-fn object(alloc: Global, row: Row) -> Result<Object, AllocError> {
+fn object(alloc: Global, row: Row) -> Result<Parts, AllocError> {
     let counts = vec![in alloc; 1; 17]?;
-    Ok(Object {
+    Ok(Parts {
         devices: devices(alloc)?,
         semaphores: Listing::new(counts),
         leaves: leaves(alloc)?,
@@ -322,8 +323,12 @@ fn object(alloc: Global, row: Row) -> Result<Object, AllocError> {
     })
 }
 
-/// The routine, instruction and rule that is told of an object, or none where no rule fails.
-pub fn told(alloc: Global, object: &Object) -> Result<Option<(u64, u64, u8)>, AllocError> {
+/// The routine, instruction and rule that is told of an object, or none where no rule fails. It asks for no more routines
+/// than an object may have.
+pub fn told(alloc: Global, object: &Parts) -> Result<Option<(u32, u64, u8)>, AllocError> {
+    if object.procedures.as_slice().len() > 200 || object.tasks.as_slice().len() > 200 {
+        return Err(AllocError);
+    }
     match judge_object(alloc, object) {
         Ok(()) => Ok(None),
         Err(

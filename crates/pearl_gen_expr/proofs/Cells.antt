@@ -5,7 +5,7 @@ use Rattle.std.specs.List.{AllZip}
 use Rattle.pearl_value.specs.declared.cell.Cell.{Cell}
 use Rattle.pearl_stack.specs.Frames as stack_frames
 use Rattle.pearl_stack.specs.Frames.{Frame}
-use Rattle.pearl_instructions.specs.declared.object.Object.{Object}
+use Rattle.pearl_instructions.specs.declared.object.Parts.{Parts as Object}
 use Rattle.pearl_meaning.specs.Frames as meaning
 use Rattle.pearl_meaning.specs.Frames.{Store}
 use Rattle.pearl_gen_expr.specs.Contexts.{Standing, Context, stack, HasCells, IsStoreOf}

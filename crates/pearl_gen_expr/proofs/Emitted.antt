@@ -1,5 +1,5 @@
 -- Code that stands still stands when more is emitted behind it.
-use Rattle.std.proofs.Common.{◌≡◌, ◌≢◌, ℕ, zero, suc, ◌+◌, List, [], ◌∷◌, ◌++◌, length, map, Some, slice_get, refl, sym, ap, ◌∙◌, subst, Box, Global, false, true≢false, eq-eqb}
+use Rattle.std.proofs.Common.{◌≡◌, ◌≢◌, ℕ, zero, suc, ◌+◌, List, [], ◌∷◌, ◌++◌, length, map, Some, slice_get, refl, sym, ap, ◌∙◌, subst, false, true≢false, eq-eqb}
 use Rattle.std.specs.Prelude.{◌==◌}
 use Rattle.std.proofs.lemmas.List.{append-nil, append_assoc, length-append}
 use Rattle.pearl_value.specs.declared.kind.Kind.{Kind}
@@ -17,7 +17,7 @@ use Rattle.pearl_meaning.specs.Setting.{params_of}
 use Rattle.pearl_instructions.specs.declared.instr.Bounds.{Bounds}
 use Rattle.pearl_instructions.specs.declared.instr.Instr.{Instr}
 use Rattle.pearl_instructions.specs.declared.instr.Instr.TheVariants as instr
-use Rattle.pearl_gen_expr.specs.ExprCode.{reading, referring, bounds_of, Is, IsConst, IsIndex, OffsetOf, WayOf, ReadOf, ReferenceOf, ExprAt, AllAt, ArgumentsAt, ArgumentAt}
+use Rattle.pearl_gen_expr.specs.ExprCode.{reading, referring, bounds_of, Is, OffsetOf, WayOf, ReadOf, ReferenceOf, ExprAt, AllAt, ArgumentsAt, ArgumentAt}
 use Rattle.pearl_gen_expr.specs.Emitting.{Extends, EmitsExpr, EmitsAll, EmitsOffset, EmitsWay, EmitsRead, EmitsElement, EmitsCall, EmitsArguments, EmitsArgument}
 
 -- EXTENDING
@@ -53,16 +53,10 @@ one_longer old new instr e = ap length e ∙ length-append old (instr ∷ [])
 -- WHAT STANDS
 
 module _ (old new : List Instr) (more : Extends old new) where
-  still_const : (place : ℕ) (value : Cell) → IsConst old place value → IsConst new place value
-  still_const place value is = (is.0, is.1, still_is old new place (instr.Const is.0) more is.2)
-
-  still_index : (place : ℕ) (bounds : List Bound) → IsIndex old place bounds → IsIndex new place bounds
-  still_index place bounds is = (is.0, is.1, still_is old new place (instr.Index is.0) more is.2)
-
   module _ (one two : ℕ → Type 0) (on : (end : ℕ) → one end → two end) where
     pub still_offset : (bounds : List Bound) (from to : ℕ) → OffsetOf old from bounds one to → OffsetOf new from bounds two to
     still_offset [] from to is = is
-    still_offset (bound ∷ bounds) from to is = (is.0, on is.0 is.1, still_index is.0 (bound ∷ bounds) is.2, is.3)
+    still_offset (bound ∷ bounds) from to is = (is.0, on is.0 is.1, still_is old new is.0 (instr.Index (map bounds_of (bound ∷ bounds))) more is.2, is.3)
 
     pub still_way : (target : Target) (bounds : List Bound) (from to : ℕ) → WayOf old from target bounds one to → WayOf new from target bounds two to
     still_way (LeafOf number) bounds from to is = still_offset bounds from to is
@@ -80,7 +74,7 @@ module _ (old new : List Instr) (more : Extends old new) where
 module _ (p : PlainProg) (old new : List Instr) (more : Extends old new) where
   mutual
     pub still_expr : (e : PlainExpr) (from to : ℕ) → ExprAt p old from e to → ExprAt p new from e to
-    still_expr (OfLiteral value) from to is = (still_const old new more from value is.0, is.1)
+    still_expr (OfLiteral value) from to is = (still_is old new from (instr.Const value) more is.0, is.1)
     still_expr (OfRead (OfVariable target bounds subscripts)) from to is =
         still_read old new more (λ end. AllAt p old from subscripts end) (λ end. AllAt p new from subscripts end) (λ end are. still_all subscripts from end are) target bounds from to is
     still_expr (OfMonadic op operand) from to is = (is.0, still_expr operand from is.0 is.1, still_is old new is.0 (instr.Monadic op) more is.2, is.3)
@@ -112,8 +106,9 @@ module _ (p : PlainProg) (old new : List Instr) (more : Extends old new) where
 -- PART BEHIND PART
 
 module _ (p : PlainProg) (old one two : List Instr) where
-  pub const_emits : (value : Cell) (literal : Box Cell Global) → literal.value ≡ value → one ≡ old ++ instr.Const literal ∷ [] → EmitsExpr p (OfLiteral value) old one
-  const_emits value literal same e = ((literal, same, last_is old one (instr.Const literal) e), one_longer old one (instr.Const literal) e)
+  pub const_emits : (value literal : Cell) → literal ≡ value → one ≡ old ++ instr.Const literal ∷ [] → EmitsExpr p (OfLiteral value) old one
+  const_emits value literal same e =
+      let last = e ∙ ap (λ x. old ++ instr.Const x ∷ []) same in (last_is old one (instr.Const value) last, one_longer old one (instr.Const value) last)
 
   pub now_emits : one ≡ old ++ instr.Now ∷ [] → EmitsExpr p OfNow old one
   now_emits e = (last_is old one instr.Now e, one_longer old one instr.Now e)
@@ -166,12 +161,14 @@ module _ (p : PlainProg) (old one two : List Instr) where
       )
 
   -- the subscripts, and their check
-  pub index_emits : (target : Target) (bounds : List Bound) (es : PlainExprs) (list : Box (List Bounds) Global) → EmitsAll p es old one → list.value ≡ map bounds_of bounds →
+  pub index_emits : (target : Target) (bounds : List Bound) (es : PlainExprs) (list : List Bounds) → EmitsAll p es old one → list ≡ map bounds_of bounds →
       two ≡ one ++ instr.Index list ∷ [] → bounds ≢ [] → EmitsOffset p (OfVariable target bounds es) old two
   index_emits target [] es list is same last some = absurd (some refl)
   index_emits target (bound ∷ bounds) es list is same last some =
-      let more = extends_one one two (instr.Index list) last in
-      (length one, still_all p one two more es (length old) (length one) is, (list, same, last_is one two (instr.Index list) last), one_longer one two (instr.Index list) last)
+      let next = instr.Index (map bounds_of (bound ∷ bounds)) in
+      let last = last ∙ ap (λ list. one ++ instr.Index list ∷ []) same in
+      let more = extends_one one two next last in
+      (length one, still_all p one two more es (length old) (length one) is, last_is one two next last, one_longer one two next last)
 
   pub call_emits : (number : ℕ) (procedure : PlainProcedure) (arguments : PlainArguments) → slice_get p.procedures number ≡ Some procedure →
       EmitsArguments p (params_of procedure) arguments old one → two ≡ one ++ instr.Call number ∷ [] → EmitsCall p number arguments old two

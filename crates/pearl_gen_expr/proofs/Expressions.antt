@@ -29,7 +29,7 @@ use Rattle.pearl_meaning.specs.Values as values
 use Rattle.pearl_meaning.specs.Values.{eval, taken, eval_all, hand_over, handed}
 use Rattle.pearl_meaning.specs.Transfers.{offset}
 use Rattle.pearl_instructions.specs.declared.instr.Instr.TheVariants as instr
-use Rattle.pearl_instructions.specs.declared.object.Object.{Object}
+use Rattle.pearl_instructions.specs.declared.object.Parts.{Parts as Object}
 use Rattle.pearl_gen_expr.specs.Contexts.{Context, at}
 use Rattle.pearl_gen_expr.specs.Carrying.{Carries}
 use Rattle.pearl_gen_expr.specs.ExprCode.{code_of, Is, reading, referring, OffsetOf, ReadOf, ReferenceOf, ExprAt, AllAt, ArgumentsAt, ArgumentAt}
@@ -132,7 +132,7 @@ module _ (o : Object) (c : Context) (setting : Setting) (around : Around) (below
       subst (λ to. Carries o c (offset_on_top c to operands all) (at c from operands) (offset setting (OfVariable target all es))) (sym is.3)
       (bind_carries o c (all_on_top c end (length typed.0) operands) (offset_on_top c (end + 1) operands all) (at c from operands) (eval_all setting es)
       (λ xs. meaning.offset_of (elements_before all xs)) (on from end typed.0 operands typed.1 is.1)
-      (λ xs long. index_carries o c end all is.2.0 xs operands is.2.1 (long ∙ typed.2) is.2.2))
+      (λ xs long. index_carries o c end all xs operands (long ∙ typed.2) is.2))
 
   -- THE WAY BY AN OFFSET
 
@@ -238,7 +238,7 @@ module _ (o : Object) (c : Context) (setting : Setting) (around : Around) (below
         ExprAt setting.program (code_of o c.routine) from e to → Carries o c (on_top c to operands) (at c from operands) (eval setting e)
     expr_part (OfLiteral value) kind from to operands typed less is =
         at_end to (from + 1) operands (at c from operands) (gives value) is.1
-        (subst (λ value. Carries o c (on_top c (from + 1) operands) (at c from operands) (gives value)) is.0.1 (const_carries o c from operands is.0.0 is.0.2))
+        (const_carries o c from operands value is.0)
     expr_part (OfRead (OfVariable target bounds subscripts)) kind from to operands typed less is =
         read_part target bounds subscripts kind from to operands (λ from to kinds operands are at. all_part subscripts kinds from to operands are (omega (arith, less)) at) typed is
     expr_part (OfMonadic op operand) kind from to operands typed less is =

@@ -1,5 +1,5 @@
 -- No rule of the validator fails at instructions of expressions, where the operands have the kinds that are needed.
-use Rattle.std.proofs.Common.{◌≡◌, ℕ, zero, suc, ◌+◌, ◌<◌, ◌≤◌, true, List, [], ◌∷◌, ◌++◌, Some, slice_get, length, replicate, refl, ap, ◌∙◌, subst, arith, le-leb, lt-ltb, Box, Global}
+use Rattle.std.proofs.Common.{◌≡◌, ℕ, zero, suc, ◌+◌, ◌<◌, ◌≤◌, true, List, [], ◌∷◌, ◌++◌, Some, slice_get, length, replicate, refl, ap, ◌∙◌, subst, arith, le-leb, lt-ltb}
 use Rattle.std.specs.Prelude.{is_some, not, nat_lt, nat_le, option_map, option_to_list, take, drop}
 use Rattle.std.specs.List.{list_all}
 use Rattle.std.proofs.lemmas.Option.{slice_get_within}
@@ -19,7 +19,7 @@ use Rattle.pearl_instructions.specs.declared.instr.Instr.{Instr}
 use Rattle.pearl_instructions.specs.declared.instr.Instr.TheVariants as instr
 use Rattle.pearl_instructions.specs.declared.object.Leaf.{Leaf}
 use Rattle.pearl_instructions.specs.declared.object.Code.{Code}
-use Rattle.pearl_instructions.specs.declared.object.Object.{Object}
+use Rattle.pearl_instructions.specs.declared.object.Parts.{Parts as Object}
 use Rattle.pearl_instructions.specs.Operands.{Shape, same_cell, is_reference}
 use Rattle.pearl_instructions.specs.Named.{has_cells, cells_at}
 use Rattle.pearl_instructions.specs.Kinds.{is_uniform, shape_after, leaf_kind, reference_to}
@@ -35,7 +35,7 @@ module _ (o : Object) (r : ℕ) (code : Code) (place : ℕ) (quiet : IsQuiet cod
       Keeps o r code place (place + 1) s after
   told instr s after same keeps = subst (Keeps o r code place (place + 1) s) same keeps
 
-  pub const_keeps : (x : Box Cell Global) (kind : Kind) (s : Shape) → slice_get code.instructions place ≡ Some (instr.Const x) → cell_kind_of x.value ≡ Plain kind →
+  pub const_keeps : (x : Cell) (kind : Kind) (s : Shape) → slice_get code.instructions place ≡ Some (instr.Const x) → cell_kind_of x ≡ Plain kind →
       length code.cells + length s ≤ code.depth → Keeps o r code place (place + 1) s (Plain kind ∷ s)
   const_keeps x kind s is of room =
       told (instr.Const x) s (Plain kind ∷ s) (ap (λ k. k ∷ s) of) (one_keeps o r code place (instr.Const x) s is quiet refl refl

@@ -1,5 +1,5 @@
 -- No rule of the validator fails at Index behind its subscripts, and at Call behind its arguments.
-use Rattle.std.proofs.Common.{◌≡◌, ℕ, zero, suc, ◌+◌, ◌*◌, ◌<◌, ◌≤◌, ◌⊎◌, inl, inr, Bool, true, false, T, List, [], ◌∷◌, ◌++◌, Option, Some, slice_get, length, replicate, map, refl, sym, ap, ◌∙◌, subst, arith, le-leb, lt-ltb, Box, Global}
+use Rattle.std.proofs.Common.{◌≡◌, ℕ, zero, suc, ◌+◌, ◌*◌, ◌<◌, ◌≤◌, ◌⊎◌, inl, inr, Bool, true, false, T, List, [], ◌∷◌, ◌++◌, Option, Some, slice_get, length, replicate, map, refl, sym, ap, ◌∙◌, subst, arith, le-leb, lt-ltb}
 use Rattle.std.specs.Prelude.{◌⊎◌, ◌||◌, int_le, nat_lt, nat_le, option_map, option_and_then, option_to_list, take, drop, reverse}
 use Rattle.std.specs.List.{list_all}
 use Rattle.std.proofs.lemmas.Option.{slice_get_within}
@@ -16,7 +16,7 @@ use Rattle.pearl_instructions.specs.declared.instr.Bounds.{Bounds}
 use Rattle.pearl_instructions.specs.declared.instr.Instr.TheVariants as instr
 use Rattle.pearl_instructions.specs.declared.object.Code.{Code}
 use Rattle.pearl_instructions.specs.declared.object.Procedure.{Procedure}
-use Rattle.pearl_instructions.specs.declared.object.Object.{Object}
+use Rattle.pearl_instructions.specs.declared.object.Parts.{Parts as Object}
 use Rattle.pearl_instructions.specs.Objects.{is_task}
 use Rattle.pearl_instructions.specs.Opcodes.{Anything, SomeFixed}
 use Rattle.pearl_instructions.specs.Operands.{Shape, v2, arguments_asked, same_shape}
@@ -92,25 +92,26 @@ array bound bounds are few small =
     (and_is (nat_le 1 (length (map bounds_of all))) (nat_le (length (map bounds_of all)) 3) (le-leb 1 (length (map bounds_of all)) some)
     (le-leb (length (map bounds_of all)) 3 less)) (are_rising all are)) (le-leb (elements (map bounds_of all)) 65536 fits)
 
-pub index_keeps : (o : Object) (r : ℕ) (code : Code) (place : ℕ) → IsQuiet code (place + 1) → (list : Box (List Bounds) Global) (bound : Bound) (bounds : List Bound) (shape s : Shape) →
-    slice_get code.instructions place ≡ Some (instr.Index list) → list.value ≡ map bounds_of (bound ∷ bounds) → AreBounds (bound ∷ bounds) → drop 3 (bound ∷ bounds) ≡ [] →
+pub index_keeps : (o : Object) (r : ℕ) (code : Code) (place : ℕ) → IsQuiet code (place + 1) → (bound : Bound) (bounds : List Bound) (shape s : Shape) →
+    slice_get code.instructions place ≡ Some (instr.Index (map bounds_of (bound ∷ bounds))) → AreBounds (bound ∷ bounds) → drop 3 (bound ∷ bounds) ≡ [] →
     typing.elements (bound ∷ bounds) ≤ 65536 → FixedOn (length (bound ∷ bounds)) shape s → length code.cells + length shape ≤ code.depth →
     Keeps o r code place (place + 1) shape (Plain (kind_.Fixed 31) ∷ s)
-index_keeps o r code place quiet list bound bounds shape s is same are few small on room =
-    let many : length list.value ≡ length (bound ∷ bounds) = ap length same ∙ length-map (bound ∷ bounds) bounds_of in
-    let on : FixedOn (length list.value) shape s = subst (λ n. FixedOn n shape s) (sym many) on in
-    told o r code place quiet (instr.Index list) shape (Plain (kind_.Fixed 31) ∷ s) (ap (λ left. Plain (kind_.Fixed 31) ∷ left) (fixed_below (length list.value) shape s on))
+index_keeps o r code place quiet bound bounds shape s is are few small on room =
+    let list = map bounds_of (bound ∷ bounds) in
+    let many : length list ≡ length (bound ∷ bounds) = length-map (bound ∷ bounds) bounds_of in
+    let on : FixedOn (length list) shape s = subst (λ n. FixedOn n shape s) (sym many) on in
+    told o r code place quiet (instr.Index list) shape (Plain (kind_.Fixed 31) ∷ s) (ap (λ left. Plain (kind_.Fixed 31) ∷ left) (fixed_below (length list) shape s on))
     (one_keeps o r code place (instr.Index list) shape is quiet refl refl
     (record {
       one = refl;
-      two = fixed_asked (length list.value) shape s on;
+      two = fixed_asked (length list) shape s on;
       three = refl;
       four = refl;
       five = refl;
       eight = refl;
       ten = refl;
       eleven = le-leb (length code.cells + length shape) code.depth room;
-      twelve = ap is_array same ∙ array bound bounds are few small;
+      twelve = array bound bounds are few small;
     }))
 
 -- ARGUMENTS

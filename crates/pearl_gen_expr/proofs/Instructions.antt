@@ -1,5 +1,5 @@
 -- What single instructions of expressions do is what is meant.
-use Rattle.std.proofs.Common.{◌≡◌, ℕ, ◌+◌, ◌*◌, pos, ℤ, List, ◌∷◌, length, map, reverse, take, drop, Option, Some, None, slice_get, refl, sym, ap, ◌∙◌, subst, arith, Box, Global}
+use Rattle.std.proofs.Common.{◌≡◌, ℕ, ◌+◌, ◌*◌, pos, ℤ, List, ◌∷◌, length, map, reverse, take, drop, Option, Some, None, slice_get, refl, sym, ap, ◌∙◌, subst, arith}
 use Rattle.std.specs.Prelude.{option_and_then, option_map, Result, Ok, nat_le}
 use Rattle.std.proofs.lemmas.List.{length-map}
 use Rattle.pearl_value.specs.declared.kind.Kind.{Kind}
@@ -17,7 +17,7 @@ use Rattle.pearl_program.specs.declared.expression.Bound.{Bound}
 use Rattle.pearl_program.specs.Typing.{elements}
 use Rattle.pearl_instructions.specs.declared.instr.Bounds.{Bounds}
 use Rattle.pearl_instructions.specs.declared.instr.Instr.TheVariants as instr
-use Rattle.pearl_instructions.specs.declared.object.Object.{Object}
+use Rattle.pearl_instructions.specs.declared.object.Parts.{Parts as Object}
 use Rattle.pearl_instructions.specs.Steps.{Step, given, needed, value_kind, makes, leaves}
 use Rattle.pearl_instructions.specs.Operators.{numbers_of, offset_of, index_of}
 use Rattle.pearl_meaning.specs.Frames.{Store}
@@ -33,10 +33,10 @@ use Rattle.pearl_gen_expr.proofs.Moves.{frame_at, RowMeets, on_top_of, instr_car
 use Rattle.pearl_gen_expr.proofs.Index.{taken_is, dropped_is, offset_is, is_before}
 
 module _ (o : Object) (c : Context) (place : ℕ) where
-  pub const_carries : (operands : List Cell) (literal : Box Cell Global) → Is (code_of o c.routine) place (instr.Const literal) →
-      Carries o c (on_top c (place + 1) operands) (at c place operands) (gives literal.value)
-  const_carries operands literal is = instr_carries o c (on_top c (place + 1) operands) place operands (instr.Const literal) (gives literal.value) is
-      (λ task cells more rest of. silent_meets o c (on_top c (place + 1) operands) (frame_at c place operands cells ∷ stack c.callers more) literal.value
+  pub const_carries : (operands : List Cell) (literal : Cell) → Is (code_of o c.routine) place (instr.Const literal) →
+      Carries o c (on_top c (place + 1) operands) (at c place operands) (gives literal)
+  const_carries operands literal is = instr_carries o c (on_top c (place + 1) operands) place operands (instr.Const literal) (gives literal) is
+      (λ task cells more rest of. silent_meets o c (on_top c (place + 1) operands) (frame_at c place operands cells ∷ stack c.callers more) literal
       (record { task = task; frames = cells ∷ more }) rest tt of)
 
   pub now_carries : (operands : List Cell) → Is (code_of o c.routine) place instr.Now →
@@ -114,23 +114,24 @@ module _ (o : Object) (c : Context) (place : ℕ) where
       (n, sym same ∙ ap (λ n. cell.Fixed 31 (pos n)) none, is_before bounds xs n e)
 
   -- and their offset is pushed
-  pub index_carries : (bounds : List Bound) (list : Box (List Bounds) Global) (xs operands : List Cell) → list.value ≡ map bounds_of bounds → length xs ≡ length bounds →
-      Is (code_of o c.routine) place (instr.Index list) →
+  pub index_carries : (bounds : List Bound) (xs operands : List Cell) → length xs ≡ length bounds →
+      Is (code_of o c.routine) place (instr.Index (map bounds_of bounds)) →
       Carries o c (on_top_of c (place + 1) operands (IsOffset bounds)) (at c place (pushed xs operands)) (meaning.offset_of (elements_before bounds xs))
-  index_carries bounds list xs operands same long is =
+  index_carries bounds xs operands long is =
+      let list = map bounds_of bounds in
       let end = on_top_of c (place + 1) operands (IsOffset bounds) in
       instr_carries o c end place (pushed xs operands) (instr.Index list) (meaning.offset_of (elements_before bounds xs)) is (λ task cells more rest of.
       let f = frame_at c place (pushed xs operands) cells in let lower = stack c.callers more in let store : Store = record { task = task; frames = cells ∷ more } in
-      let n = length list.value in
+      let n = length list in
       let all = pushed xs operands in
-      let many : length xs ≡ n = long ∙ (sym (length-map bounds bounds_of) ∙ ap length (sym same)) in
+      let many : length xs ≡ n = long ∙ sym (length-map bounds bounds_of) in
       let meant = meaning.offset_of (elements_before bounds xs) store rest in
       let test = nat_le n (length all) in
-      let go : List Cell → List Cell → List Bounds → Step =
-      λ xs left bounds. needed test (given (numbers_of xs) (λ ns. makes f lower left (index_of (offset_of (pos 0) bounds ns)))) in
-      let is_step : go (reverse (take n all)) (drop n all) list.value ≡ go xs operands (map bounds_of bounds) =
-      ap (λ xs. go xs (drop n all) list.value) (taken_is xs operands n many) ∙ (ap (λ left. go xs left list.value) (dropped_is xs operands n many) ∙ ap (go xs operands) same) in
-      let made : List ℤ → Result Cell Trap = λ ns. index_of (offset_of (pos 0) (map bounds_of bounds) ns) in
+      let go : List Cell → List Cell → Step =
+      λ xs left. needed test (given (numbers_of xs) (λ ns. makes f lower left (index_of (offset_of (pos 0) list ns)))) in
+      let is_step : go (reverse (take n all)) (drop n all) ≡ go xs operands =
+      ap (λ xs. go xs (drop n all)) (taken_is xs operands n many) ∙ ap (go xs) (dropped_is xs operands n many) in
+      let made : List ℤ → Result Cell Trap = λ ns. index_of (offset_of (pos 0) list ns) in
       subst (λ step. RowMeets o c end (f ∷ lower) step rest meant) (sym is_step)
       (needed_meets o c end (f ∷ lower) test (given (numbers_of xs) (λ ns. makes f lower operands (made ns))) rest meant (λ enough.
       given_meets o c end (f ∷ lower) (numbers_of xs) (λ ns. makes f lower operands (made ns)) rest meant (λ ns here.

@@ -27,7 +27,7 @@ use Rattle.pearl_instructions.specs.declared.instr.Instr.TheVariants as instr
 use Rattle.pearl_instructions.specs.declared.object.Leaf.{Leaf}
 use Rattle.pearl_instructions.specs.declared.object.Code.{Code}
 use Rattle.pearl_instructions.specs.declared.object.Procedure.{Procedure}
-use Rattle.pearl_instructions.specs.declared.object.Object.{Object}
+use Rattle.pearl_instructions.specs.declared.object.Parts.{Parts as Object}
 use Rattle.pearl_instructions.specs.Objects.{is_task}
 use Rattle.pearl_instructions.specs.Operands.{Shape}
 use Rattle.pearl_instructions.specs.Valid.{result_shape}
@@ -156,7 +156,7 @@ module _ (o : Object) (r : ℕ) (code : Code) (p : PlainProg) (around : Around) 
       let subscripts = on end (first_quiet o r code from end to quiet (omega (arith, last))) is.1 in
       let long = fixed_length (length (bound ∷ bounds)) subscripts.0 s subscripts.2 in
       then_one o r code from end to s subscripts.0 (Plain (kind_.Fixed 31) ∷ s) last subscripts.1
-      (index_keeps o r code end (last_quiet o r code from end to quiet less last) is.2.0 bound bounds subscripts.0 s is.2.2 is.2.1 are few small subscripts.2 (omega (arith, long, many, room)))
+      (index_keeps o r code end (last_quiet o r code from end to quiet less last) bound bounds subscripts.0 s is.2 are few small subscripts.2 (omega (arith, long, many, room)))
 
   -- READING
 
@@ -320,8 +320,8 @@ module _ (o : Object) (r : ℕ) (code : Code) (p : PlainProg) (around : Around) 
         AreQuiet code from to → ExprAt p code.instructions from e to → Keeps o r code from to s (Plain kind ∷ s)
     expr_keeps (OfLiteral value) kind from to s typed small deep room quiet is =
         let last = is.1 in
-        just_one o r code from to s (Plain kind ∷ s) last (const_keeps o r code from (last_quiet o r code from from to quiet (omega arith) last) is.0.0 kind s is.0.2
-        (ap cell_kind_of is.0.1 ∙ literal_kind value kind typed) (omega (arith, room)))
+        just_one o r code from to s (Plain kind ∷ s) last (const_keeps o r code from (last_quiet o r code from from to quiet (omega arith) last) value kind s is.0
+        (literal_kind value kind typed) (omega (arith, room)))
     expr_keeps (OfRead (OfVariable target bounds subscripts)) kind from to s typed small deep room quiet is =
         let small : of_exprs calls subscripts ≤ below = omega (arith, small) in
         let deep : of_exprs (callees (depths o)) subscripts ≤ most = omega (arith, deep) in

@@ -11,7 +11,7 @@ use Rattle.pearl_rules.specs.Slots.{heard_value}
 use Rattle.pearl_stack.specs.Frames.{Frame}
 use Rattle.pearl_instructions.specs.declared.instr.Instr.{Instr}
 use Rattle.pearl_instructions.specs.declared.object.Code.{Code}
-use Rattle.pearl_instructions.specs.declared.object.Object.{Object}
+use Rattle.pearl_instructions.specs.declared.object.Parts.{Parts as Object}
 use Rattle.pearl_instructions.specs.Objects.{routine_at}
 use Rattle.pearl_instructions.specs.Steps.{Step, Silent, Offers, Missing, given, needed, makes, heard, asks}
 use Rattle.pearl_instructions.specs.Rows.{row, act}

@@ -8,7 +8,7 @@ use Rattle.pearl_value.specs.declared.kind.CellKind.TheVariants.{Plain, RefTo}
 use Rattle.std.specs.Prelude.{◌&&◌, ◌||◌, not, nat_lt, if◌then◌else◌}
 use Rattle.pearl_instructions.specs.declared.instr.Instr.{Instr}
 use Rattle.pearl_instructions.specs.declared.object.Code.{Code}
-use Rattle.pearl_instructions.specs.declared.object.Object.{Object}
+use Rattle.pearl_instructions.specs.declared.object.Parts.{Parts as Object}
 use Rattle.pearl_instructions.specs.Operands.{Shape, asked, same_kind, same_cell, same_shape, v2}
 use Rattle.pearl_instructions.specs.Named.{v1}
 use Rattle.pearl_instructions.specs.Kinds.{v3, v4, v5, shape_after}

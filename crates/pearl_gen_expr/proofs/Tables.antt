@@ -10,7 +10,7 @@ use Rattle.pearl_program.specs.Sound.{IsSound, IsProcedure, signature_of}
 use Rattle.pearl_meaning.specs.Setting.{params_of}
 use Rattle.pearl_meaning.specs.Variables as meaning
 use Rattle.pearl_instructions.specs.declared.object.Leaf.{Leaf}
-use Rattle.pearl_instructions.specs.declared.object.Object.{Object}
+use Rattle.pearl_instructions.specs.declared.object.Parts.{Parts as Object}
 use Rattle.pearl_instructions.specs.Objects.{first_slot}
 use Rattle.pearl_gen_expr.specs.Tables.{plain_leaf, HasTables}
 use Rattle.pearl_gen_expr.specs.Calls.{IsAroundIn}

@@ -24,7 +24,7 @@ use Rattle.pearl_meaning.specs.Variables.{reference, own_reference, write_refere
 use Rattle.pearl_meaning.specs.Values.{taken, hand_over}
 use Rattle.pearl_meaning.specs.Transfers.{offset}
 use Rattle.pearl_instructions.specs.declared.instr.Instr.TheVariants as instr
-use Rattle.pearl_instructions.specs.declared.object.Object.{Object}
+use Rattle.pearl_instructions.specs.declared.object.Parts.{Parts as Object}
 use Rattle.pearl_instructions.specs.Objects.{first_slot}
 use Rattle.pearl_gen_expr.specs.Contexts.{Context, at, IsStoreOf}
 use Rattle.pearl_gen_expr.specs.Carrying.{Meets, Carries}

@@ -19,7 +19,7 @@ use Rattle.pearl_program.specs.PlainPrograms.{PlainProg}
 use Rattle.pearl_program.specs.Typing.{elements}
 use Rattle.pearl_stack.specs.Frames as stack_frames
 use Rattle.pearl_stack.specs.Frames.{Frame}
-use Rattle.pearl_instructions.specs.declared.object.Object.{Object}
+use Rattle.pearl_instructions.specs.declared.object.Parts.{Parts as Object}
 use Rattle.pearl_instructions.specs.declared.instr.Instr.TheVariants as instr
 use Rattle.pearl_instructions.specs.Objects.{first_slot}
 use Rattle.pearl_instructions.specs.Steps.{Silent, acts, leaves, traps, within}

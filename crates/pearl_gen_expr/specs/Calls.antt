@@ -6,7 +6,7 @@ use Rattle.pearl_program.specs.Typing.{Around}
 use Rattle.pearl_program.specs.Sound.{IsSound, signature_of}
 use Rattle.pearl_meaning.specs.Setting.{Setting}
 use Rattle.pearl_instructions.specs.declared.instr.Instr.TheVariants.{Call}
-use Rattle.pearl_instructions.specs.declared.object.Object.{Object}
+use Rattle.pearl_instructions.specs.declared.object.Parts.{Parts as Object}
 use Rattle.pearl_instructions.specs.Stacks.{cell_kinds}
 use Rattle.pearl_gen_expr.specs.Contexts.{Context, at, pushed}
 use Rattle.pearl_gen_expr.specs.Carrying.{Carries}

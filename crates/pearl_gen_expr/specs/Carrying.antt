@@ -3,7 +3,7 @@ use Rattle.std.specs.Prelude.{◌≡◌, ◌≤◌, List, length}
 use Rattle.pearl_rules.specs.declared.action.Action.TheVariants as action
 use Rattle.pearl_rules.specs.declared.action.Answer.{Answer}
 use Rattle.pearl_stack.specs.Frames.{Frame}
-use Rattle.pearl_instructions.specs.declared.object.Object.{Object}
+use Rattle.pearl_instructions.specs.declared.object.Parts.{Parts as Object}
 use Rattle.pearl_meaning.specs.Frames.{Store}
 use Rattle.pearl_meaning.specs.Evaluation.{Outcome, Value, Needs, Fails, Does}
 use Rattle.pearl_gen_expr.specs.Comes.{Aim, offers, or_lost, Comes}

@@ -1,7 +1,6 @@
 -- Which code stands for an expression, for a variable, or for the arguments of a call: it stands from one place of the code up to another.
 -- Operands are pushed from left to right, and an instruction that takes some stands behind all of them.
 use Rattle.std.specs.Prelude.{◌≡◌, ℕ, ◌+◌, List, [], ◌∷◌, map, Option, Some, None, slice_get}
-use Rattle.std.proofs.Common.{Box, Global}
 use Rattle.pearl_value.specs.declared.kind.CellKind.{CellKind}
 use Rattle.pearl_value.specs.declared.kind.CellKind.TheVariants.{Plain, RefTo}
 use Rattle.pearl_value.specs.declared.cell.Cell.{Cell}
@@ -16,7 +15,7 @@ use Rattle.pearl_instructions.specs.declared.instr.Bounds.{Bounds}
 use Rattle.pearl_instructions.specs.declared.instr.Instr.{Instr}
 use Rattle.pearl_instructions.specs.declared.instr.Instr.TheVariants as instr
 use Rattle.pearl_instructions.specs.declared.object.Code.{Code}
-use Rattle.pearl_instructions.specs.declared.object.Object.{Object}
+use Rattle.pearl_instructions.specs.declared.object.Parts.{Parts as Object}
 use Rattle.pearl_instructions.specs.Objects.{routine_at}
 
 abbrev pub instructions_or_none : Option Code → List Instr
@@ -71,11 +70,11 @@ module _ (code : List Instr) where
 
   -- one that pushes this value
   abbrev pub IsConst : (place : ℕ) → Cell → Type 0
-  IsConst place value = (literal : Box Cell Global) × (literal.value ≡ value) × Is place (instr.Const literal)
+  IsConst place value = Is place (instr.Const value)
 
   -- one that checks subscripts for these bounds, and pushes the offset
   abbrev pub IsIndex : (place : ℕ) → List Bound → Type 0
-  IsIndex place bounds = (list : Box (List Bounds) Global) × (list.value ≡ map bounds_of bounds) × Is place (instr.Index list)
+  IsIndex place bounds = Is place (instr.Index (map bounds_of bounds))
 
   -- the subscripts and their check, where there are some
   abbrev pub OffsetOf : (from : ℕ) → List Bound → (subscripts : Ends) → Ends

@@ -14,7 +14,7 @@ use Rattle.pearl_meaning.specs.Variables.{write_reference}
 use Rattle.pearl_meaning.specs.Values as values
 use Rattle.pearl_meaning.specs.Values.{eval, taken, eval_all, hand_over}
 use Rattle.pearl_meaning.specs.Transfers.{offset}
-use Rattle.pearl_instructions.specs.declared.object.Object.{Object}
+use Rattle.pearl_instructions.specs.declared.object.Parts.{Parts as Object}
 use Rattle.pearl_gen_expr.specs.Contexts.{Context, at}
 use Rattle.pearl_gen_expr.specs.Carrying.{Carries}
 use Rattle.pearl_gen_expr.specs.ExprCode.{code_of, writing_to, Is, ExprAt, OffsetAt, WayAt, AllAt, CallAt}

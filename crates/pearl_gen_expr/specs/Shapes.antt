@@ -16,7 +16,7 @@ use Rattle.pearl_program.specs.Weights.{calls, values, callees, of_expr, of_expr
 use Rattle.pearl_meaning.specs.Setting.{params_of}
 use Rattle.pearl_instructions.specs.declared.object.Code.{Code}
 use Rattle.pearl_instructions.specs.declared.object.Procedure.{Procedure}
-use Rattle.pearl_instructions.specs.declared.object.Object.{Object}
+use Rattle.pearl_instructions.specs.declared.object.Parts.{Parts as Object}
 use Rattle.pearl_instructions.specs.Objects.{is_task}
 use Rattle.pearl_instructions.specs.Operands.{Shape}
 use Rattle.pearl_instructions.specs.Valid.{is_named, stated, shape_before, judged_at, result_shape}

@@ -8,7 +8,7 @@ use Rattle.pearl_meaning.specs.ProgramRuns.{entry_of}
 use Rattle.pearl_instructions.specs.declared.object.Leaf.{Leaf}
 use Rattle.pearl_instructions.specs.declared.object.Procedure.{Procedure}
 use Rattle.pearl_instructions.specs.declared.object.Task.{Task}
-use Rattle.pearl_instructions.specs.declared.object.Object.{Object}
+use Rattle.pearl_instructions.specs.declared.object.Parts.{Parts as Object}
 
 -- a leaf of an object as one of a program
 abbrev pub plain_leaf : Leaf → PlainLeaf

@@ -7,6 +7,7 @@ ghost use Rattle.pearl_gen_expr.specs.ExprCode.{reading as reading_of, referring
 ghost use Rattle.pearl_gen_expr.specs.Emitting.{Extends, Emits, EmitsExpr, EmitsAll, EmitsOffset, EmitsWay, EmitsRead, EmitsElement, EmitsReference, EmitsCall, EmitsArguments, EmitsArgument, HasParameters};
 
 use crate::bounds::{element_count, index_bounds};
+use pearl_instructions::boxed::Boxed;
 use pearl_instructions::instr::Instr;
 use pearl_program::expression::{Argument, Call, Expr, Target, Variable};
 use pearl_program::literal::Literal;
@@ -109,7 +110,7 @@ fn emit_const(alloc: Global, code: &mut Vec<Instr>, literal: &Literal) -> Result
     ensures added { (p : PlainProg) → OnOk result (EmitsExpr p (OfLiteral (cell_of literal.now)) code.old.items code.new.items) }
     ensures kept { Extends code.old.items code.new.items }
 {
-    let value = Box::new(alloc, literal.cell())?;
+    let value = Boxed::new(alloc, literal.cell())?;
     emit(code, Instr::Const(value))?;
     Ok(())
 }
@@ -193,7 +194,7 @@ pub fn emit_offset(
     }
     emit_all(alloc, program, code, variable.subscripts.as_slice())?;
     let list = Listing::new(index_bounds(alloc, variable.bounds.as_slice())?);
-    let bounds = Box::new(alloc, list)?;
+    let bounds = Boxed::new(alloc, list)?;
     emit(code, Instr::Index(bounds))?;
     Ok(())
 }

@@ -15,7 +15,7 @@ use Rattle.pearl_stack.specs.Frames.{Frame}
 use Rattle.pearl_program.specs.PlainExpressions.{PlainExpr}
 use Rattle.pearl_program.specs.PlainStatements.{PlainCounter}
 use Rattle.pearl_instructions.specs.declared.instr.Instr.TheVariants as instr
-use Rattle.pearl_instructions.specs.declared.object.Object.{Object}
+use Rattle.pearl_instructions.specs.declared.object.Parts.{Parts as Object}
 use Rattle.pearl_instructions.specs.Steps.{Step, Silent, Missing, traps}
 use Rattle.pearl_instructions.specs.Operators as operators
 use Rattle.pearl_instructions.specs.Flow as flow

@@ -1,5 +1,5 @@
 -- Part behind part: the code of loops around their statements.
-use Rattle.std.proofs.Common.{◌≡◌, ℕ, ◌+◌, ◌≤◌, pos, List, [], ◌∷◌, ◌++◌, length, Some, None, refl, sym, subst, arith, Box, Global}
+use Rattle.std.proofs.Common.{◌≡◌, ℕ, ◌+◌, ◌≤◌, pos, List, [], ◌∷◌, ◌++◌, length, Some, None, refl, sym, ap, ◌∙◌, subst, arith}
 use Rattle.pearl_value.specs.declared.kind.Kind.{Kind}
 use Rattle.pearl_value.specs.declared.cell.Cell.{Cell}
 use Rattle.pearl_value.specs.declared.cell.Cell.TheVariants.{Fixed}
@@ -18,15 +18,17 @@ use Rattle.pearl_gen_stmt.proofs.Adding.{stays_on, stays_one, last_stays}
 use Rattle.pearl_gen_stmt.proofs.Keeping.{kept_expr}
 
 module _ (setting : Setting) (old one two : List Instr) where
-  pub one_counted_adds : (counter : PlainCounter) (of : Kind) (box : Box Cell Global) → cell_kind setting counter.cell ≡ Some of →
-      box.value ≡ Fixed 31 (pos 1) → one ≡ old ++ instr.Const box ∷ [] → two ≡ one ++ instr.Conv of ∷ [] →
+  pub one_counted_adds : (counter : PlainCounter) (of : Kind) (box : Cell) → cell_kind setting counter.cell ≡ Some of →
+      box ≡ Fixed 31 (pos 1) → one ≡ old ++ instr.Const box ∷ [] → two ≡ one ++ instr.Conv of ∷ [] →
       Adds (λ code from to. CountedAt setting code from counter None to) old two
   one_counted_adds counter of box kind same const conv final stays =
+      let number = instr.Const (Fixed 31 (pos 1)) in
+      let const : one ≡ old ++ number ∷ [] = const ∙ ap (λ x. old ++ instr.Const x ∷ []) same in
       let first = stays_one one two (instr.Conv of) conv final stays in
-      let long = one_longer old one (instr.Const box) const in (
+      let long = one_longer old one number const in (
         of,
         kind,
-        (box, same, last_stays old one (instr.Const box) const final first refl),
+        last_stays old one number const final first refl,
         subst (λ place. Is final place (instr.Conv of)) long (last_stays one two (instr.Conv of) conv final stays refl),
         (let more = one_longer one two (instr.Conv of) conv in omega (arith, more, long)),
       )

@@ -8,7 +8,7 @@ use Rattle.pearl_program.specs.PlainPrograms.{PlainProcedure, PlainTask, PlainPr
 use Rattle.pearl_instructions.specs.declared.instr.Instr.{Instr}
 use Rattle.pearl_instructions.specs.declared.instr.Instr.TheVariants.{Jump, JumpZero, Turn, Call, Return, End, Try}
 use Rattle.pearl_instructions.specs.declared.object.Code.{Code}
-use Rattle.pearl_instructions.specs.declared.object.Object.{Object}
+use Rattle.pearl_instructions.specs.declared.object.Parts.{Parts as Object}
 use Rattle.pearl_instructions.specs.Valid.{unsound}
 use Rattle.pearl_gen_stmt.specs.Generated.{last_of, IsCode, IsGenerated}
 

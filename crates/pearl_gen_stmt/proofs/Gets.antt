@@ -1,7 +1,7 @@
 -- GET: its code does what it means.
 use Rattle.std.specs.Prelude.{◌≡◌, ℕ, suc, ◌+◌, ◌-◌, ◌≤◌, ◌<◌, ◌==◌, nat_le, nat_lt, ◌⊎◌, pos, negsuc, Bool, true, false, if◌then◌else◌, List, [], ◌∷◌, ◌++◌, length, map, take, drop, get_or, replicate, Option, Some, None, option_map, option_and_then, slice_get, slice_set}
 use Rattle.std.specs.List.{AllZip}
-use Rattle.std.proofs.Common.{Box, Global, inl, inr, refl, sym, subst, ap, ◌∙◌, arith, append_assoc}
+use Rattle.std.proofs.Common.{inl, inr, refl, sym, subst, ap, ◌∙◌, arith, append_assoc}
 use Rattle.std.proofs.lemmas.Bool.{leb-true}
 use Rattle.std.proofs.lemmas.List.{length-set, length-replicate, length-append, length-map, length-take, length-drop}
 use Rattle.std.proofs.lemmas.Option.{slice_get-get_or, same_Some}
@@ -33,7 +33,7 @@ use Rattle.pearl_program.specs.Typing.{Around, elements, IsParam, IsVariable}
 use Rattle.pearl_program.specs.Weights.{calls, of_variable, of_variables}
 use Rattle.pearl_instructions.specs.declared.instr.Instr.TheVariants as instr
 use Rattle.pearl_instructions.specs.declared.instr.Reading.{Reading}
-use Rattle.pearl_instructions.specs.declared.object.Object.{Object}
+use Rattle.pearl_instructions.specs.declared.object.Parts.{Parts as Object}
 use Rattle.pearl_instructions.specs.declared.object.Leaf.{Leaf}
 use Rattle.pearl_instructions.specs.Objects.{first_slot, items_at}
 use Rattle.pearl_instructions.specs.Steps.{Step, Silent, Offers, Missing, given, needed, value_kind, all_heard, leaves, traps, acts}
@@ -395,24 +395,23 @@ module _ (o : Object) (c : Context) (setting : Setting) where
         (asked_meets o c ending (f ∷ lower) (action.Get device format (record { items = kinds })) (λ answer. frame_at c (place + 1) [] (with_values cells cell (all_heard answer)) ∷ lower) store (heard_then cell targets) rest
         (λ answer left. heard_meets targets cell (place + 1) to leave writes task cells more of answer left)))))
 
-    asked_framed : (targets : List PlainVariable) (kinds : List Kind) (device format cell from end to leave : ℕ) (reading : Box Reading Global) → o.formats ≡ setting.program.formats →
+    asked_framed : (targets : List PlainVariable) (kinds : List Kind) (device format cell from end to leave : ℕ) → o.formats ≡ setting.program.formats →
         ((items : List Item) → slice_get setting.program.formats format ≡ Some items → data_count items ≡ length kinds) →
-        FilledAt setting (code_of o c.routine) from cell kinds end → reading.value ≡ record { device = device; format = format; first = cell } →
-        Is (code_of o c.routine) end (instr.Get reading) →
+        FilledAt setting (code_of o c.routine) from cell kinds end →
+        Is (code_of o c.routine) end (instr.Get (record { device = device; format = format; first = cell })) →
         Carries o c (ways c to leave setting.result) (at c (end + 1) []) (write_targets setting cell (cell + length targets) targets) →
         (task : ℕ) (frames : List (List Cell)) (rest : List Answer) → IsStoreOf o c (record { task = task; frames = frames }) →
         Meets o c (ways c to leave setting.result) (at c from [] (record { task = task; frames = frames })) rest
         (next (put_cells cell (map blank_of kinds)) (bind (ask (action.Get device format (record { items = kinds }))) (heard_then cell targets)) (record { task = task; frames = frames }) rest)
-    asked_framed targets kinds device format cell from end to leave reading formats count fills is reads writes task [] rest of = absurd of.cells
-    asked_framed targets kinds device format cell from end to leave reading formats count fills is reads writes task (cells ∷ more) rest of =
+    asked_framed targets kinds device format cell from end to leave formats count fills reads writes task [] rest of = absurd of.cells
+    asked_framed targets kinds device format cell from end to leave formats count fills reads writes task (cells ∷ more) rest of =
         let all = put_in cell (map blank_of kinds) cells in let store : Store = record { task = task; frames = all ∷ more } in
         let ending = ways c to leave setting.result in let f = frame_at c end [] all in let lower = stack c.callers more in
         let m = bind (ask (action.Get device format (record { items = kinds }))) (heard_then cell targets) store rest in
         filled_meets ending task more rest m kinds from end cell cells fills
-        (row_within o c c ending end [] all lower (instr.Get reading) rest m reads
-        (subst (λ reading. RowMeets o c ending (f ∷ lower) (get_values o reading f lower) rest m) (sym is)
+        (row_within o c c ending end [] all lower (instr.Get (record { device = device; format = format; first = cell })) rest m reads
         (get_meets targets kinds device format cell end to leave formats count writes task cells more rest
-        (more_cells all of (put_long cell (map blank_of kinds) cells)))))
+        (more_cells all of (put_long cell (map blank_of kinds) cells))))
 
   -- THE OFFSETS
 
@@ -481,6 +480,6 @@ gets_carry o c setting around below placed code out from to targets device forma
     next (put_cells cell (heard_values answer)) (write_targets setting cell (cell + length targets) targets))))
     (keeps_carry o c setting around below code targets sound from kept (cell + length targets) is.2 less stands.4) (λ it of.
     record {
-      over = λ store rest of. asked_framed o c setting placed.known.tables targets kinds device format cell kept end to out stands.6 placed.known.tables.formats count stands.5 stands.7 stands.8
-          (writes_carry o c setting placed.known.tables targets (end + 1) to out cell (cell + length targets) room stands.9) store.task store.frames rest of;
+      over = λ store rest of. asked_framed o c setting placed.known.tables targets kinds device format cell kept end to out placed.known.tables.formats count stands.5 stands.6
+          (writes_carry o c setting placed.known.tables targets (end + 1) to out cell (cell + length targets) room stands.7) store.task store.frames rest of;
     }))

@@ -1,5 +1,5 @@
 -- Part behind part: the code of GET.
-use Rattle.std.proofs.Common.{◌≡◌, ◌≢◌, ℕ, ◌+◌, ◌<◌, ◌≤◌, pos, List, [], ◌∷◌, ◌++◌, length, map, drop, get_or, Some, option_map, option_and_then, refl, sym, ap, ◌∙◌, subst, arith, Box, Global}
+use Rattle.std.proofs.Common.{◌≡◌, ◌≢◌, ℕ, ◌+◌, ◌<◌, ◌≤◌, pos, List, [], ◌∷◌, ◌++◌, length, map, drop, get_or, Some, option_map, option_and_then, refl, sym, ap, ◌∙◌, subst, arith}
 use Rattle.std.proofs.Math.ListN.{drop_of_length-le}
 use Rattle.pearl_value.specs.declared.kind.Kind.{Kind}
 use Rattle.pearl_value.specs.declared.cell.Cell.{Cell}
@@ -25,11 +25,13 @@ use Rattle.pearl_gen_stmt.proofs.Keeping.{kept_offset, writing_at_known}
 module _ (setting : Setting) (old : List Instr) where
   -- SUBSCRIPTS
 
-  pub zero_found_adds : (one : List Instr) (target : Target) (bounds : List Bound) (es : PlainExprs) (box : Box Cell Global) → bounds ≡ [] →
-      box.value ≡ Fixed 31 (pos 0) → one ≡ old ++ instr.Const box ∷ [] → Adds (λ code from to. FoundAt setting code from (OfVariable target bounds es) to) old one
+  pub zero_found_adds : (one : List Instr) (target : Target) (bounds : List Bound) (es : PlainExprs) (box : Cell) → bounds ≡ [] →
+      box ≡ Fixed 31 (pos 0) → one ≡ old ++ instr.Const box ∷ [] → Adds (λ code from to. FoundAt setting code from (OfVariable target bounds es) to) old one
   zero_found_adds one target bounds es box none same last =
+      let push = instr.Const (Fixed 31 (pos 0)) in
+      let last : one ≡ old ++ push ∷ [] = last ∙ ap (λ x. old ++ instr.Const x ∷ []) same in
       subst (λ bounds. Adds (λ code from to. FoundAt setting code from (OfVariable target bounds es) to) old one) (sym none)
-      (λ final stays. ((box, same, last_stays old one (instr.Const box) last final stays refl), one_longer old one (instr.Const box) last))
+      (λ final stays. (last_stays old one push last final stays refl, one_longer old one push last))
 
   pub found_adds : (one : List Instr) (target : Target) (bounds : List Bound) (es : PlainExprs) → bounds ≢ [] →
       EmitsOffset setting.program (OfVariable target bounds es) old one → Adds (λ code from to. FoundAt setting code from (OfVariable target bounds es) to) old one
@@ -144,24 +146,24 @@ module _ (setting : Setting) (old : List Instr) where
       (subst (λ left. WrittenSoFar now (cell + i) (at + i) (map plain_variable left) cell at (map plain_variable xs)) (drop_of_length-le xs past) before)
       final (length now) stays refl
 
-  pub get_adds : (one two three four : List Instr) (targets : List PlainVariable) (device format cell : ℕ) (kinds : List Kind) (box : Box Reading Global) →
+  pub get_adds : (one two three four : List Instr) (targets : List PlainVariable) (device format cell : ℕ) (kinds : List Kind) (box : Reading) →
       Adds (λ code from to. KeptAt setting code from (cell + length targets) targets to) old one → Extends one two → kinds_of setting targets ≡ Some kinds →
-      Adds (λ code from to. FilledAt setting code from cell kinds to) one two → box.value ≡ record { device = device; format = format; first = cell } →
+      Adds (λ code from to. FilledAt setting code from cell kinds to) one two → box ≡ record { device = device; format = format; first = cell } →
       three ≡ two ++ instr.Get box ∷ [] → Extends three four → Adds (λ code from to. WrittenAt setting code from cell (cell + length targets) targets to) three four →
       Adds (λ code from to. GetAt setting code from targets device format cell to) old four
   get_adds one two three four targets device format cell kinds box keeps kept kinds_are fills same last more writes final stays =
+      let get = instr.Get (record { device = device; format = format; first = cell }) in
+      let last : three ≡ two ++ get ∷ [] = last ∙ ap (λ r. two ++ instr.Get r ∷ []) same in
       let third = stays_on three four final more stays in
-      let second = stays_one two three (instr.Get box) last final third in (
+      let second = stays_one two three get last final third in (
         kinds,
         kinds_are,
         length one,
         length two,
         keeps final (stays_on one two final kept second),
         fills final second,
-        box,
-        same,
-        last_stays two three (instr.Get box) last final third refl,
-        subst (λ from. WrittenAt setting final from cell (cell + length targets) targets (length four)) (one_longer two three (instr.Get box) last) (writes final stays),
+        last_stays two three get last final third refl,
+        subst (λ from. WrittenAt setting final from cell (cell + length targets) targets (length four)) (one_longer two three get last) (writes final stays),
       )
 
 module _ (setting : Setting) (old new : List Instr) where

@@ -1,5 +1,5 @@
 -- Code of expressions that stands still stands as pending jumps get their places and more is emitted behind it.
-use Rattle.std.proofs.Common.{◌≡◌, ℕ, List, [], ◌∷◌, None, refl}
+use Rattle.std.proofs.Common.{◌≡◌, ℕ, List, [], ◌∷◌, None, map, refl}
 use Rattle.pearl_value.specs.declared.cell.Cell.{Cell}
 use Rattle.pearl_value.specs.declared.kind.CellKind.{CellKind}
 use Rattle.pearl_value.specs.declared.kind.CellKind.TheVariants.{Plain, RefTo}
@@ -10,7 +10,7 @@ use Rattle.pearl_program.specs.PlainExpressions.{PlainExpr, OfLiteral, OfRead, O
 use Rattle.pearl_program.specs.PlainPrograms.{PlainProg}
 use Rattle.pearl_instructions.specs.declared.instr.Instr.{Instr}
 use Rattle.pearl_instructions.specs.declared.instr.Instr.TheVariants as instr
-use Rattle.pearl_gen_expr.specs.ExprCode.{reading, writing, writing_to, slot_reference, cell_reference, IsConst, IsIndex, OffsetOf, WayOf, ReadOf, ReferenceOf, ExprAt, AllAt, ArgumentsAt, ArgumentAt, OffsetAt, WayAt, CallAt}
+use Rattle.pearl_gen_expr.specs.ExprCode.{reading, writing, writing_to, slot_reference, cell_reference, bounds_of, OffsetOf, WayOf, ReadOf, ReferenceOf, ExprAt, AllAt, ArgumentsAt, ArgumentAt, OffsetAt, WayAt, CallAt}
 use Rattle.pearl_gen_stmt.specs.StmtCode.{writing_at}
 use Rattle.pearl_gen_stmt.specs.Emission.{pending, Stays}
 
@@ -45,16 +45,10 @@ cell_known cell [] = refl
 cell_known cell (bound ∷ bounds) = refl
 
 module _ (old new : List Instr) (stays : Stays old new) where
-  pub kept_const : (place : ℕ) (value : Cell) → IsConst old place value → IsConst new place value
-  kept_const place value is = (is.0, is.1, stays place (instr.Const is.0) is.2 refl)
-
-  pub kept_index : (place : ℕ) (bounds : List Bound) → IsIndex old place bounds → IsIndex new place bounds
-  kept_index place bounds is = (is.0, is.1, stays place (instr.Index is.0) is.2 refl)
-
   module _ (one two : ℕ → Type 0) (on : (end : ℕ) → one end → two end) where
     kept_offset_of : (bounds : List Bound) (from to : ℕ) → OffsetOf old from bounds one to → OffsetOf new from bounds two to
     kept_offset_of [] from to is = is
-    kept_offset_of (bound ∷ bounds) from to is = (is.0, on is.0 is.1, kept_index is.0 (bound ∷ bounds) is.2, is.3)
+    kept_offset_of (bound ∷ bounds) from to is = (is.0, on is.0 is.1, stays is.0 (instr.Index (map bounds_of (bound ∷ bounds))) is.2 refl, is.3)
 
     kept_way_of : (target : Target) (bounds : List Bound) (from to : ℕ) → WayOf old from target bounds one to → WayOf new from target bounds two to
     kept_way_of (LeafOf number) bounds from to is = kept_offset_of bounds from to is
@@ -75,7 +69,7 @@ module _ (old new : List Instr) (stays : Stays old new) where
 module _ (p : PlainProg) (old new : List Instr) (stays : Stays old new) where
   mutual
     pub kept_expr : (e : PlainExpr) (from to : ℕ) → ExprAt p old from e to → ExprAt p new from e to
-    kept_expr (OfLiteral value) from to is = (kept_const old new stays from value is.0, is.1)
+    kept_expr (OfLiteral value) from to is = (stays from (instr.Const value) is.0 refl, is.1)
     kept_expr (OfRead (OfVariable target bounds subscripts)) from to is =
         kept_read old new stays (λ end. AllAt p old from subscripts end) (λ end. AllAt p new from subscripts end) (λ end are. kept_all subscripts from end are) target bounds from to is
     kept_expr (OfMonadic op operand) from to is = (is.0, kept_expr operand from is.0 is.1, stays is.0 (instr.Monadic op) is.2 refl, is.3)

@@ -1,5 +1,5 @@
 -- Part behind part: the code of statements with statements within them, once their jumps have got their places.
-use Rattle.std.proofs.Common.{◌≡◌, ◌≢◌, ℕ, ◌+◌, ◌<◌, ◌≤◌, Bool, true, List, [], ◌∷◌, ◌++◌, length, drop, get_or, Option, Some, None, slice_get, refl, sym, ◌∙◌, subst, arith, Box, Global}
+use Rattle.std.proofs.Common.{◌≡◌, ◌≢◌, ℕ, ◌+◌, ◌<◌, ◌≤◌, Bool, true, List, [], ◌∷◌, ◌++◌, length, drop, get_or, Option, Some, None, slice_get, refl, sym, ◌∙◌, subst, arith}
 use Rattle.std.proofs.Math.ListN.{drop_of_length-le}
 use Rattle.std.proofs.lemmas.List.{append-nil, append_assoc}
 use Rattle.pearl_value.specs.declared.trap.Trap.TheVariants.{Index, Range}
@@ -14,7 +14,7 @@ use Rattle.pearl_instructions.specs.declared.instr.Instr.TheVariants as instr
 use Rattle.pearl_gen_expr.specs.ExprCode.{Is}
 use Rattle.pearl_gen_expr.specs.Emitting.{Extends, EmitsExpr}
 use Rattle.pearl_gen_expr.proofs.Offered.{still_is, last_is, one_longer, extends_one, extends_more}
-use Rattle.pearl_gen_stmt.specs.StmtCode.{on_task, ListAt, BeginsAt, CountsAt, WhileAt, AdvanceAt, StmtAt, StmtsAt, ElseAt, BranchesAt}
+use Rattle.pearl_gen_stmt.specs.StmtCode.{on_task, Alone, BeginsAt, CountsAt, WhileAt, AdvanceAt, StmtAt, StmtsAt, ElseAt, BranchesAt}
 use Rattle.pearl_gen_stmt.specs.Emission.{pending, Stays, Exits, GoBehind, Adds, AddsTest, AddsStmt, AddsStmts, AddsElse, AddsBranches}
 use Rattle.pearl_gen_stmt.specs.declared.pending.Pending.TheVariants.{Exit, Test, Branch as Behind}
 use Rattle.pearl_gen_stmt.proofs.Adding.{stays_on, stays_one, last_stays, alone_adds}
@@ -46,9 +46,10 @@ pub prevent_known : (task : Option ℕ) → pending (on_task instr.Prevent instr
 prevent_known None = refl
 prevent_known (Some task) = refl
 
-pub listed_adds : (setting : Setting) (old one : List Instr) (make : Box (Listing ℕ) Global → Instr) (numbers : List ℕ) (list : Box (Listing ℕ) Global) →
-    list.value ≡ numbers → pending (make list) ≡ None → one ≡ old ++ make list ∷ [] → Adds (λ code from to. ListAt setting code from make numbers to) old one
-listed_adds setting old one make numbers list same known last final stays = (list, same, alone_adds old one (make list) last setting known final stays)
+pub listed_adds : (setting : Setting) (old one : List Instr) (make : List ℕ → Instr) (numbers list : List ℕ) →
+    list ≡ numbers → pending (make list) ≡ None → one ≡ old ++ make list ∷ [] → Adds (λ code from to. Alone setting code from (make numbers) to) old one
+listed_adds setting old one make numbers list same known last final stays =
+    subst (λ numbers. Alone setting final (length old) (make numbers) (length one)) same (alone_adds old one (make list) last setting known final stays)
 
 module _ (setting : Setting) (in_loop : Bool) (old : List Instr) where
   -- LISTS
@@ -159,9 +160,9 @@ module _ (setting : Setting) (in_loop : Bool) (old : List Instr) where
   -- CASE
 
   pub case_adds : (one two three four five six seven : List Instr) (selector : PlainExpr) (alternatives : PlainBranches) (otherwise : PlainStmts)
-      (targets : Box (Listing ℕ) Global) (to : ℕ) → to ≡ length five → EmitsExpr setting.program selector old one → Extends old one → two ≡ one ++ instr.Trap Range ∷ [] →
+      (targets : List ℕ) (to : ℕ) → to ≡ length five → EmitsExpr setting.program selector old one → Extends old one → two ≡ one ++ instr.Trap Range ∷ [] →
       Extends two three → AddsStmts setting in_loop otherwise two three → four ≡ three ++ instr.Trap Range ∷ [] → Extends four five →
-      AddsBranches setting in_loop targets.value alternatives four five →
+      AddsBranches setting in_loop targets alternatives four five →
       ((k : ℕ) → length three ≤ k → Is five k (instr.Trap Range) → Is six k (instr.Jump to)) → ((k : ℕ) (i : Instr) → Is five k i → pending i ≢ Some Behind → Is six k i) →
       ((k : ℕ) → k < length three → slice_get six k ≡ slice_get five k) → length six ≡ length five → Is seven (length one) (instr.Case targets) →
       ((k : ℕ) → k ≢ length one → slice_get seven k ≡ slice_get six k) → length seven ≡ length six →
@@ -193,8 +194,8 @@ module _ (setting : Setting) (in_loop : Bool) (old : List Instr) where
             (added final leave third (λ within. exits_on leave (length two) three five final all (out within))),
         subst (λ to. Is final (length three) (instr.Jump to)) (sym whole)
             (jumps (length three) (omega arith) (still_is four five (length three) (instr.Trap Range) more (last_is three four (instr.Trap Range) last))),
-        subst (λ from. BranchesAt setting final leave from targets.value alternatives (length seven)) behind
-            (subst (λ to. BranchesAt setting final leave (length four) targets.value alternatives to) (to_is' to_is whole)
+        subst (λ from. BranchesAt setting final leave from targets alternatives (length seven)) behind
+            (subst (λ to. BranchesAt setting final leave (length four) targets alternatives to) (to_is' to_is whole)
             (branches final leave fifth (λ within. exits_from leave (length two) (length four) five final (omega (arith, beyond, behind)) (out within))
             (λ place far is. subst (λ to. Is final place (instr.Jump to)) to_is (jumps place (omega (arith, far, behind)) is)))),
       )

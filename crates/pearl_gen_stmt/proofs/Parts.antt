@@ -14,7 +14,7 @@ use Rattle.pearl_program.specs.PlainPrograms.{PlainRoutine, PlainProcedure, Plai
 use Rattle.pearl_program.specs.Typing.{Around}
 use Rattle.pearl_program.specs.Sound.{IsSound, signature_of}
 use Rattle.pearl_instructions.specs.declared.object.Procedure.{Procedure}
-use Rattle.pearl_instructions.specs.declared.object.Object.{Object}
+use Rattle.pearl_instructions.specs.declared.object.Parts.{Parts as Object}
 use Rattle.pearl_instructions.specs.Lawful.{IsObject}
 use Rattle.pearl_instructions.specs.Laws.{Leads as RowsLead, KeepsTask}
 use Rattle.pearl_instructions.specs.Objects as objects

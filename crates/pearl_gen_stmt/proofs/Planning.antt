@@ -1,5 +1,5 @@
 -- Part behind part: the code of what is done to tasks, and of when.
-use Rattle.std.proofs.Common.{◌≡◌, ℕ, Bool, List, [], ◌∷◌, ◌++◌, length, Option, Some, refl, Box, Global}
+use Rattle.std.proofs.Common.{◌≡◌, ℕ, Bool, List, [], ◌∷◌, ◌++◌, length, Option, Some, refl, ap, ◌∙◌}
 use Rattle.pearl_program.specs.PlainExpressions.{PlainExpr}
 use Rattle.pearl_program.specs.PlainStatements.{PlainStart, PlainOnce, PlainPeriod}
 use Rattle.pearl_meaning.specs.Setting.{Setting}
@@ -27,12 +27,14 @@ module _ (setting : Setting) (old one : List Instr) where
   period_adds two period form is kept ends final stays = (length one, expr_adds period.duration is final (stays_on one two final kept stays), ends final stays)
 
   pub activate_adds : (two three four : List Instr) (task : ℕ) (begin : Option PlainStart) (period : Option PlainPeriod) (priority : Option PlainExpr)
-      (form : StartForm) (how : RepeatForm) (given : Bool) (box : Box Activation Global) → Adds (λ code from to. WhenAt setting code from begin form to) old one →
+      (form : StartForm) (how : RepeatForm) (given : Bool) (box : Activation) → Adds (λ code from to. WhenAt setting code from begin form to) old one →
       Extends one two → Adds (λ code from to. PeriodAt setting code from period how to) one two → Extends two three →
-      Adds (λ code from to. PriorityAt setting code from priority given to) two three → box.value ≡ record { task = task; start = form; repeat = how; priority = given } →
+      Adds (λ code from to. PriorityAt setting code from priority given to) two three → box ≡ record { task = task; start = form; repeat = how; priority = given } →
       four ≡ three ++ instr.Activate box ∷ [] → Adds (λ code from to. ActivateAt setting code from task begin period priority to) old four
   activate_adds two three four task begin period priority form how given box when kept repeats more urgent same last final stays =
-      let third = stays_one three four (instr.Activate box) last final stays in
+      let next = instr.Activate (record { task = task; start = form; repeat = how; priority = given }) in
+      let last : four ≡ three ++ next ∷ [] = last ∙ ap (λ a. three ++ instr.Activate a ∷ []) same in
+      let third = stays_one three four next last final stays in
       let second = stays_on two three final more third in (
         form,
         how,
@@ -43,24 +45,22 @@ module _ (setting : Setting) (old one : List Instr) where
         when final (stays_on one two final kept second),
         repeats final second,
         urgent final third,
-        box,
-        same,
-        last_stays three four (instr.Activate box) last final stays refl,
-        one_longer three four (instr.Activate box) last,
+        last_stays three four next last final stays refl,
+        one_longer three four next last,
       )
 
-  pub continue_adds : (two : List Instr) (task : ℕ) (later : Option PlainOnce) (form : Option OnceForm) (box : Box Continuation Global) →
-      Adds (λ code from to. MaybeLaterAt setting code from later form to) old one → box.value ≡ record { task = task; once = form } →
+  pub continue_adds : (two : List Instr) (task : ℕ) (later : Option PlainOnce) (form : Option OnceForm) (box : Continuation) →
+      Adds (λ code from to. MaybeLaterAt setting code from later form to) old one → box ≡ record { task = task; once = form } →
       two ≡ one ++ instr.Continue box ∷ [] → Adds (λ code from to. ContinueAt setting code from task later to) old two
-  continue_adds two task later form box when same last final stays = (
-    form,
-    length one,
-    when final (stays_one one two (instr.Continue box) last final stays),
-    box,
-    same,
-    last_stays one two (instr.Continue box) last final stays refl,
-    one_longer one two (instr.Continue box) last,
-  )
+  continue_adds two task later form box when same last final stays =
+      let next = instr.Continue (record { task = task; once = form }) in
+      let last : two ≡ one ++ next ∷ [] = last ∙ ap (λ c. one ++ instr.Continue c ∷ []) same in (
+        form,
+        length one,
+        when final (stays_one one two next last final stays),
+        last_stays one two next last final stays refl,
+        one_longer one two next last,
+      )
 
   pub resume_adds : (two : List Instr) (later : PlainOnce) (form : OnceForm) → Adds (λ code from to. LaterAt setting code from later form to) old one →
       two ≡ one ++ instr.Resume form ∷ [] → Adds (λ code from to. ResumeAt setting code from later to) old two

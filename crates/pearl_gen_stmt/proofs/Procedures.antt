@@ -17,7 +17,7 @@ use Rattle.pearl_program.specs.Weights.{calls, greatest_of_all}
 use Rattle.pearl_instructions.specs.declared.instr.Instr.TheVariants as instr
 use Rattle.pearl_instructions.specs.declared.object.Code.{Code}
 use Rattle.pearl_instructions.specs.declared.object.Procedure.{Procedure}
-use Rattle.pearl_instructions.specs.declared.object.Object.{Object}
+use Rattle.pearl_instructions.specs.declared.object.Parts.{Parts as Object}
 use Rattle.pearl_instructions.specs.Objects.{routine_at, result_of}
 use Rattle.pearl_instructions.specs.Steps.{Silent, Offers, needed}
 use Rattle.pearl_instructions.specs.Flow.{fresh, called}

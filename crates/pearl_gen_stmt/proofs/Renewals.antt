@@ -9,7 +9,7 @@ use Rattle.pearl_rules.specs.declared.action.Answer.{Answer}
 use Rattle.pearl_program.specs.FirstCells.{first_cells}
 use Rattle.pearl_program.specs.PlainStatements.{PlainValues}
 use Rattle.pearl_instructions.specs.declared.instr.Instr.TheVariants as instr
-use Rattle.pearl_instructions.specs.declared.object.Object.{Object}
+use Rattle.pearl_instructions.specs.declared.object.Parts.{Parts as Object}
 use Rattle.pearl_instructions.specs.Steps.{Silent}
 use Rattle.pearl_instructions.specs.Cells.{filled}
 use Rattle.pearl_meaning.specs.Frames.{Store}

@@ -22,7 +22,7 @@ use Rattle.pearl_instructions.specs.declared.schedule.StartForm.TheVariants as s
 use Rattle.pearl_instructions.specs.declared.schedule.RepeatForm.{RepeatForm}
 use Rattle.pearl_instructions.specs.declared.schedule.RepeatForm.TheVariants as again
 use Rattle.pearl_instructions.specs.declared.instr.Instr.TheVariants as instr
-use Rattle.pearl_instructions.specs.declared.object.Object.{Object}
+use Rattle.pearl_instructions.specs.declared.object.Parts.{Parts as Object}
 use Rattle.pearl_instructions.specs.Steps.{Step, Silent, Offers, Missing, traps}
 use Rattle.pearl_instructions.specs.Steps as steps
 use Rattle.pearl_instructions.specs.Offers.{as_start, start_or_free, start_kinds, repeat_kinds, activation_count, started, repeated, with_priority, activate, continue}
@@ -426,10 +426,8 @@ module _ (o : Object) (c : Context) (setting : Setting) (Fine : PlainExpr → Ty
       let operands = pushed us (pushed ps (pushed ws [])) in
       let test = is_start (when_of form ws) && is_repeat (how_of how ps) && is_priority (urgent_of given us) in
       let does = acts_if test (action.Activate task (when_of form ws) (how_of how ps) (option_map unsigned_abs (urgent_of given us))) in
-      instr_carries o c end_of place operands (instr.Activate code.9) does code.11 (λ own cells more rest of.
-      let f = frame_at c place operands cells in let lower = stack c.callers more in
-      subst (λ activation. RowMeets o c end_of (f ∷ lower) (activate activation f lower) rest (does (record { task = own; frames = cells ∷ more }) rest)) (sym code.10)
-      (activate_meets o c place to leave setting.result code.12 task form how given ws ps us operands cells more own rest long longer longest refl of)))))
+      instr_carries o c end_of place operands (instr.Activate (record { task = task; start = form; repeat = how; priority = given })) does code.9 (λ own cells more rest of.
+      activate_meets o c place to leave setting.result code.10 task form how given ws ps us operands cells more own rest long longer longest refl of))))
 
   pub continues_carries : (task : ℕ) (later : Option PlainOnce) → FineLater o c setting Fine values later → ContinueAt setting (code_of o c.routine) from task later to →
       Carries o c end_of (at c from []) (continues setting task later)
@@ -437,10 +435,8 @@ module _ (o : Object) (c : Context) (setting : Setting) (Fine : PlainExpr → Ty
       let form = code.0 in let place = code.1 in
       maybe_carries o c setting Fine values end_of from place later form [] (λ when. acts_if (is_start when) (action.Continue task when)) fine code.2 (λ ws long.
       let does = acts_if (is_start (when_of (start_or_free form) ws)) (action.Continue task (when_of (start_or_free form) ws)) in
-      instr_carries o c end_of place (pushed ws []) (instr.Continue code.3) does code.5 (λ own cells more rest of.
-      let f = frame_at c place (pushed ws []) cells in let lower = stack c.callers more in
-      subst (λ continuation. RowMeets o c end_of (f ∷ lower) (continue continuation f lower) rest (does (record { task = own; frames = cells ∷ more }) rest)) (sym code.4)
-      (starts_meets o c place to leave setting.result code.6 (start_or_free form) ws (λ when. action.Continue task when) (pushed ws []) cells more own rest long refl of)))
+      instr_carries o c end_of place (pushed ws []) (instr.Continue (record { task = task; once = form })) does code.3 (λ own cells more rest of.
+      starts_meets o c place to leave setting.result code.4 (start_or_free form) ws (λ when. action.Continue task when) (pushed ws []) cells more own rest long refl of))
 
   pub resumes_carries : (later : PlainOnce) → FineOnce o c setting Fine values later → ResumeAt setting (code_of o c.routine) from later to →
       Carries o c end_of (at c from []) (resumes setting later)

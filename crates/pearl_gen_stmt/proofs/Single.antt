@@ -1,6 +1,6 @@
 -- What single instructions of statements do.
 use Rattle.std.specs.Prelude.{◌≡◌, ℕ, ◌+◌, ◌≤◌, ◌==◌, not, Bool, true, false, if◌then◌else◌, List, [], ◌∷◌, length, Option, Some, None, slice_get, slice_set}
-use Rattle.std.proofs.Common.{sym, subst, ap, arith}
+use Rattle.std.proofs.Common.{refl, sym, subst, ap, arith}
 use Rattle.std.proofs.lemmas.List.{length-set}
 use Rattle.pearl_value.specs.declared.kind.Kind.{Kind}
 use Rattle.pearl_value.specs.declared.cell.Cell.{Cell}
@@ -11,7 +11,7 @@ use Rattle.pearl_rules.specs.declared.action.Answer.{Answer}
 use Rattle.pearl_stack.specs.Frames.{Frame}
 use Rattle.pearl_instructions.specs.declared.instr.Instr.{Instr}
 use Rattle.pearl_instructions.specs.declared.instr.Instr.TheVariants as instr
-use Rattle.pearl_instructions.specs.declared.object.Object.{Object}
+use Rattle.pearl_instructions.specs.declared.object.Parts.{Parts as Object}
 use Rattle.pearl_instructions.specs.Steps.{Silent, Offers, given, needed, value_kind, makes}
 use Rattle.pearl_instructions.specs.Flow.{jump_zero}
 use Rattle.pearl_instructions.specs.Rows.{act}
@@ -109,8 +109,7 @@ module _ (o : Object) (c : Context) where
   pub const_carries : {X : Type 0} (end : End X) (place : ℕ) (x : Cell) (operands : List Cell) (does : Does X) → IsConst (code_of o c.routine) place x →
       Carries o c end (at c (place + 1) (x ∷ operands)) does → Carries o c end (at c place operands) does
   const_carries end place x operands does is carries =
-      silent_carries end place (place + 1) operands (x ∷ operands) (instr.Const is.0) does is.2
-      (λ cells low. ap (λ value. Silent (frame_at c (place + 1) (value ∷ operands) cells ∷ low)) is.1) carries
+      silent_carries end place (place + 1) operands (x ∷ operands) (instr.Const x) does is (λ cells low. refl) carries
 
   -- a jump where the bit on top is 0
   pub branch_carries : {X : Type 0} (end : End X) (place other : ℕ) (x : Cell) (operands : List Cell) (does otherwise : Does X) → Is (code_of o c.routine) place (instr.JumpZero other) →

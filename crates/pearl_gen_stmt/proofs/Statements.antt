@@ -1,6 +1,6 @@
 -- The code of statements does what they mean.
 use Rattle.std.specs.Prelude.{◌≡◌, ℕ, zero, suc, ◌+◌, ◌≤◌, pos, negsuc, if◌then◌else◌, List, [], ◌∷◌, Option, Some, None, IfSome, slice_get}
-use Rattle.std.proofs.Common.{Box, Global, refl, sym, subst, ap, ◌∙◌, arith}
+use Rattle.std.proofs.Common.{refl, sym, subst, ap, ◌∙◌, arith}
 use Rattle.pearl_value.specs.declared.kind.Kind.{Kind}
 use Rattle.pearl_value.specs.declared.kind.Kind.TheVariants.{Bits as of_bits, Fixed as of_fixed, Clock as of_clock, Span as of_span}
 use Rattle.pearl_value.specs.declared.cell.Cell.{Cell}
@@ -22,7 +22,7 @@ use Rattle.pearl_program.specs.SoundStatements as sound
 use Rattle.pearl_program.specs.Weights.{calls, of_expr, of_if, of_counter, of_start, of_once, of_period, of_period_end, of_variables, of_stmt, greatest, greatest_of_all, greatest_of_branches}
 use Rattle.pearl_instructions.specs.declared.instr.Instr.{Instr}
 use Rattle.pearl_instructions.specs.declared.instr.Instr.TheVariants as instr
-use Rattle.pearl_instructions.specs.declared.object.Object.{Object}
+use Rattle.pearl_instructions.specs.declared.object.Parts.{Parts as Object}
 use Rattle.pearl_instructions.specs.Steps.{Offers}
 use Rattle.pearl_instructions.specs.Flow.{branch, goes_or_on}
 use Rattle.pearl_instructions.specs.Rows.{act, own_task}
@@ -95,16 +95,6 @@ module _ (o : Object) (c : Context) (out : ℕ) (returning : Option Kind) where
   terminates_carries from to None is to_is = stop_own_carries o c to out returning from is
   terminates_carries from to (Some task) is to_is = alone_carries from to (instr.Terminate task) (action.Terminate task) is to_is (λ cells low. refl)
 
-  requests : (from to : ℕ) (semaphores : List ℕ) (list : Box (Listing ℕ) Global) → list.value ≡ semaphores → Is (code_of o c.routine) from (instr.Request list) → to ≡ from + 1 →
-      Carries o c (ends to) (at c from []) (acts (action.Request (record { items = semaphores })))
-  requests from to semaphores list same is to_is = alone_carries from to (instr.Request list) (action.Request (record { items = semaphores })) is to_is
-      (λ cells low. ap (λ items. Offers (action.Request (record { items = items })) (λ answer. frame_at c (from + 1) [] cells ∷ low)) same)
-
-  releases : (from to : ℕ) (semaphores : List ℕ) (list : Box (Listing ℕ) Global) → list.value ≡ semaphores → Is (code_of o c.routine) from (instr.Release list) → to ≡ from + 1 →
-      Carries o c (ends to) (at c from []) (acts (action.Release (record { items = semaphores })))
-  releases from to semaphores list same is to_is = alone_carries from to (instr.Release list) (action.Release (record { items = semaphores })) is to_is
-      (λ cells low. ap (λ items. Offers (action.Release (record { items = items })) (λ answer. frame_at c (from + 1) [] cells ∷ low)) same)
-
   -- CASE
 
   -- the statements of an alternative, or else those of OUT
@@ -133,11 +123,11 @@ module _ (o : Object) (c : Context) (out : ℕ) (returning : Option Kind) where
   selects_meet end place targets x nth otherwise other each task cells more rest of =
       missing_meets o c end (frame_at c place (x ∷ []) cells ∷ stack c.callers more) rest (selected x nth otherwise (record { task = task; frames = cells ∷ more }) rest)
 
-  selects : (end : End Flow) (place : ℕ) (targets : Box (Listing ℕ) Global) (x : Cell) (nth : ℕ → Does Flow) (otherwise : Does Flow) → Is (code_of o c.routine) place (instr.Case targets) →
-      Carries o c end (at c (place + 1) []) otherwise → ((n : ℕ) → Carries o c end (at c (place_or (slice_get targets.value n) (place + 1)) []) (nth n)) →
+  selects : (end : End Flow) (place : ℕ) (targets : List ℕ) (x : Cell) (nth : ℕ → Does Flow) (otherwise : Does Flow) → Is (code_of o c.routine) place (instr.Case targets) →
+      Carries o c end (at c (place + 1) []) otherwise → ((n : ℕ) → Carries o c end (at c (place_or (slice_get targets n) (place + 1)) []) (nth n)) →
       Carries o c end (at c place (x ∷ [])) (selected x nth otherwise)
   selects end place targets x nth otherwise is other each =
-      instr_carries o c end place (x ∷ []) (instr.Case targets) (selected x nth otherwise) is (selects_meet end place targets.value x nth otherwise other each)
+      instr_carries o c end place (x ∷ []) (instr.Case targets) (selected x nth otherwise) is (selects_meet end place targets x nth otherwise other each)
 
 -- WHAT STANDS AROUND
 
@@ -363,7 +353,7 @@ module _ (expressions : ExpressionsCarry) (gets_carry : GetsCarry) (o : Object) 
         (λ x. selected o c out setting.result x (λ n. exec_nth setting alternatives n (exec_all setting otherwise)) (exec_all setting otherwise))
         (values around placed selector from place [] (of_fixed is.0.0, is.0.1, omega (arith, less)) code.3) (λ x of.
         selects o c out setting.result (Ends to out) place targets x (λ n. exec_nth setting alternatives n (exec_all setting otherwise)) (exec_all setting otherwise) code.4 other
-        (λ n. branches_carry alternatives around placed leave out (end + 1) to (place + 1) targets.value n (exec_all setting otherwise) leads is.1 (omega (arith, less)) code.7 other))
+        (λ n. branches_carry alternatives around placed leave out (end + 1) to (place + 1) targets n (exec_all setting otherwise) leads is.1 (omega (arith, less)) code.7 other))
     stmt_carries (OfRepeat counter condition statements) around placed leave out from to leads is less code =
         let top = code.0 in let counted = code.1 in let begin = code.2 in let end = code.3 in
         loops around placed counter condition (exec_all setting statements) from to out top counted begin end is.0 is.1 (omega (arith, less)) (omega (arith, less))
@@ -381,8 +371,10 @@ module _ (expressions : ExpressionsCarry) (gets_carry : GetsCarry) (o : Object) 
     stmt_carries (OfSuspend task) around placed leave out from to leads is less code = suspends o c out setting.result from to task code.0 code.1
     stmt_carries (OfTerminate task) around placed leave out from to leads is less code = terminates_carries o c out setting.result from to task code.0 code.1
     stmt_carries (OfPrevent task) around placed leave out from to leads is less code = prevents o c out setting.result from to task code.0 code.1
-    stmt_carries (OfRequest semaphores) around placed leave out from to leads is less code = requests o c out setting.result from to semaphores code.0 code.1 code.2.0 code.2.1
-    stmt_carries (OfRelease semaphores) around placed leave out from to leads is less code = releases o c out setting.result from to semaphores code.0 code.1 code.2.0 code.2.1
+    stmt_carries (OfRequest semaphores) around placed leave out from to leads is less code =
+        alone_carries o c out setting.result from to (instr.Request semaphores) (action.Request (record { items = semaphores })) code.0 code.1 (λ cells low. refl)
+    stmt_carries (OfRelease semaphores) around placed leave out from to leads is less code =
+        alone_carries o c out setting.result from to (instr.Release semaphores) (action.Release (record { items = semaphores })) code.0 code.1 (λ cells low. refl)
     stmt_carries (OfEnable interrupt) around placed leave out from to leads is less code =
         alone_carries o c out setting.result from to (instr.Enable interrupt) (action.Enable interrupt) code.0 code.1 (λ cells low. refl)
     stmt_carries (OfDisable interrupt) around placed leave out from to leads is less code =

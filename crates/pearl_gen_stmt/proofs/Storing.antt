@@ -1,5 +1,5 @@
 -- Part behind part: the code that gives variables their first values.
-use Rattle.std.proofs.Common.{◌≡◌, ℕ, zero, suc, ◌+◌, ◌-◌, ◌<◌, ◌≤◌, List, [], ◌∷◌, ◌++◌, length, map, drop, get_or, refl, sym, subst, arith, Box, Global}
+use Rattle.std.proofs.Common.{◌≡◌, ℕ, zero, suc, ◌+◌, ◌-◌, ◌<◌, ◌≤◌, List, [], ◌∷◌, ◌++◌, length, map, drop, get_or, refl, sym, ap, ◌∙◌, subst, arith}
 use Rattle.std.proofs.Math.ListN.{drop_of_length-le}
 use Rattle.pearl_value.specs.declared.cell.Cell.{Cell}
 use Rattle.pearl_program.specs.declared.literal.Literal.{Literal}
@@ -22,21 +22,22 @@ module _ (setting : Setting) (old : List Instr) where
   StoresSoFar now at left cell all = (final : List Instr) (to : ℕ) → Stays now final →
       StoresAt setting final (length now) at left to → StoresAt setting final (length old) cell all to
 
-  stores_next : (now one two : List Instr) (at : ℕ) (x : Cell) (left : List Cell) (cell : ℕ) (all : List Cell) (box : Box Cell Global) →
-      box.value ≡ x → one ≡ now ++ instr.Const box ∷ [] → two ≡ one ++ instr.Store at ∷ [] → StoresSoFar now at (x ∷ left) cell all →
+  stores_next : (now one two : List Instr) (at : ℕ) (x : Cell) (left : List Cell) (cell : ℕ) (all : List Cell) (box : Cell) →
+      box ≡ x → one ≡ now ++ instr.Const box ∷ [] → two ≡ one ++ instr.Store at ∷ [] → StoresSoFar now at (x ∷ left) cell all →
       StoresSoFar two (at + 1) left cell all
   stores_next now one two at x left cell all box same const store before final to stays rest =
+      let const : one ≡ now ++ instr.Const x ∷ [] = const ∙ ap (λ x. now ++ instr.Const x ∷ []) same in
       let first = stays_one one two (instr.Store at) store final stays in
-      let long = one_longer now one (instr.Const box) const in
+      let long = one_longer now one (instr.Const x) const in
       let more : length two ≡ length now + 2 = let l = one_longer one two (instr.Store at) store in omega (arith, l, long) in
-      before final to (stays_one now one (instr.Const box) const final first) (
-        (box, same, last_stays now one (instr.Const box) const final first refl),
+      before final to (stays_one now one (instr.Const x) const final first) (
+        last_stays now one (instr.Const x) const final first refl,
         subst (λ place. Is final place (instr.Store at)) long (last_stays one two (instr.Store at) store final stays refl),
         subst (λ from. StoresAt setting final from (at + 1) left to) more rest,
       )
 
-  pub stores_more : (now one two : List Instr) (cell : ℕ) (xs : List Literal) (i : ℕ) (x : Literal) (box : Box Cell Global) → i < length xs → x ≡ get_or xs i x →
-      box.value ≡ cell_of x → one ≡ now ++ instr.Const box ∷ [] → two ≡ one ++ instr.Store (cell + i) ∷ [] →
+  pub stores_more : (now one two : List Instr) (cell : ℕ) (xs : List Literal) (i : ℕ) (x : Literal) (box : Cell) → i < length xs → x ≡ get_or xs i x →
+      box ≡ cell_of x → one ≡ now ++ instr.Const box ∷ [] → two ≡ one ++ instr.Store (cell + i) ∷ [] →
       StoresSoFar now (cell + i) (map cell_of (drop i xs)) cell (map cell_of xs) → StoresSoFar two (cell + (i + 1)) (map cell_of (drop (i + 1) xs)) cell (map cell_of xs)
   stores_more now one two cell xs i x box inside is same const store before =
       let next : cell + i + 1 ≡ cell + (i + 1) = omega arith in

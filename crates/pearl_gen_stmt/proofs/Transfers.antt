@@ -19,7 +19,7 @@ use Rattle.pearl_program.specs.PlainPrograms.{PlainProcedure}
 use Rattle.pearl_program.specs.Typing.{Around, HasKind, IsVariable, Suit, HaveKinds}
 use Rattle.pearl_program.specs.Weights.{calls, of_expr, of_exprs, of_variable, of_arguments}
 use Rattle.pearl_instructions.specs.declared.instr.Instr.TheVariants as instr
-use Rattle.pearl_instructions.specs.declared.object.Object.{Object}
+use Rattle.pearl_instructions.specs.declared.object.Parts.{Parts as Object}
 use Rattle.pearl_instructions.specs.Objects.{items_at, result_of}
 use Rattle.pearl_instructions.specs.Steps.{Step, Offers, given, needed, taken}
 use Rattle.pearl_instructions.specs.Offers.{value_kinds, items_suit, put_text}

@@ -12,7 +12,7 @@ use Rattle.pearl_program.specs.PlainPrograms.{PlainRoutine, PlainProcedure, Plai
 use Rattle.pearl_program.specs.Typing.{Around, HasKind, IsVariable, Suit}
 use Rattle.pearl_program.specs.SoundStatements.{AreStmts}
 use Rattle.pearl_program.specs.Sound.{IsSound, around_of}
-use Rattle.pearl_instructions.specs.declared.object.Object.{Object}
+use Rattle.pearl_instructions.specs.declared.object.Parts.{Parts as Object}
 use Rattle.pearl_instructions.specs.Lawful.{IsObject}
 use Rattle.pearl_instructions.specs.Valid.{IsValid}
 use Rattle.pearl_instructions.specs.Stacks.{IsStack}

@@ -9,7 +9,7 @@ use Rattle.pearl_program.specs.Sound.{IsSound}
 use Rattle.pearl_instructions.specs.declared.instr.Instr.{Instr}
 use Rattle.pearl_instructions.specs.declared.instr.Instr.TheVariants.{Return, End, Trap}
 use Rattle.pearl_instructions.specs.declared.object.Code.{Code}
-use Rattle.pearl_instructions.specs.declared.object.Object.{Object}
+use Rattle.pearl_instructions.specs.declared.object.Parts.{Parts as Object}
 use Rattle.pearl_instructions.specs.Objects.{routine_at}
 use Rattle.pearl_instructions.specs.Rows.{begun}
 use Rattle.pearl_meaning.specs.Setting.{Setting}

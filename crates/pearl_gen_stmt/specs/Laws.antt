@@ -4,7 +4,7 @@ use Rattle.pearl_program.specs.PlainStatements.{PlainStmts}
 use Rattle.pearl_program.specs.Typing.{Around}
 use Rattle.pearl_program.specs.SoundStatements.{AreStmts}
 use Rattle.pearl_program.specs.Weights.{calls, greatest_of_all}
-use Rattle.pearl_instructions.specs.declared.object.Object.{Object}
+use Rattle.pearl_instructions.specs.declared.object.Parts.{Parts as Object}
 use Rattle.pearl_instructions.specs.Objects.{result_of}
 use Rattle.pearl_meaning.specs.Setting.{Setting}
 use Rattle.pearl_meaning.specs.Execution.{exec_all}

@@ -5,7 +5,7 @@ use Rattle.pearl_rules.specs.declared.action.Answer.{Answer}
 use Rattle.pearl_stack.specs.Frames.{Frame}
 use Rattle.pearl_program.specs.PlainPrograms.{PlainTask, PlainProg}
 use Rattle.pearl_program.specs.Sound.{IsSound}
-use Rattle.pearl_instructions.specs.declared.object.Object.{Object}
+use Rattle.pearl_instructions.specs.declared.object.Parts.{Parts as Object}
 use Rattle.pearl_instructions.specs.Lawful.{IsObject}
 use Rattle.pearl_instructions.specs.Rows.{begun}
 use Rattle.pearl_instructions.specs.Valid.{IsValid}

@@ -1,7 +1,6 @@
 -- Which code stands for a statement: it stands from one place of the code up to another, and at both the routine has
 -- no operands.
 use Rattle.std.specs.Prelude.{◌≡◌, ℕ, zero, suc, ◌+◌, ◌-◌, pos, Bool, true, false, List, [], ◌∷◌, length, Option, Some, None, slice_get}
-use Rattle.std.proofs.Common.{Box, Global}
 use Rattle.pearl_value.specs.declared.kind.Kind.{Kind}
 use Rattle.pearl_value.specs.declared.cell.Cell.{Cell}
 use Rattle.pearl_value.specs.declared.cell.Cell.TheVariants.{Fixed}
@@ -192,15 +191,13 @@ module _ (setting : Setting) (code : List Instr) where
   ActivateAt from task begin period priority to =
       (form : StartForm) × (how : RepeatForm) × (given : Bool) × (begun : ℕ) × (repeated : ℕ) × (end : ℕ) ×
       WhenAt from begin form begun × PeriodAt begun period how repeated × PriorityAt repeated priority given end ×
-      (activation : Box Activation Global) ×
-      (activation.value ≡ record { task = task; start = form; repeat = how; priority = given }) ×
-      Stands end (instr.Activate activation) × (to ≡ end + 1)
+      Stands end (instr.Activate (record { task = task; start = form; repeat = how; priority = given })) ×
+      (to ≡ end + 1)
 
   abbrev pub ContinueAt : (from task : ℕ) → Option PlainOnce → (to : ℕ) → Type 0
   ContinueAt from task later to =
       (form : Option OnceForm) × (end : ℕ) × MaybeLaterAt from later form end ×
-      (continuation : Box Continuation Global) × (continuation.value ≡ record { task = task; once = form }) ×
-      Stands end (instr.Continue continuation) × (to ≡ end + 1)
+      Stands end (instr.Continue (record { task = task; once = form })) × (to ≡ end + 1)
 
   abbrev pub ResumeAt : (from : ℕ) → PlainOnce → (to : ℕ) → Type 0
   ResumeAt from later to =
@@ -237,17 +234,14 @@ module _ (setting : Setting) (code : List Instr) where
   GetAt from targets device format cell to =
       (kinds : List Kind) × (kinds_of setting targets ≡ Some kinds) × (kept : ℕ) × (end : ℕ) ×
       KeptAt from (cell + length targets) targets kept × FilledAt kept cell kinds end ×
-      (reading : Box Reading Global) × (reading.value ≡ record { device = device; format = format; first = cell }) ×
-      Stands end (instr.Get reading) × WrittenAt (end + 1) cell (cell + length targets) targets to
+      Stands end (instr.Get (record { device = device; format = format; first = cell })) ×
+      WrittenAt (end + 1) cell (cell + length targets) targets to
 
   -- STATEMENTS
 
   -- an instruction by itself
   abbrev pub Alone : (from : ℕ) → Instr → (to : ℕ) → Type 0
   Alone from instr to = Stands from instr × (to ≡ from + 1)
-
-  abbrev pub ListAt : (from : ℕ) → (Box (Listing ℕ) Global → Instr) → List ℕ → (to : ℕ) → Type 0
-  ListAt from instr numbers to = (list : Box (Listing ℕ) Global) × (list.value ≡ numbers) × Alone from (instr list) to
 
   abbrev pub ReturnAt : (from : ℕ) → Option PlainExpr → (to : ℕ) → Type 0
   ReturnAt from None to = Alone from instr.Return to
@@ -272,10 +266,10 @@ module _ (setting : Setting) (code : List Instr) where
         (tested : ℕ) × (other : ℕ) × (end : ℕ) × Expr from condition tested × Stands tested (instr.JumpZero other) ×
         StmtsAt leave (tested + 1) statements end × ElseAt leave end other otherwise to
     StmtAt leave from (OfCase selector alternatives otherwise) to =
-        (selected : ℕ) × (end : ℕ) × (targets : Box (Listing ℕ) Global) × Expr from selector selected ×
+        (selected : ℕ) × (end : ℕ) × (targets : List ℕ) × Expr from selector selected ×
         Stands selected (instr.Case targets) ×
         StmtsAt leave (selected + 1) otherwise end × Stands end (instr.Jump to) ×
-        BranchesAt leave (end + 1) targets.value alternatives to
+        BranchesAt leave (end + 1) targets alternatives to
     StmtAt leave from (OfRepeat counter condition statements) to =
         (top : ℕ) × (counted : ℕ) × (begin : ℕ) × (end : ℕ) × BeginsAt from counter top × Stands top instr.Turn ×
         CountsAt (top + 1) to counter counted × WhileAt counted to condition begin ×
@@ -289,8 +283,8 @@ module _ (setting : Setting) (code : List Instr) where
     StmtAt leave from (OfSuspend task) to = Alone from (on_task instr.Suspend instr.SuspendOwn task) to
     StmtAt leave from (OfTerminate task) to = Alone from (on_task instr.Terminate instr.TerminateOwn task) to
     StmtAt leave from (OfPrevent task) to = Alone from (on_task instr.Prevent instr.PreventOwn task) to
-    StmtAt leave from (OfRequest semaphores) to = ListAt from instr.Request semaphores to
-    StmtAt leave from (OfRelease semaphores) to = ListAt from instr.Release semaphores to
+    StmtAt leave from (OfRequest semaphores) to = Alone from (instr.Request semaphores) to
+    StmtAt leave from (OfRelease semaphores) to = Alone from (instr.Release semaphores) to
     StmtAt leave from (OfEnable interrupt) to = Alone from (instr.Enable interrupt) to
     StmtAt leave from (OfDisable interrupt) to = Alone from (instr.Disable interrupt) to
     StmtAt leave from (OfTrigger interrupt) to = Alone from (instr.Trigger interrupt) to

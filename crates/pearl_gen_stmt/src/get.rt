@@ -13,6 +13,7 @@ use crate::pending::emit;
 use crate::site::{Site, variable_kind};
 use pearl_gen_expr::bounds::element_count;
 use pearl_gen_expr::expression::emit_offset;
+use pearl_instructions::boxed::Boxed;
 use pearl_instructions::instr::{Instr, Reading};
 use pearl_program::expression::{Target, Variable};
 use pearl_program::statement::Get;
@@ -56,7 +57,7 @@ fn emit_found(
     ensures kept { Extends code.old.items code.new.items }
 {
     if target.bounds.is_empty() {
-        let zero = Box::new(alloc, Cell::Fixed { len: 31, value: 0 })?;
+        let zero = Boxed::new(alloc, Cell::Fixed { len: 31, value: 0 })?;
         emit(code, Instr::Const(zero))?;
         return Ok(());
     }
@@ -144,7 +145,7 @@ pub fn emit_get(
         format: u64::from(get.format),
         first: u64::from(get.cell),
     };
-    let boxed = Box::new(alloc, reading)?;
+    let boxed = Boxed::new(alloc, reading)?;
     emit(code, Instr::Get(boxed))?;
     emit_written(code, get.cell, at, targets)?;
     Ok(())

@@ -10,6 +10,7 @@ ghost use Rattle.pearl_gen_stmt.specs.Emission.{setting_of, Adds};
 use crate::pending::emit;
 use crate::site::Site;
 use pearl_gen_expr::expression::emit_expr;
+use pearl_instructions::boxed::Boxed;
 use pearl_instructions::instr::{Activation, Continuation, Instr};
 use pearl_instructions::schedule::{OnceForm, RepeatForm, StartForm};
 use pearl_program::expression::Expr;
@@ -199,7 +200,7 @@ pub fn emit_activate(
         repeat,
         priority,
     };
-    let boxed = Box::new(alloc, activation)?;
+    let boxed = Boxed::new(alloc, activation)?;
     emit(code, Instr::Activate(boxed))?;
     Ok(())
 }
@@ -219,7 +220,7 @@ pub fn emit_continue(
         task: u64::from(part.task),
         once,
     };
-    let boxed = Box::new(alloc, continuation)?;
+    let boxed = Boxed::new(alloc, continuation)?;
     emit(code, Instr::Continue(boxed))?;
     Ok(())
 }

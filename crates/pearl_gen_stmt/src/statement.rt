@@ -5,7 +5,7 @@ ghost use Rattle.pearl_program.specs.PlainStatements.{plain_stmt, plain_stmts, O
 ghost use Rattle.pearl_program.specs.PlainPrograms.{plain_prog, plain_routine};
 ghost use Rattle.pearl_meaning.specs.Setting.{Setting};
 ghost use Rattle.pearl_gen_expr.specs.Emitting.{Extends};
-ghost use Rattle.pearl_gen_stmt.specs.StmtCode.{on_task, ListAt, StmtsAt};
+ghost use Rattle.pearl_gen_stmt.specs.StmtCode.{on_task, Alone, StmtsAt};
 ghost use Rattle.pearl_instructions.specs.declared.instr.Instr as instr_type;
 ghost use Rattle.pearl_instructions.specs.declared.instr.Instr.TheVariants as instr;
 ghost use Rattle.pearl_gen_stmt.specs.Generated.{within_program};
@@ -20,6 +20,7 @@ use crate::site::Site;
 use crate::transfer::{emit_assign, emit_call_of, emit_put, emit_return, emit_send, emit_take};
 use arrayvec::ArrayVec;
 use pearl_gen_expr::expression::emit_expr;
+use pearl_instructions::boxed::Boxed;
 use pearl_instructions::instr::Instr;
 use pearl_program::program::{Program, Routine};
 use pearl_program::statement::{Branch, Case, If, Repeat, Stmt};
@@ -54,14 +55,14 @@ fn preventing(task: Option<u32>) -> Instr
     }
 }
 
-fn listed(alloc: Global, numbers: &[u16]) -> Result<Box<Listing<u64>>, NoMemory>
-    ensures { IfOk result (λ list. list.value ≡ numbers.now) }
+fn listed(alloc: Global, numbers: &[u16]) -> Result<Boxed<Listing<u64>>, NoMemory>
+    ensures { IfOk result (λ list. list ≡ numbers.now) }
 {
     let mut list = Vec::new(alloc);
     for number in numbers {
         list.push(u64::from(*number))?;
     }
-    let boxed = Box::new(alloc, Listing::new(list))?;
+    let boxed = Boxed::new(alloc, Listing::new(list))?;
     Ok(boxed)
 }
 
@@ -70,7 +71,7 @@ fn emit_request(
     code: &mut Vec<Instr>,
     numbers: &ArrayVec<u16, 16>,
 ) -> Result<(), NoMemory>
-    ensures added { OnOk result ((setting : Setting) → Adds (λ code from to. ListAt setting code from instr.Request numbers.now.items to) code.old.items code.new.items) }
+    ensures added { OnOk result ((setting : Setting) → Adds (λ code from to. Alone setting code from (instr.Request numbers.now.items) to) code.old.items code.new.items) }
     ensures kept { Extends code.old.items code.new.items }
 {
     let list = listed(alloc, numbers.as_slice())?;
@@ -83,7 +84,7 @@ fn emit_release(
     code: &mut Vec<Instr>,
     numbers: &ArrayVec<u16, 16>,
 ) -> Result<(), NoMemory>
-    ensures added { OnOk result ((setting : Setting) → Adds (λ code from to. ListAt setting code from instr.Release numbers.now.items to) code.old.items code.new.items) }
+    ensures added { OnOk result ((setting : Setting) → Adds (λ code from to. Alone setting code from (instr.Release numbers.now.items) to) code.old.items code.new.items) }
     ensures kept { Extends code.old.items code.new.items }
 {
     let list = listed(alloc, numbers.as_slice())?;
@@ -208,7 +209,7 @@ fn emit_case(
     let end = code.len();
     emit_pending(code, Pending::Branch)?;
     let places = emit_branches(alloc, site, code, part.alternatives.as_slice())?;
-    let targets = Box::new(alloc, Listing::new(places))?;
+    let targets = Boxed::new(alloc, Listing::new(places))?;
     let to = code.len() as u64;
     settle(code, end, Pending::Branch, to);
     put(code, selected, Instr::Case(targets));

@@ -16,31 +16,31 @@ use Rattle.pearl_instructions.specs.declared.schedule.RepeatForm.TheVariants as 
 use Rattle.pearl_instructions.specs.declared.instr.Instr.{Instr}
 use Rattle.pearl_instructions.specs.declared.instr.Instr.TheVariants.{Load, Read, Write, JumpZero, End, Request, Release, Try, Activate, Continue, Resume, Suspend, Terminate, Prevent, Enable, Disable, Trigger, Put, Get, Take, Send}
 use Rattle.pearl_instructions.specs.declared.object.Task.{Task}
-use Rattle.pearl_instructions.specs.declared.object.Object.{Object}
+use Rattle.pearl_instructions.specs.declared.object.Parts.{Parts as Object}
 use Rattle.pearl_instructions.specs.Lawful.{IsCode, IsObject}
 use Rattle.pearl_instructions.specs.Rows.{row, after}
 use Rattle.pearl_instructions.specs.Valid.{unsound, IsValid}
 use Rattle.pearl_instructions.specs.Stacks.{Answers}
-use Rattle.pearl_instructions.proofs.Examples.{fixed, code, boxed, item}
+use Rattle.pearl_instructions.proofs.Examples.{fixed, code, item}
 use Rattle.pearl_instructions.proofs.ExampleRows.{number, offered, frame}
 use Rattle.pearl_instructions.proofs.ExampleObject.{nowhere, small}
 
 -- WHEN an interrupt ACTIVATE a task PRIO a number
 abbrev activating : ℕ → ℕ → Instr
-activating task device = Activate (boxed (record { task = task; start = form.When device; repeat = again.Once; priority = true }))
+activating task device = Activate (record { task = task; start = form.When device; repeat = again.Once; priority = true })
 
 abbrev continuing : ℕ → ℕ → Instr
-continuing task device = Continue (boxed (record { task = task; once = Some (once.When device) }))
+continuing task device = Continue (record { task = task; once = Some (once.When device) })
 
 -- the first task deals with the other one and with the interrupt, and then hands a measured value on
 abbrev leading : List Instr
 leading =
     Enable 0 ∷ Load 0 ∷ activating 1 0 ∷ Trigger 0 ∷ Suspend 1 ∷ continuing 1 0 ∷ Prevent 1 ∷ Terminate 1 ∷ Resume (once.When 0) ∷ Disable 0 ∷
-    Request (boxed (0 ∷ 1 ∷ [])) ∷ Take 3 ∷ Write 0 ∷ Read 0 ∷ Send 4 ∷ Release (boxed (1 ∷ 0 ∷ [])) ∷ End ∷ []
+    Request (0 ∷ 1 ∷ []) ∷ Take 3 ∷ Write 0 ∷ Read 0 ∷ Send 4 ∷ Release (1 ∷ 0 ∷ []) ∷ End ∷ []
 
 -- the second one writes what was measured where the semaphore is free, and reads a command
 abbrev following : List Instr
-following = Try 0 ∷ JumpZero 5 ∷ Read 0 ∷ Put 1 0 ∷ Release (boxed (0 ∷ [])) ∷ Get (boxed (record { device = 2; format = 0; first = 0 })) ∷ End ∷ []
+following = Try 0 ∷ JumpZero 5 ∷ Read 0 ∷ Put 1 0 ∷ Release (0 ∷ []) ∷ Get (record { device = 2; format = 0; first = 0 }) ∷ End ∷ []
 
 abbrev named : ℕ → List Instr → Task
 named letter instrs = record { name = record { items = letter ∷ [] }; priority = 1; main = false; code = code (fixed ∷ []) 2 instrs [] }
@@ -174,16 +174,16 @@ puts_to_an_output = refl
 puts_to_one_that_gives : over_value (Put 2 0) ≡ Some 1
 puts_to_one_that_gives = refl
 
-gets_from_an_input : bare (Get (boxed (record { device = 3; format = 0; first = 0 }))) ≡ Some 1
+gets_from_an_input : bare (Get (record { device = 3; format = 0; first = 0 })) ≡ Some 1
 gets_from_an_input = refl
 
-gets_from_one_that_takes : bare (Get (boxed (record { device = 1; format = 0; first = 0 }))) ≡ Some 1
+gets_from_one_that_takes : bare (Get (record { device = 1; format = 0; first = 0 })) ≡ Some 1
 gets_from_one_that_takes = refl
 
 tries_no_semaphore : bare (Try 2) ≡ Some 1
 tries_no_semaphore = refl
 
-requests_no_semaphore : bare (Request (boxed (0 ∷ 2 ∷ []))) ≡ Some 1
+requests_no_semaphore : bare (Request (0 ∷ 2 ∷ [])) ≡ Some 1
 requests_no_semaphore = refl
 
 writes_no_leaf : over_value (Write 1) ≡ Some 1

@@ -14,15 +14,15 @@ use Rattle.pearl_value.specs.declared.device.Direction.TheVariants.{InOut}
 use Rattle.pearl_instructions.specs.declared.instr.Instr.{Instr}
 use Rattle.pearl_instructions.specs.declared.instr.Instr.TheVariants.{Const, Load, Store, RefCell, ReadRef, WriteRef, Jump, JumpZero, Turn, Call, Return, End, Within, Advance, Dyadic, Put, Get}
 use Rattle.pearl_instructions.specs.declared.object.Code.{Code}
-use Rattle.pearl_instructions.specs.declared.object.Object.{Object}
+use Rattle.pearl_instructions.specs.declared.object.Parts.{Parts as Object}
 use Rattle.pearl_instructions.specs.Objects.{routine_at}
 use Rattle.pearl_instructions.specs.Lawful.{IsCode, IsObject}
 use Rattle.pearl_instructions.specs.Valid.{judged_at, judged_whole, unsound_in, unsound, IsValid}
 use Rattle.pearl_instructions.proofs.Tests.{and_true}
-use Rattle.pearl_instructions.proofs.Examples.{fixed, code, boxed, item}
+use Rattle.pearl_instructions.proofs.Examples.{fixed, code, item}
 
 abbrev pub number : ℕ → Instr
-number n = Const (boxed (Fixed 31 (pos n)))
+number n = Const (Fixed 31 (pos n))
 
 abbrev adding : Code
 adding = code (RefTo (kind.Fixed 31) ∷ []) 4 (Load 0 ∷ Load 0 ∷ ReadRef ∷ number 1 ∷ Dyadic Add ∷ WriteRef ∷ Return ∷ []) []
@@ -30,7 +30,7 @@ adding = code (RefTo (kind.Fixed 31) ∷ []) 4 (Load 0 ∷ Load 0 ∷ ReadRef �
 -- its cells are V, the control, the step and the limit
 abbrev looping : Code
 looping = code (fixed ∷ fixed ∷ fixed ∷ fixed ∷ []) 8 (
-    number 1 ∷ Store 1 ∷ number 1 ∷ Store 2 ∷ number 3 ∷ Store 3 ∷ Turn ∷ Within 1 ∷ JumpZero 16 ∷ Get (boxed (record { device = 0; format = 0; first = 0 })) ∷
+    number 1 ∷ Store 1 ∷ number 1 ∷ Store 2 ∷ number 3 ∷ Store 3 ∷ Turn ∷ Within 1 ∷ JumpZero 16 ∷ Get (record { device = 0; format = 0; first = 0 }) ∷
     RefCell 0 ∷ Call 0 ∷ Load 0 ∷ Put 0 0 ∷ Advance 1 16 ∷ Jump 6 ∷ End ∷ []) []
 
 abbrev whole : Object

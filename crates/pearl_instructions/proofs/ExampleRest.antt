@@ -15,26 +15,26 @@ use Rattle.pearl_instructions.specs.declared.instr.Instr.{Instr}
 use Rattle.pearl_instructions.specs.declared.instr.Instr.TheVariants.{Load, Store, Fill, Drop, Conv, Index, LoadAt, StoreAt, ReadAt, WriteAt, RefSlot, RefSlotAt, RefCellAt, ReadRef, WriteRef, JumpZero, Case, End, Trap, NonZero, Monadic, Now, Try, Activate, Continue, Resume, SuspendOwn, TerminateOwn, PreventOwn}
 use Rattle.pearl_instructions.specs.declared.object.Code.{Code}
 use Rattle.pearl_instructions.specs.declared.object.Task.{Task}
-use Rattle.pearl_instructions.specs.declared.object.Object.{Object}
+use Rattle.pearl_instructions.specs.declared.object.Parts.{Parts as Object}
 use Rattle.pearl_instructions.specs.Valid.{unsound, IsValid}
-use Rattle.pearl_instructions.proofs.Examples.{fixed, code, boxed, bounds}
+use Rattle.pearl_instructions.proofs.Examples.{fixed, code, bounds}
 use Rattle.pearl_instructions.proofs.ExampleObject.{nowhere}
 
 abbrev cells : Code
 cells = code (fixed ∷ fixed ∷ []) 4 (
     Fill 0 2 (kind.Fixed 31) ∷ Load 0 ∷ LoadAt 0 2 ∷ Store 1 ∷ Load 0 ∷ Load 1 ∷ StoreAt 0 2 ∷ Load 0 ∷ RefCellAt 0 2 ∷ ReadRef ∷ Conv (kind.Fixed 7) ∷
-    NonZero ∷ Drop ∷ Load 0 ∷ Case (boxed (16 ∷ 15 ∷ [])) ∷ Trap trap.Range ∷ End ∷ []) []
+    NonZero ∷ Drop ∷ Load 0 ∷ Case (16 ∷ 15 ∷ []) ∷ Trap trap.Range ∷ End ∷ []) []
 
 abbrev variables : Code
 variables = code (fixed ∷ []) 3 (
-    Load 0 ∷ Index (boxed (bounds 0 1 ∷ [])) ∷ ReadAt 0 ∷ Drop ∷ Load 0 ∷ Load 0 ∷ WriteAt 0 ∷ RefSlot 0 ∷ ReadRef ∷ Drop ∷ Load 0 ∷ RefSlotAt 0 ∷ Load 0 ∷
+    Load 0 ∷ Index (bounds 0 1 ∷ []) ∷ ReadAt 0 ∷ Drop ∷ Load 0 ∷ Load 0 ∷ WriteAt 0 ∷ RefSlot 0 ∷ ReadRef ∷ Drop ∷ Load 0 ∷ RefSlotAt 0 ∷ Load 0 ∷
     WriteRef ∷ Try 0 ∷ Monadic Not ∷ JumpZero 18 ∷ TerminateOwn ∷ SuspendOwn ∷ PreventOwn ∷ End ∷ []) []
 
 abbrev activating : StartForm → RepeatForm → Instr
-activating start repeat = Activate (boxed (record { task = 0; start = start; repeat = repeat; priority = false }))
+activating start repeat = Activate (record { task = 0; start = start; repeat = repeat; priority = false })
 
 abbrev continuing : Option OnceForm → Instr
-continuing when = Continue (boxed (record { task = 0; once = when }))
+continuing when = Continue (record { task = 0; once = when })
 
 abbrev plans : Code
 plans = code (Plain kind.Span ∷ []) 4 (

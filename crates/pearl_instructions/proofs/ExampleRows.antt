@@ -24,11 +24,11 @@ use Rattle.pearl_instructions.specs.declared.instr.Instr.{Instr}
 use Rattle.pearl_instructions.specs.declared.instr.Instr.TheVariants.{Load, LoadAt, Index, RefCell, RefSlotAt, ReadRef, WriteRef, Call, Return, Advance, Activate, Continue, TerminateOwn, Put, Get}
 use Rattle.pearl_instructions.specs.declared.object.Procedure.{Procedure}
 use Rattle.pearl_instructions.specs.declared.object.Leaf.{Leaf}
-use Rattle.pearl_instructions.specs.declared.object.Object.{Object}
+use Rattle.pearl_instructions.specs.declared.object.Parts.{Parts as Object}
 use Rattle.pearl_instructions.specs.Steps.{Step, Silent, Offers, Missing}
 use Rattle.pearl_instructions.specs.Rows.{row, after, begun}
 use Rattle.pearl_instructions.specs.Stacks.{Answers}
-use Rattle.pearl_instructions.proofs.Examples.{fixed, code, task, sound, boxed, bounds, item}
+use Rattle.pearl_instructions.proofs.Examples.{fixed, code, task, sound, bounds, item}
 
 abbrev pub number : ℕ → Cell
 number n = Fixed 31 (pos n)
@@ -122,7 +122,7 @@ reads_a_slot : offered (row (with_leaves ReadRef) (frame 0 [] (Ref (kind.Fixed 3
 reads_a_slot = refl
 
 abbrev dimensions : Instr
-dimensions = Index (boxed (bounds 1 3 ∷ bounds 0 1 ∷ []))
+dimensions = Index (bounds 1 3 ∷ bounds 0 1 ∷ [])
 
 -- the element (3, 1) of (1 : 3, 0 : 1) is the last one
 last_element : row (only dimensions) (frame 0 [] (number 1 ∷ number 3 ∷ [])) ≡ Silent (frame 1 [] (number 5 ∷ []))
@@ -142,7 +142,7 @@ loads_past_the_range = refl
 
 -- AFTER a time ALL a period UNTIL a time of day ACTIVATE task 0 PRIO a number: the values lie in this order
 abbrev plan : Instr
-plan = Activate (boxed (record { task = 0; start = form.After; repeat = again.Until; priority = true }))
+plan = Activate (record { task = 0; start = form.After; repeat = again.Until; priority = true })
 
 abbrev planned : ℤ → ℤ → ℕ → Option Action
 planned time period priority = offered (row (only plan) (frame 0 [] (number priority ∷ Clock 500 ∷ Span period ∷ Span time ∷ [])))
@@ -159,7 +159,7 @@ no_period = refl
 priority_too_great : planned (pos 0) (pos 1) 256 ≡ Some (action.Trap trap.Range)
 priority_too_great = refl
 
-goes_on_at_once : offered (row (only (Continue (boxed (record { task = 0; once = None })))) (frame 0 [] [])) ≡ Some (action.Continue 0 start.Free)
+goes_on_at_once : offered (row (only (Continue (record { task = 0; once = None }))) (frame 0 [] [])) ≡ Some (action.Continue 0 start.Free)
 goes_on_at_once = refl
 
 -- the task is number 0 of the tasks, and routine 1
@@ -185,7 +185,7 @@ unfolding digits
 too_wide = refl
 
 abbrev reading : Object
-reading = transfers (Get (boxed (record { device = 0; format = 0; first = 1 })))
+reading = transfers (Get (record { device = 0; format = 0; first = 1 }))
 
 abbrev cells : List Cell
 cells = number 1 ∷ text ∷ number 2 ∷ []

@@ -1,7 +1,7 @@
 -- A whole run: DCL v FIXED INIT(40); x: TASK PRIO 3 MAIN; FOR i FROM 1 TO 2 REPEAT v := v + i; PUT i TO t BY F(3), SKIP; END; END;
 use Rattle.std.specs.Prelude.{◌≡◌, ℕ, pos, true, [], ◌∷◌, None, codes}
 use Rattle.std.specs.Fmt.{digits}
-use Rattle.std.proofs.Common.{refl, Box, Global}
+use Rattle.std.proofs.Common.{refl}
 use denote.RawPtr.{null_ptr}
 use Rattle.pearl_value.specs.declared.kind.Kind.TheVariants as kind
 use Rattle.pearl_value.specs.declared.kind.CellKind.TheVariants.{Plain}
@@ -18,17 +18,14 @@ use Rattle.pearl_rules.specs.Effect.{effect}
 use Rattle.pearl_rules.specs.Runs.{machine_step, machine_next}
 use Rattle.pearl_instructions.specs.declared.instr.Instr.{Instr}
 use Rattle.pearl_instructions.specs.declared.instr.Instr.TheVariants.{Const, Load, Store, Read, Write, Jump, JumpZero, Turn, End, Within, Advance, Dyadic, Put}
-use Rattle.pearl_instructions.specs.declared.object.Object.{Object}
+use Rattle.pearl_instructions.specs.declared.object.Parts.{Parts as Object}
 use Rattle.pearl_instructions.specs.Engines.{machine_run, marked}
-
-abbrev boxed : {T : Type 0} → T → Box T Global
-boxed x = record { ptr = null_ptr; alloc = record { memory = record { seal = tt } }; value = x }
 
 abbrev number : ℕ → Cell
 number n = Fixed 31 (pos n)
 
 abbrev push : ℕ → Instr
-push n = Const (boxed (number n))
+push n = Const (number n)
 
 -- the cells are the control, the step and the limit of the loop
 abbrev counting : Object

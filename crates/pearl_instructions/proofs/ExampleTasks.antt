@@ -8,7 +8,7 @@ use Rattle.pearl_stack.specs.Frames.{Frame}
 use Rattle.pearl_instructions.specs.declared.instr.Instr.{Instr}
 use Rattle.pearl_instructions.specs.declared.instr.Instr.TheVariants.{Turn, Call, Return, End, SuspendOwn, TerminateOwn, PreventOwn}
 use Rattle.pearl_instructions.specs.declared.object.Task.{Task}
-use Rattle.pearl_instructions.specs.declared.object.Object.{Object}
+use Rattle.pearl_instructions.specs.declared.object.Parts.{Parts as Object}
 use Rattle.pearl_instructions.specs.Steps.{Silent}
 use Rattle.pearl_instructions.specs.Rows.{row, after, begun}
 use Rattle.pearl_instructions.specs.Stacks.{Answers}

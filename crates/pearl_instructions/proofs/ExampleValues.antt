@@ -12,10 +12,10 @@ use Rattle.pearl_rules.specs.declared.action.Answer.TheVariants.{Nothing, One}
 use Rattle.pearl_rules.specs.declared.action.Start.TheVariants as start
 use Rattle.pearl_instructions.specs.declared.schedule.OnceForm.TheVariants as once
 use Rattle.pearl_instructions.specs.declared.instr.Instr.TheVariants.{Load, Store, Fill, Drop, Conv, Index, LoadAt, StoreAt, ReadAt, WriteAt, Jump, JumpZero, Case, Return, Within, Advance, NonZero, Monadic, Dyadic, Now, Try, Resume}
-use Rattle.pearl_instructions.specs.declared.object.Object.{Object}
+use Rattle.pearl_instructions.specs.declared.object.Parts.{Parts as Object}
 use Rattle.pearl_instructions.specs.Steps.{Silent}
 use Rattle.pearl_instructions.specs.Rows.{row, after}
-use Rattle.pearl_instructions.proofs.Examples.{fixed, code, boxed, bounds}
+use Rattle.pearl_instructions.proofs.Examples.{fixed, code, bounds}
 use Rattle.pearl_instructions.proofs.ExampleRows.{number, offered, frame, only, calling, caller, callee, with_leaves}
 
 -- cells 1 to 3 are the control, the step and the limit of a loop
@@ -66,7 +66,7 @@ goes_on_at_one = refl
 
 -- at which instruction a task goes on that has two targets and this number on top
 abbrev GoesTo : ℤ → ℕ → Type 0
-GoesTo value place = row (only (Case (boxed (7 ∷ 5 ∷ [])))) (frame 0 [] (Fixed 31 value ∷ number 8 ∷ [])) ≡ Silent (frame place [] (number 8 ∷ []))
+GoesTo value place = row (only (Case (7 ∷ 5 ∷ []))) (frame 0 [] (Fixed 31 value ∷ number 8 ∷ [])) ≡ Silent (frame place [] (number 8 ∷ []))
 
 first_target : GoesTo (pos 1) 7
 first_target = refl
@@ -132,10 +132,10 @@ zero_is_refused : offered (row (only NonZero) (frame 0 [] (number 0 ∷ []))) �
 zero_is_refused = refl
 
 -- (1 : 3, 0 : 1) lies row by row: (2, 0) comes two behind (1, 0)
-second_row : row (only (Index (boxed (bounds 1 3 ∷ bounds 0 1 ∷ [])))) (frame 0 [] (number 0 ∷ number 2 ∷ number 8 ∷ [])) ≡ Silent (frame 1 [] (number 2 ∷ number 8 ∷ []))
+second_row : row (only (Index (bounds 1 3 ∷ bounds 0 1 ∷ []))) (frame 0 [] (number 0 ∷ number 2 ∷ number 8 ∷ [])) ≡ Silent (frame 1 [] (number 2 ∷ number 8 ∷ []))
 second_row = refl
 
-next_in_a_row : row (only (Index (boxed (bounds 1 3 ∷ bounds 0 1 ∷ [])))) (frame 0 [] (number 1 ∷ number 1 ∷ number 8 ∷ [])) ≡ Silent (frame 1 [] (number 1 ∷ number 8 ∷ []))
+next_in_a_row : row (only (Index (bounds 1 3 ∷ bounds 0 1 ∷ []))) (frame 0 [] (number 1 ∷ number 1 ∷ number 8 ∷ [])) ≡ Silent (frame 1 [] (number 1 ∷ number 8 ∷ []))
 next_in_a_row = refl
 
 -- the second leaf begins at slot 3

@@ -1,6 +1,6 @@
 -- Small objects, and which rule fails where.
 use Rattle.std.specs.Prelude.{◌≡◌, ℕ, pos, false, List, [], ◌∷◌, ◌++◌, Some, None}
-use Rattle.std.proofs.Common.{refl, Box, Global}
+use Rattle.std.proofs.Common.{refl}
 use denote.RawPtr.{null_ptr}
 use Rattle.pearl_value.specs.declared.kind.Kind.TheVariants as kind
 use Rattle.pearl_value.specs.declared.kind.CellKind.{CellKind}
@@ -17,7 +17,7 @@ use Rattle.pearl_instructions.specs.declared.instr.Instr.{Instr}
 use Rattle.pearl_instructions.specs.declared.instr.Instr.TheVariants.{Load, Store, Drop, Index, Jump, JumpZero, Turn, Call, Return, End, Monadic, Dyadic, Request, Put}
 use Rattle.pearl_instructions.specs.declared.object.Shape.{Shape as Stated}
 use Rattle.pearl_instructions.specs.declared.object.Code.{Code}
-use Rattle.pearl_instructions.specs.declared.object.Object.{Object}
+use Rattle.pearl_instructions.specs.declared.object.Parts.{Parts as Object}
 use Rattle.pearl_instructions.specs.Valid.{unsound}
 
 abbrev pub fixed : CellKind
@@ -132,12 +132,9 @@ too_deep = refl
 states_too_much : unsound (task (code [] 4097 (End ∷ []) [])) 0 1 ≡ Some 11
 states_too_much = refl
 
-abbrev pub boxed : {T : Type 0} → T → Box T Global
-boxed x = record { ptr = null_ptr; alloc = record { memory = record { seal = tt } }; value = x }
-
 -- an object with three semaphores, whose task begins by requesting these
 abbrev requests : List ℕ → Object
-requests semaphores = record (task (code [] 9 (Request (boxed semaphores) ∷ End ∷ []) [])) { semaphores = 0 ∷ 1 ∷ 1 ∷ [] }
+requests semaphores = record (task (code [] 9 (Request semaphores ∷ End ∷ []) [])) { semaphores = 0 ∷ 1 ∷ 1 ∷ [] }
 
 two_semaphores : unsound (requests (2 ∷ 0 ∷ [])) 0 0 ≡ None
 two_semaphores = refl
@@ -153,7 +150,7 @@ bounds low high = record { low = pos low; high = pos high }
 
 -- the task takes one subscript for each of these dimensions
 abbrev indexes : List Bounds → List Instr → Object
-indexes dimensions subscripts = task (code (fixed ∷ []) 9 (subscripts ++ (Index (boxed dimensions) ∷ Drop ∷ End ∷ [])) [])
+indexes dimensions subscripts = task (code (fixed ∷ []) 9 (subscripts ++ (Index dimensions ∷ Drop ∷ End ∷ [])) [])
 
 full_array : unsound (indexes (bounds 1 256 ∷ bounds 0 255 ∷ []) (Load 0 ∷ Load 0 ∷ [])) 0 2 ≡ None
 full_array = refl

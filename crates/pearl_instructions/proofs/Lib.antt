@@ -31,5 +31,6 @@ mod Tables
 mod FitTables
 mod Stands
 mod Soon
+mod OwnOffers
 mod ExampleRun
 pub mod Offered

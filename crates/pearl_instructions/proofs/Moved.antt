@@ -24,7 +24,7 @@ use Rattle.pearl_instructions.specs.declared.schedule.RepeatForm.{RepeatForm}
 use Rattle.pearl_instructions.specs.declared.schedule.RepeatForm.TheVariants as again
 use Rattle.pearl_instructions.specs.declared.instr.Instr.{Instr}
 use Rattle.pearl_instructions.specs.declared.instr.Instr.TheVariants.{Const, Load, Store, Fill, Drop, Conv, Index, LoadAt, StoreAt, Read, Write, ReadAt, WriteAt, RefSlot, RefSlotAt, RefCell, RefCellAt, ReadRef, WriteRef, Jump, JumpZero, Case, Turn, Call, Return, End, Trap as TrapOf, Within, Advance, NonZero, Monadic, Dyadic, Now, Request, Release, Try, Activate, Continue, Resume, Suspend, Terminate, Prevent, SuspendOwn, TerminateOwn, PreventOwn, Enable, Disable, Trigger, Put, Get, Take, Send}
-use Rattle.pearl_instructions.specs.declared.object.Object.{Object}
+use Rattle.pearl_instructions.specs.declared.object.Parts.{Parts as Object}
 use Rattle.pearl_instructions.specs.Objects.{result_of, items_at}
 use Rattle.pearl_instructions.specs.Steps.{Step, Silent, Offers, given, needed, popped, taken, value_kind, next, leaves, traps, acts, all_heard, makes, within}
 use Rattle.pearl_instructions.specs.Cells.{read_reference, write_reference}
@@ -200,7 +200,7 @@ returns_leads o own f lower (Some k) = popped_leads o own (GoesBack lower) f.ope
 
 -- each row moves the frames as its instruction says
 pub act_leads : (o : Object) (own : ℕ) (f : Frame) (lower : List Frame) (instr : Instr) → own_task o f lower ≡ own → Leads o own (Moves instr f lower) (act o instr f lower)
-act_leads o own f lower (Const x) same = on o own f lower (Const x) f.cells (x.value ∷ f.operands) refl
+act_leads o own f lower (Const x) same = on o own f lower (Const x) f.cells (x ∷ f.operands) refl
 act_leads o own f lower (Load c) same = given_leads o own (Proceeds (Load c) f lower) (slice_get f.cells c) _ (λ x. on o own f lower (Load c) f.cells (x ∷ f.operands) refl)
 act_leads o own f lower (Store c) same = popped_leads o own (Proceeds (Store c) f lower) f.operands _ (λ x left.
     given_leads o own (Proceeds (Store c) f lower) (slice_get f.cells c) _ (λ old. on o own f lower (Store c) (slice_set f.cells c x) left refl))
@@ -210,10 +210,10 @@ act_leads o own f lower (Conv to) same = popped_leads o own (Proceeds (Conv to) 
     given_leads o own (Proceeds (Conv to) f lower) (value_kind x) (λ from. needed (suits_kind from to) (makes f lower left (converted x to))) (λ from.
     needed_leads o own (Proceeds (Conv to) f lower) (suits_kind from to) (makes f lower left (converted x to)) (makes_leads o own f lower (Conv to) left (converted x to) refl)))
 act_leads o own f lower (Index bounds) same =
-    taken_leads o own (Proceeds (Index bounds) f lower) (length bounds.value) f.operands
-    (λ xs left. given (numbers_of xs) (λ ns. makes f lower left (index_of (offset_of (pos 0) bounds.value ns)))) (λ xs left.
-    given_leads o own (Proceeds (Index bounds) f lower) (numbers_of xs) (λ ns. makes f lower left (index_of (offset_of (pos 0) bounds.value ns))) (λ ns.
-    makes_leads o own f lower (Index bounds) left (index_of (offset_of (pos 0) bounds.value ns)) refl))
+    taken_leads o own (Proceeds (Index bounds) f lower) (length bounds) f.operands
+    (λ xs left. given (numbers_of xs) (λ ns. makes f lower left (index_of (offset_of (pos 0) bounds ns)))) (λ xs left.
+    given_leads o own (Proceeds (Index bounds) f lower) (numbers_of xs) (λ ns. makes f lower left (index_of (offset_of (pos 0) bounds ns))) (λ ns.
+    makes_leads o own f lower (Index bounds) left (index_of (offset_of (pos 0) bounds ns)) refl))
 act_leads o own f lower (LoadAt c n) same = popped_leads o own (Proceeds (LoadAt c n) f lower) f.operands _ (λ x left. within_leads o own (Proceeds (LoadAt c n) f lower) n x f lower _ (λ i.
     given_leads o own (Proceeds (LoadAt c n) f lower) _ _ (λ y. on o own f lower (LoadAt c n) f.cells (y ∷ left) refl)))
 act_leads o own f lower (StoreAt c n) same = popped_leads o own (Proceeds (StoreAt c n) f lower) f.operands _ (λ x more. popped_leads o own (Proceeds (StoreAt c n) f lower) more _ (λ y left.
@@ -240,7 +240,7 @@ act_leads o own f lower WriteRef same = popped_leads o own (Proceeds WriteRef f 
     popped_leads o own (Proceeds WriteRef f lower) more _ (λ r left. write_leads o own f lower WriteRef left x r refl))
 act_leads o own f lower (Jump t) same = goes_leads o own f lower (Jump t) 0 t f.operands refl
 act_leads o own f lower (JumpZero t) same = popped_leads o own (Proceeds (JumpZero t) f lower) f.operands _ (λ x left. jump_zero_leads o own f lower (JumpZero t) t left x refl refl)
-act_leads o own f lower (Case ts) same = popped_leads o own (Proceeds (Case ts) f lower) f.operands _ (λ x left. branch_leads o own f lower (Case ts) ts.value left x refl refl)
+act_leads o own f lower (Case ts) same = popped_leads o own (Proceeds (Case ts) f lower) f.operands _ (λ x left. branch_leads o own f lower (Case ts) ts left x refl refl)
 act_leads o own f lower Turn same = record { leads = λ answer suits. (refl, inl (refl, refl), refl) }
 act_leads o own f lower (Call p) same = given_leads o own (Moves (Call p) f lower) (slice_get o.procedures p) _ (λ callee.
     needed_leads o own (Moves (Call p) f lower) (nat_le callee.params (length f.operands)) (Offers Enter (λ answer. flow.called p callee (f ∷ lower) f.operands))
@@ -269,19 +269,19 @@ act_leads o own f lower (Request list) same = record { leads = λ answer suits. 
 act_leads o own f lower (Release list) same = record { leads = λ answer suits. (refl, inl (refl, refl), refl) }
 act_leads o own f lower (Try n) same = record { leads = λ answer suits. (refl, inl (refl, refl), refl) }
 act_leads o own f lower (Activate a) same =
-    taken_leads o own (Proceeds (Activate a) f lower) (offers.activation_count a.value) f.operands
-    (λ values left. offers.started a.value.start values f lower (λ when more. offers.repeated a.value.repeat more f lower (λ how rest.
-    offers.with_priority a.value.priority rest f lower (λ p. acts (action.Activate a.value.task when how p) f lower left)))) (λ values left.
-    started_leads o own (Proceeds (Activate a) f lower) a.value.start values f lower (λ when more. offers.repeated a.value.repeat more f lower (λ how rest.
-    offers.with_priority a.value.priority rest f lower (λ p. acts (action.Activate a.value.task when how p) f lower left))) (λ when more.
-    repeated_leads o own (Proceeds (Activate a) f lower) a.value.repeat more f lower (λ how rest.
-    offers.with_priority a.value.priority rest f lower (λ p. acts (action.Activate a.value.task when how p) f lower left)) (λ how rest.
-    priority_leads o own (Proceeds (Activate a) f lower) a.value.priority rest f lower (λ p. acts (action.Activate a.value.task when how p) f lower left) (λ p.
+    taken_leads o own (Proceeds (Activate a) f lower) (offers.activation_count a) f.operands
+    (λ values left. offers.started a.start values f lower (λ when more. offers.repeated a.repeat more f lower (λ how rest.
+    offers.with_priority a.priority rest f lower (λ p. acts (action.Activate a.task when how p) f lower left)))) (λ values left.
+    started_leads o own (Proceeds (Activate a) f lower) a.start values f lower (λ when more. offers.repeated a.repeat more f lower (λ how rest.
+    offers.with_priority a.priority rest f lower (λ p. acts (action.Activate a.task when how p) f lower left))) (λ when more.
+    repeated_leads o own (Proceeds (Activate a) f lower) a.repeat more f lower (λ how rest.
+    offers.with_priority a.priority rest f lower (λ p. acts (action.Activate a.task when how p) f lower left)) (λ how rest.
+    priority_leads o own (Proceeds (Activate a) f lower) a.priority rest f lower (λ p. acts (action.Activate a.task when how p) f lower left) (λ p.
     record { leads = λ answer suits. (refl, inl (refl, refl), refl) }))))
 act_leads o own f lower (Continue c) same =
-    taken_leads o own (Proceeds (Continue c) f lower) (length (offers.start_kinds (offers.start_or_free c.value.once))) f.operands
-    (λ values left. offers.started (offers.start_or_free c.value.once) values f lower (λ when rest. acts (action.Continue c.value.task when) f lower left)) (λ values left.
-    started_leads o own (Proceeds (Continue c) f lower) (offers.start_or_free c.value.once) values f lower (λ when rest. acts (action.Continue c.value.task when) f lower left) (λ when rest.
+    taken_leads o own (Proceeds (Continue c) f lower) (length (offers.start_kinds (offers.start_or_free c.once))) f.operands
+    (λ values left. offers.started (offers.start_or_free c.once) values f lower (λ when rest. acts (action.Continue c.task when) f lower left)) (λ values left.
+    started_leads o own (Proceeds (Continue c) f lower) (offers.start_or_free c.once) values f lower (λ when rest. acts (action.Continue c.task when) f lower left) (λ when rest.
     record { leads = λ answer suits. (refl, inl (refl, refl), refl) }))
 act_leads o own f lower (Resume once) same =
     taken_leads o own (Proceeds (Resume once) f lower) (length (offers.start_kinds (offers.as_start once))) f.operands
@@ -303,14 +303,14 @@ act_leads o own f lower (Put d n) same = given_leads o own (Proceeds (Put d n) f
     given_leads o own (Proceeds (Put d n) f lower) (offers.value_kinds values) (λ kinds. needed (offers.items_suit items kinds) (offers.put_text d (text_of items values) f lower left)) (λ kinds.
     needed_leads o own (Proceeds (Put d n) f lower) (offers.items_suit items kinds) (offers.put_text d (text_of items values) f lower left)
     (put_leads o own f lower (Put d n) d (text_of items values) left refl))))
-act_leads o own f lower (Get g) same = given_leads o own (Proceeds (Get g) f lower) (items_at o g.value.format) _ (λ items.
-    given_leads o own (Proceeds (Get g) f lower) (option_and_then offers.value_kinds (offers.cells_from f.cells g.value.first (data_count items)))
+act_leads o own f lower (Get g) same = given_leads o own (Proceeds (Get g) f lower) (items_at o g.format) _ (λ items.
+    given_leads o own (Proceeds (Get g) f lower) (option_and_then offers.value_kinds (offers.cells_from f.cells g.first (data_count items)))
     (λ kinds. needed (offers.items_suit items kinds)
-    (Offers (action.Get g.value.device g.value.format (record { items = kinds }))
-    (λ answer. next (record f { cells = offers.with_values f.cells g.value.first (all_heard answer) }) f.operands ∷ lower))) (λ kinds.
+    (Offers (action.Get g.device g.format (record { items = kinds }))
+    (λ answer. next (record f { cells = offers.with_values f.cells g.first (all_heard answer) }) f.operands ∷ lower))) (λ kinds.
     needed_leads o own (Proceeds (Get g) f lower) (offers.items_suit items kinds)
-    (Offers (action.Get g.value.device g.value.format (record { items = kinds }))
-    (λ answer. next (record f { cells = offers.with_values f.cells g.value.first (all_heard answer) }) f.operands ∷ lower))
+    (Offers (action.Get g.device g.format (record { items = kinds }))
+    (λ answer. next (record f { cells = offers.with_values f.cells g.first (all_heard answer) }) f.operands ∷ lower))
     (record { leads = λ answer suits. (refl, inl (refl, refl), refl) })))
 act_leads o own f lower (Take d) same = record { leads = λ answer suits. (refl, inl (refl, refl), refl) }
 act_leads o own f lower (Send d) same = popped_leads o own (Proceeds (Send d) f lower) f.operands _ (λ x left. record { leads = λ answer suits. (refl, inl (refl, refl), refl) })

@@ -19,7 +19,7 @@ use Rattle.pearl_rules.specs.Tables.{IsWritable}
 use Rattle.pearl_stack.specs.Frames.{Frame}
 use Rattle.pearl_instructions.specs.declared.object.Leaf.{Leaf}
 use Rattle.pearl_instructions.specs.declared.object.Code.{Code}
-use Rattle.pearl_instructions.specs.declared.object.Object.{Object}
+use Rattle.pearl_instructions.specs.declared.object.Parts.{Parts as Object}
 use Rattle.pearl_instructions.specs.Objects.{routines, routine_at, slot_kind}
 use Rattle.pearl_instructions.specs.Offers.{takes_kind, item_suits, items_suit}
 use Rattle.pearl_instructions.specs.Rows.{lowest, own_task}

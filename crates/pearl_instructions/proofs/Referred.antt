@@ -13,7 +13,7 @@ use Rattle.pearl_value.specs.declared.cell.Cell.TheVariants as cell
 use Rattle.pearl_value.specs.WellFormed.{IsValueOf}
 use Rattle.pearl_stack.specs.Frames.{Frame, cell_at, with_cell}
 use Rattle.pearl_instructions.specs.declared.object.Code.{Code}
-use Rattle.pearl_instructions.specs.declared.object.Object.{Object}
+use Rattle.pearl_instructions.specs.declared.object.Parts.{Parts as Object}
 use Rattle.pearl_instructions.specs.Objects.{routine_at}
 use Rattle.pearl_instructions.specs.Valid.{shape_before}
 use Rattle.pearl_instructions.specs.Stacks.{routines_of, cells_or_none, cell_kinds, plain_at, cell_kind, Refers, Suits, Stands, IsCalling, Below, IsTop, IsStack}

@@ -28,7 +28,7 @@ use Rattle.pearl_instructions.specs.declared.schedule.RepeatForm.TheVariants as 
 use Rattle.pearl_instructions.specs.declared.instr.Instr.{Instr}
 use Rattle.pearl_instructions.specs.declared.instr.Instr.TheVariants.{Const, Load, Store, Fill, Drop, Conv, Index, LoadAt, StoreAt, Read, Write, ReadAt, WriteAt, RefSlot, RefSlotAt, RefCell, RefCellAt, ReadRef, WriteRef, Jump, JumpZero, Case, Turn, Call, Return, End, Trap as TrapOf, Within, Advance, NonZero, Monadic, Dyadic, Now, Request, Release, Try, Activate, Continue, Resume, Suspend, Terminate, Prevent, SuspendOwn, TerminateOwn, PreventOwn, Enable, Disable, Trigger, Put, Get, Take, Send}
 use Rattle.pearl_instructions.specs.declared.object.Code.{Code}
-use Rattle.pearl_instructions.specs.declared.object.Object.{Object}
+use Rattle.pearl_instructions.specs.declared.object.Parts.{Parts as Object}
 use Rattle.pearl_instructions.specs.Objects.{routines, routine_at, result_of, items_at}
 use Rattle.pearl_instructions.specs.Lawful.{IsObject}
 use Rattle.pearl_instructions.specs.Steps.{Step, Silent, Offers, Missing, given, needed, popped, taken, value_kind, at, next, leaves, traps, acts, all_heard, makes, within}
@@ -292,7 +292,7 @@ back_is o f lower code i s h n t e =
 -- a silent row makes the stack lighter, or it jumps back to a Turn
 act_light : (o : Object) (f : Frame) (lower : List Frame) (code : Code) (i : Instr) (s : Shape) → Here o f lower code i s → slice_get (code_of o f.routine) f.place ≡ Some i →
     IsLight o (weight o (f ∷ lower)) (act o i f lower)
-act_light o f lower code (Const x) s h at = light o f lower (Const x) at refl f.cells (x.value ∷ f.operands)
+act_light o f lower code (Const x) s h at = light o f lower (Const x) at refl f.cells (x ∷ f.operands)
 act_light o f lower code (Load c) s h at = given_light o (weight o (f ∷ lower)) (slice_get f.cells c) _ (λ x. light o f lower (Load c) at refl f.cells (x ∷ f.operands))
 act_light o f lower code (Store c) s h at = popped_light o (weight o (f ∷ lower)) f.operands _ (λ x left.
     given_light o (weight o (f ∷ lower)) (slice_get f.cells c) _ (λ old. light o f lower (Store c) at refl (slice_set f.cells c x) left))
@@ -302,9 +302,9 @@ act_light o f lower code (Conv to) s h at = popped_light o (weight o (f ∷ lowe
     given_light o (weight o (f ∷ lower)) (value_kind x) (λ from. needed (suits_kind from to) (makes f lower left (converted x to))) (λ from.
     needed_light o (weight o (f ∷ lower)) (suits_kind from to) (makes f lower left (converted x to)) (makes_light o f lower (Conv to) at refl left (converted x to))))
 act_light o f lower code (Index bounds) s h at =
-    taken_light o (weight o (f ∷ lower)) (length bounds.value) f.operands (λ xs left. given (numbers_of xs) (λ ns. makes f lower left (index_of (offset_of (pos 0) bounds.value ns)))) (λ xs left.
-    given_light o (weight o (f ∷ lower)) (numbers_of xs) (λ ns. makes f lower left (index_of (offset_of (pos 0) bounds.value ns))) (λ ns.
-    makes_light o f lower (Index bounds) at refl left (index_of (offset_of (pos 0) bounds.value ns))))
+    taken_light o (weight o (f ∷ lower)) (length bounds) f.operands (λ xs left. given (numbers_of xs) (λ ns. makes f lower left (index_of (offset_of (pos 0) bounds ns)))) (λ xs left.
+    given_light o (weight o (f ∷ lower)) (numbers_of xs) (λ ns. makes f lower left (index_of (offset_of (pos 0) bounds ns))) (λ ns.
+    makes_light o f lower (Index bounds) at refl left (index_of (offset_of (pos 0) bounds ns))))
 act_light o f lower code (LoadAt c n) s h at = popped_light o (weight o (f ∷ lower)) f.operands _ (λ x left. within_light o (weight o (f ∷ lower)) n x f lower _ (λ i.
     given_light o (weight o (f ∷ lower)) _ _ (λ y. light o f lower (LoadAt c n) at refl f.cells (y ∷ left))))
 act_light o f lower code (StoreAt c n) s h at = popped_light o (weight o (f ∷ lower)) f.operands _ (λ x more. popped_light o (weight o (f ∷ lower)) more _ (λ y left.
@@ -328,7 +328,7 @@ act_light o f lower code (Jump t) s h at = goes_light o f lower (Jump t) at refl
 act_light o f lower code (JumpZero t) s h at = popped_light o (weight o (f ∷ lower)) f.operands _ (λ x left.
     jump_zero_light o f lower (JumpZero t) at refl t left x (goes_light o f lower (JumpZero t) at refl t left (back_is o f lower code (JumpZero t) s h 0 t refl)))
 act_light o f lower code (Case ts) s h at = popped_light o (weight o (f ∷ lower)) f.operands _ (λ x left.
-    branch_light o f lower (Case ts) at refl ts.value left x (λ n t e. goes_light o f lower (Case ts) at refl t left (back_is o f lower code (Case ts) s h n t e)))
+    branch_light o f lower (Case ts) at refl ts left x (λ n t e. goes_light o f lower (Case ts) at refl t left (back_is o f lower code (Case ts) s h n t e)))
 act_light o f lower code Turn s h at = record { light = tt }
 act_light o f lower code (Call p) s h at = given_light o (weight o (f ∷ lower)) (slice_get o.procedures p) _ (λ callee.
     needed_light o (weight o (f ∷ lower)) (nat_le callee.params (length f.operands)) (Offers Enter (λ answer. flow.called p callee (f ∷ lower) f.operands)) (record { light = tt }))
@@ -358,18 +358,18 @@ act_light o f lower code (Request list) s h at = record { light = tt }
 act_light o f lower code (Release list) s h at = record { light = tt }
 act_light o f lower code (Try n) s h at = record { light = tt }
 act_light o f lower code (Activate a) s h at =
-    taken_light o (weight o (f ∷ lower)) (offers.activation_count a.value) f.operands
-    (λ values left. offers.started a.value.start values f lower (λ when more. offers.repeated a.value.repeat more f lower (λ how rest.
-    offers.with_priority a.value.priority rest f lower (λ p. acts (action.Activate a.value.task when how p) f lower left)))) (λ values left.
-    started_light o (weight o (f ∷ lower)) a.value.start values f lower (λ when more. offers.repeated a.value.repeat more f lower (λ how rest.
-    offers.with_priority a.value.priority rest f lower (λ p. acts (action.Activate a.value.task when how p) f lower left))) (λ when more.
-    repeated_light o (weight o (f ∷ lower)) a.value.repeat more f lower (λ how rest.
-    offers.with_priority a.value.priority rest f lower (λ p. acts (action.Activate a.value.task when how p) f lower left)) (λ how rest.
-    priority_light o (weight o (f ∷ lower)) a.value.priority rest f lower (λ p. acts (action.Activate a.value.task when how p) f lower left) (λ p. record { light = tt }))))
+    taken_light o (weight o (f ∷ lower)) (offers.activation_count a) f.operands
+    (λ values left. offers.started a.start values f lower (λ when more. offers.repeated a.repeat more f lower (λ how rest.
+    offers.with_priority a.priority rest f lower (λ p. acts (action.Activate a.task when how p) f lower left)))) (λ values left.
+    started_light o (weight o (f ∷ lower)) a.start values f lower (λ when more. offers.repeated a.repeat more f lower (λ how rest.
+    offers.with_priority a.priority rest f lower (λ p. acts (action.Activate a.task when how p) f lower left))) (λ when more.
+    repeated_light o (weight o (f ∷ lower)) a.repeat more f lower (λ how rest.
+    offers.with_priority a.priority rest f lower (λ p. acts (action.Activate a.task when how p) f lower left)) (λ how rest.
+    priority_light o (weight o (f ∷ lower)) a.priority rest f lower (λ p. acts (action.Activate a.task when how p) f lower left) (λ p. record { light = tt }))))
 act_light o f lower code (Continue c) s h at =
-    taken_light o (weight o (f ∷ lower)) (length (offers.start_kinds (offers.start_or_free c.value.once))) f.operands
-    (λ values left. offers.started (offers.start_or_free c.value.once) values f lower (λ when rest. acts (action.Continue c.value.task when) f lower left)) (λ values left.
-    started_light o (weight o (f ∷ lower)) (offers.start_or_free c.value.once) values f lower (λ when rest. acts (action.Continue c.value.task when) f lower left) (λ when rest. record { light = tt }))
+    taken_light o (weight o (f ∷ lower)) (length (offers.start_kinds (offers.start_or_free c.once))) f.operands
+    (λ values left. offers.started (offers.start_or_free c.once) values f lower (λ when rest. acts (action.Continue c.task when) f lower left)) (λ values left.
+    started_light o (weight o (f ∷ lower)) (offers.start_or_free c.once) values f lower (λ when rest. acts (action.Continue c.task when) f lower left) (λ when rest. record { light = tt }))
 act_light o f lower code (Resume once) s h at =
     taken_light o (weight o (f ∷ lower)) (length (offers.start_kinds (offers.as_start once))) f.operands
     (λ values left. offers.started (offers.as_start once) values f lower (λ when rest. acts (action.Resume when) f lower left)) (λ values left.
@@ -388,13 +388,13 @@ act_light o f lower code (Put d n) s h at = given_light o (weight o (f ∷ lower
     (λ values left. given (offers.value_kinds values) (λ kinds. needed (offers.items_suit items kinds) (offers.put_text d (text_of items values) f lower left))) (λ values left.
     given_light o (weight o (f ∷ lower)) (offers.value_kinds values) (λ kinds. needed (offers.items_suit items kinds) (offers.put_text d (text_of items values) f lower left)) (λ kinds.
     needed_light o (weight o (f ∷ lower)) (offers.items_suit items kinds) (offers.put_text d (text_of items values) f lower left) (put_light o (weight o (f ∷ lower)) d (text_of items values) f lower left))))
-act_light o f lower code (Get g) s h at = given_light o (weight o (f ∷ lower)) (items_at o g.value.format) _ (λ items.
-    given_light o (weight o (f ∷ lower)) (option_and_then offers.value_kinds (offers.cells_from f.cells g.value.first (data_count items))) (λ kinds. needed (offers.items_suit items kinds)
-    (Offers (action.Get g.value.device g.value.format (record { items = kinds }))
-    (λ answer. next (record f { cells = offers.with_values f.cells g.value.first (all_heard answer) }) f.operands ∷ lower))) (λ kinds.
+act_light o f lower code (Get g) s h at = given_light o (weight o (f ∷ lower)) (items_at o g.format) _ (λ items.
+    given_light o (weight o (f ∷ lower)) (option_and_then offers.value_kinds (offers.cells_from f.cells g.first (data_count items))) (λ kinds. needed (offers.items_suit items kinds)
+    (Offers (action.Get g.device g.format (record { items = kinds }))
+    (λ answer. next (record f { cells = offers.with_values f.cells g.first (all_heard answer) }) f.operands ∷ lower))) (λ kinds.
     needed_light o (weight o (f ∷ lower)) (offers.items_suit items kinds)
-    (Offers (action.Get g.value.device g.value.format (record { items = kinds }))
-    (λ answer. next (record f { cells = offers.with_values f.cells g.value.first (all_heard answer) }) f.operands ∷ lower)) (record { light = tt })))
+    (Offers (action.Get g.device g.format (record { items = kinds }))
+    (λ answer. next (record f { cells = offers.with_values f.cells g.first (all_heard answer) }) f.operands ∷ lower)) (record { light = tt })))
 act_light o f lower code (Take d) s h at = record { light = tt }
 act_light o f lower code (Send d) s h at = popped_light o (weight o (f ∷ lower)) f.operands _ (λ x left. record { light = tt })
 

@@ -1,7 +1,7 @@
 -- An action is offered soon.
-use Rattle.std.proofs.Common.{◌≡◌, inl, inr, ℕ, zero, suc, ◌<◌, List, refl, ap, subst, arith}
+use Rattle.std.proofs.Common.{◌≡◌, ◌⊎◌, inl, inr, ℕ, zero, suc, ◌<◌, List, [], refl, ap, subst, arith}
 use Rattle.pearl_stack.specs.Frames.{Frame}
-use Rattle.pearl_instructions.specs.declared.object.Object.{Object}
+use Rattle.pearl_instructions.specs.declared.object.Parts.{Parts as Object}
 use Rattle.pearl_instructions.specs.Laws as instructions
 use Rattle.pearl_instructions.specs.Rows.{row}
 use Rattle.pearl_instructions.specs.Stacks.{Then, OffersWithin}
@@ -40,6 +40,16 @@ fall o (suc n) frames next h e =
     let there = stable o n next within in
     omega (arith, here, there)
 
+-- so the row is there
+there_is : (o : Object) (n : ℕ) (frames : List Frame) → OffersWithin o n frames → row o frames ≡ Missing → ⊥
+there_is o zero frames h e = h
+there_is o (suc n) frames h e = subst (Then (OffersWithin o n)) e h
+
+falling : (o : Object) (n : ℕ) (frames next : List Frame) → OffersWithin o n frames → (row o frames ≡ Silent next) ⊎ ((row o frames ≡ Missing) × (next ≡ [])) →
+    silent_rows o n next < silent_rows o n frames
+falling o n frames next h (inl e) = fall o n frames next h e
+falling o n frames next h (inr none) = absurd (there_is o n frames h none.0)
+
 pub soon : instructions.OffersSoon → OffersSoon
 soon law o valid lawful = record {
   bounded = λ t heard frames there stands. elim stands [
@@ -47,7 +57,7 @@ soon law o valid lawful = record {
     | inr none ↦ absurd (omega (arith, there, none.past))
   ];
   falls = λ t heard frames next there stands e. elim stands [
-    | inl s ↦ fall o (total_rows o) frames next (law o valid lawful frames s.stack) (silent_is (row o frames) next e)
+    | inl s ↦ falling o (total_rows o) frames next (law o valid lawful frames s.stack) (silent_is (row o frames) next e)
     | inr none ↦ absurd (omega (arith, there, none.past))
   ];
 }

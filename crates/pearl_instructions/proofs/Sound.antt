@@ -8,7 +8,7 @@ use Rattle.pearl_stack.specs.Frames.{Frame}
 use Rattle.pearl_instructions.specs.declared.instr.Instr.{Instr}
 use Rattle.pearl_instructions.specs.declared.instr.Instr.TheVariants.{Const, Load, Store, Fill, Drop, Conv, Index, LoadAt, StoreAt, Read, Write, ReadAt, WriteAt, RefSlot, RefSlotAt, RefCell, RefCellAt, ReadRef, WriteRef, Jump, JumpZero, Case, Turn, Call, Return, End, Trap, Within, Advance, NonZero, Monadic, Dyadic, Now, Request, Release, Try, Activate, Continue, Resume, Suspend, Terminate, Prevent, SuspendOwn, TerminateOwn, PreventOwn, Enable, Disable, Trigger, Put, Get, Take, Send}
 use Rattle.pearl_instructions.specs.declared.object.Code.{Code}
-use Rattle.pearl_instructions.specs.declared.object.Object.{Object}
+use Rattle.pearl_instructions.specs.declared.object.Parts.{Parts as Object}
 use Rattle.pearl_instructions.specs.Objects.{routine_at, routines}
 use Rattle.pearl_instructions.specs.Lawful.{IsCellKind, IsInstr, IsCode, IsProcedure, IsTask, IsObject}
 use Rattle.pearl_instructions.specs.Steps.{Step, Silent, Offers, Missing}
@@ -64,9 +64,9 @@ act_sound o v w f lower t code (Monadic op) s is kinds h = monadic_sound o f low
 act_sound o v w f lower t code (Dyadic op) s is kinds h = dyadic_sound o f lower code s op h
 act_sound o v w f lower t code Now s is kinds h = now_sound o f lower code s h
 act_sound o v w f lower t code (Request list) s is kinds h =
-    (semaphores_there o list.value h.keeps.named h.keeps.limits, λ answer own e. goes o f lower code (Request list) s h f.cells f.operands s refl refl h.stands.cells h.stands.operands)
+    (semaphores_there o list h.keeps.named h.keeps.limits, λ answer own e. goes o f lower code (Request list) s h f.cells f.operands s refl refl h.stands.cells h.stands.operands)
 act_sound o v w f lower t code (Release list) s is kinds h =
-    (semaphores_there o list.value h.keeps.named h.keeps.limits, λ answer own e. goes o f lower code (Release list) s h f.cells f.operands s refl refl h.stands.cells h.stands.operands)
+    (semaphores_there o list h.keeps.named h.keeps.limits, λ answer own e. goes o f lower code (Release list) s h f.cells f.operands s refl refl h.stands.cells h.stands.operands)
 act_sound o v w f lower t code (Try n) s is kinds h = try_sound o f lower code s n h
 act_sound o v w f lower t code (Activate a) s is kinds h = activate_sound o f lower code s a h
 act_sound o v w f lower t code (Continue c) s is kinds h = continue_sound o f lower code s c h

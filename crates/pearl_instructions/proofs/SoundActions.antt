@@ -1,5 +1,5 @@
 -- The rows on tasks, semaphores and devices lead from a stack of a valid object to such stacks only.
-use Rattle.std.proofs.Common.{◌≡◌, ℕ, ◌≤◌, ℤ, pos, ◌≤ℤ◌, List, [], ◌∷◌, ◌++◌, Option, Some, None, length, map, reverse, take, drop, slice_get, refl, sym, ap, ◌∙◌, subst, arith, true, leb-true, ltb-true, Box, Global}
+use Rattle.std.proofs.Common.{◌≡◌, ℕ, ◌≤◌, ℤ, pos, ◌≤ℤ◌, List, [], ◌∷◌, ◌++◌, Option, Some, None, length, map, reverse, take, drop, slice_get, refl, sym, ap, ◌∙◌, subst, arith, true, leb-true, ltb-true}
 use Rattle.std.specs.Prelude.{◌&&◌, nat_lt, nat_le, int_le, is_some, option_to_list, option_and_then}
 use Rattle.std.specs.List.{AllZip}
 use Rattle.std.proofs.lemmas.List.{length-replicate, append-nil}
@@ -28,7 +28,7 @@ use Rattle.pearl_instructions.specs.declared.schedule.StartForm.TheVariants as f
 use Rattle.pearl_instructions.specs.declared.instr.Continuation.{Continuation}
 use Rattle.pearl_instructions.specs.declared.instr.Instr.TheVariants.{Now, Try, Take, Send, Continue, Resume, Put}
 use Rattle.pearl_instructions.specs.declared.object.Code.{Code}
-use Rattle.pearl_instructions.specs.declared.object.Object.{Object}
+use Rattle.pearl_instructions.specs.declared.object.Parts.{Parts as Object}
 use Rattle.pearl_instructions.specs.Objects.{items_at}
 use Rattle.pearl_instructions.specs.Steps.{Step, given, needed, taken, next, traps, acts}
 use Rattle.pearl_instructions.specs.Offers.{as_start, start_or_free, start_kinds, lasting, started, items_suit, value_kinds, put_text}
@@ -199,14 +199,14 @@ later_there o (start.After time) once is e = is
 later_there o (start.When device) once is e = is
 later_there o (start.WhenAfter device time) once is e = once_there o (start.WhenAfter device time) (Some once) is e
 
-pub continue_sound : (o : Object) (f : Frame) (lower : List Frame) (code : Code) (s : Shape) (c : Box Continuation Global) → Here o f lower code (Continue c) s →
+pub continue_sound : (o : Object) (f : Frame) (lower : List Frame) (code : Code) (s : Shape) (c : Continuation) → Here o f lower code (Continue c) s →
     IsSound o (act o (Continue c) f lower)
 continue_sound o f lower code s c h =
-    let when = start_or_free c.value.once in
+    let when = start_or_free c.once in
     let kinds = start_kinds when in
-    let named = and_true (nat_lt c.value.task (length o.tasks)) (names_interrupt o when) h.keeps.named in
-    once_goes o f lower when s f.operands (λ start left. acts (action.Continue c.value.task start) f lower left) named.1 h.keeps.ends h.stands.operands (λ start left is same rest. (
-      (ltb-true c.value.task (length o.tasks) named.0, once_there o start c.value.once is same),
+    let named = and_true (nat_lt c.task (length o.tasks)) (names_interrupt o when) h.keeps.named in
+    once_goes o f lower when s f.operands (λ start left. acts (action.Continue c.task start) f lower left) named.1 h.keeps.ends h.stands.operands (λ start left is same rest. (
+      (ltb-true c.task (length o.tasks) named.0, once_there o start c.once is same),
       λ answer own e. goes o f lower code (Continue c) s h f.cells left (drop (length kinds) s) refl (ap (λ n. drop n s) (sym (scheduled_long kinds))) h.stands.cells rest,
     ))
 

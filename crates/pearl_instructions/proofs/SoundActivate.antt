@@ -1,5 +1,5 @@
 -- The row of ACTIVATE leads from a stack of a valid object to such stacks only.
-use Rattle.std.proofs.Common.{◌≡◌, ℕ, suc, ◌+◌, ◌≤◌, pos, List, [], ◌∷◌, ◌++◌, Option, Some, None, length, map, reverse, take, drop, refl, sym, ap, ◌∙◌, subst, arith, Bool, true, false, ltb-true, Box, Global}
+use Rattle.std.proofs.Common.{◌≡◌, ℕ, suc, ◌+◌, ◌≤◌, pos, List, [], ◌∷◌, ◌++◌, Option, Some, None, length, map, reverse, take, drop, refl, sym, ap, ◌∙◌, subst, arith, Bool, true, false, ltb-true}
 use Rattle.std.specs.Prelude.{◌&&◌, nat_lt, int_le, IfSome, if◌then◌else◌, unsigned_abs}
 use Rattle.std.specs.List.{AllZip}
 use Rattle.std.proofs.lemmas.List.{append_assoc, map-append, reverse-append, length-append, append-nil}
@@ -18,7 +18,7 @@ use Rattle.pearl_instructions.specs.declared.schedule.RepeatForm.TheVariants as 
 use Rattle.pearl_instructions.specs.declared.instr.Activation.{Activation}
 use Rattle.pearl_instructions.specs.declared.instr.Instr.TheVariants.{Activate}
 use Rattle.pearl_instructions.specs.declared.object.Code.{Code}
-use Rattle.pearl_instructions.specs.declared.object.Object.{Object}
+use Rattle.pearl_instructions.specs.declared.object.Parts.{Parts as Object}
 use Rattle.pearl_instructions.specs.Steps.{Step, acts}
 use Rattle.pearl_instructions.specs.Offers.{start_kinds, repeat_kinds, activation_count, started, repeated, with_priority}
 use Rattle.pearl_instructions.specs.Rows.{act}
@@ -116,32 +116,32 @@ planned kinds true n (k ∷ s) e h =
       long = ap suc (scheduled_long kinds) ∙ sym same;
     }
 
-pub activate_sound : (o : Object) (f : Frame) (lower : List Frame) (code : Code) (s : Shape) (a : Box Activation Global) → Here o f lower code (Activate a) s →
+pub activate_sound : (o : Object) (f : Frame) (lower : List Frame) (code : Code) (s : Shape) (a : Activation) → Here o f lower code (Activate a) s →
     IsSound o (act o (Activate a) f lower)
 activate_sound o f lower code s a h =
     let rs = f.routine ∷ routines_of lower in
-    let first = start_kinds a.value.start in
-    let later = repeat_kinds a.value.repeat in
-    let b = a.value.priority in
-    let n = activation_count a.value in
-    let named = and_true (nat_lt a.value.task (length o.tasks)) (names_interrupt o a.value.start) h.keeps.named in
+    let first = start_kinds a.start in
+    let later = repeat_kinds a.repeat in
+    let b = a.priority in
+    let n = activation_count a in
+    let named = and_true (nat_lt a.task (length o.tasks)) (names_interrupt o a.start) h.keeps.named in
     let long : n ≡ length (first ++ later) + (if b then 1 else 0) = ap (λ m. m + (if b then 1 else 0)) (sym (length-append first later)) in
     let p = planned (first ++ later) b n s long h.keeps.ends in
     let ends : reverse (take n s) ≡ map Plain first ++ (map Plain later ++ p.tail) =
     p.ends ∙ (ap (λ t. t ++ p.tail) (map-append Plain first later) ∙ append_assoc (map Plain first) (map Plain later) p.tail) in
     taken_goes o (Suits o rs) n s f.operands (λ values left.
-    started a.value.start values f lower (λ when more.
-    repeated a.value.repeat more f lower (λ how rest.
-    with_priority a.value.priority rest f lower (λ priority.
-    acts (action.Activate a.value.task when how priority) f lower left)))) p.few h.stands.operands (λ values left there under.
-    started_goes o rs a.value.start (map Plain later ++ p.tail) values f lower (λ when more.
-    repeated a.value.repeat more f lower (λ how rest.
-    with_priority a.value.priority rest f lower (λ priority.
-    acts (action.Activate a.value.task when how priority) f lower left))) named.1 (subst (λ ks. AllZip (Suits o rs) ks values) ends there) (λ when more starts same z.
-    repeated_goes o rs a.value.repeat p.tail more f lower (λ how rest.
-    with_priority a.value.priority rest f lower (λ priority.
-    acts (action.Activate a.value.task when how priority) f lower left)) z (λ how rest repeats w.
-    priority_goes o rs b p.tail rest f lower (λ priority. acts (action.Activate a.value.task when how priority) f lower left) p.priority w (λ priority urgent. (
-      (ltb-true a.value.task (length o.tasks) named.0, starts, repeats, urgent),
+    started a.start values f lower (λ when more.
+    repeated a.repeat more f lower (λ how rest.
+    with_priority a.priority rest f lower (λ priority.
+    acts (action.Activate a.task when how priority) f lower left)))) p.few h.stands.operands (λ values left there under.
+    started_goes o rs a.start (map Plain later ++ p.tail) values f lower (λ when more.
+    repeated a.repeat more f lower (λ how rest.
+    with_priority a.priority rest f lower (λ priority.
+    acts (action.Activate a.task when how priority) f lower left))) named.1 (subst (λ ks. AllZip (Suits o rs) ks values) ends there) (λ when more starts same z.
+    repeated_goes o rs a.repeat p.tail more f lower (λ how rest.
+    with_priority a.priority rest f lower (λ priority.
+    acts (action.Activate a.task when how priority) f lower left)) z (λ how rest repeats w.
+    priority_goes o rs b p.tail rest f lower (λ priority. acts (action.Activate a.task when how priority) f lower left) p.priority w (λ priority urgent. (
+      (ltb-true a.task (length o.tasks) named.0, starts, repeats, urgent),
       λ answer own e. goes o f lower code (Activate a) s h f.cells left (drop n s) refl (ap (λ n. drop n s) (sym p.long)) h.stands.cells under,
     )))))

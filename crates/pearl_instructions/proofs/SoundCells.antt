@@ -1,5 +1,5 @@
 -- The rows on cells lead from a stack of a valid object to such stacks only.
-use Rattle.std.proofs.Common.{◌≡◌, ℕ, ◌+◌, ◌<◌, pos, negsuc, List, [], ◌∷◌, ◌++◌, Option, Some, None, length, slice_get, slice_set, refl, sym, ap, ◌∙◌, subst, arith, Bool, true, false, ltb-true, le-leb, eq-eqb, Box, Global}
+use Rattle.std.proofs.Common.{◌≡◌, ℕ, ◌+◌, ◌<◌, pos, negsuc, List, [], ◌∷◌, ◌++◌, Option, Some, None, length, slice_get, slice_set, refl, sym, ap, ◌∙◌, subst, arith, Bool, true, false, ltb-true, le-leb, eq-eqb}
 use Rattle.std.specs.Prelude.{◌==◌, nat_lt, nat_le, if◌then◌else◌, option_to_list, option_map, option_and_then}
 use Rattle.std.specs.List.{AllZip}
 use Rattle.std.proofs.lemmas.List.{length-map}
@@ -19,7 +19,7 @@ use Rattle.pearl_stack.specs.Frames.{Frame}
 use Rattle.pearl_instructions.specs.declared.instr.Instr.{Instr}
 use Rattle.pearl_instructions.specs.declared.instr.Instr.TheVariants.{Const, Load, Store, Fill, Drop, LoadAt, StoreAt, RefCell, RefCellAt}
 use Rattle.pearl_instructions.specs.declared.object.Code.{Code}
-use Rattle.pearl_instructions.specs.declared.object.Object.{Object}
+use Rattle.pearl_instructions.specs.declared.object.Parts.{Parts as Object}
 use Rattle.pearl_instructions.specs.Steps.{Step, value_kind, traps, within}
 use Rattle.pearl_instructions.specs.Cells.{store, filled, cell_reference}
 use Rattle.pearl_instructions.specs.Rows.{act}
@@ -76,11 +76,11 @@ value_kind_is k (cell.Ref of at) w = absurd w.is_value
 pub offset_on_top : (k : CellKind) (ks : Shape) → v2 (offset ∷ []) (k ∷ ks) ≡ true → Plain (kind.Fixed 31) ≡ k
 offset_on_top k ks e = same_cell_true (Plain (kind.Fixed 31)) k (and_true (meets offset k) (v2 [] ks) e).0
 
-pub const_sound : (o : Object) (f : Frame) (lower : List Frame) (code : Code) (s : Shape) (x : Box Cell Global) → IsValue x.value → Here o f lower code (Const x) s →
+pub const_sound : (o : Object) (f : Frame) (lower : List Frame) (code : Code) (s : Shape) (x : Cell) → IsValue x → Here o f lower code (Const x) s →
     IsSound o (act o (Const x) f lower)
 const_sound o f lower code s x w h =
-    goes o f lower code (Const x) s h f.cells (x.value ∷ f.operands) (cell_kind_of x.value ∷ s) refl refl h.stands.cells
-    (value_suits o (f.routine ∷ routines_of lower) x.value w, h.stands.operands)
+    goes o f lower code (Const x) s h f.cells (x ∷ f.operands) (cell_kind_of x ∷ s) refl refl h.stands.cells
+    (value_suits o (f.routine ∷ routines_of lower) x w, h.stands.operands)
 
 pub load_sound : (o : Object) (f : Frame) (lower : List Frame) (code : Code) (s : Shape) (c : ℕ) → Here o f lower code (Load c) s → IsSound o (act o (Load c) f lower)
 load_sound o f lower code s c h =

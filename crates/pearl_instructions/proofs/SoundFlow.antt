@@ -1,5 +1,5 @@
 -- The rows on jumps, loops and calls lead from a stack of a valid object to such stacks only.
-use Rattle.std.proofs.Common.{◌≡◌, ℕ, zero, suc, ◌+◌, ◌<◌, ◌≤◌, ℤ, pos, negsuc, ◌+ℤ◌, List, [], ◌∷◌, ◌++◌, Option, Some, None, length, map, reverse, take, drop, replicate, slice_get, slice_set, refl, sym, ap, ◌∙◌, subst, arith, Bool, true, false, ltb-true, leb-false, le-leb, eq-eqb, take-append-drop, Box, Global}
+use Rattle.std.proofs.Common.{◌≡◌, ℕ, zero, suc, ◌+◌, ◌<◌, ◌≤◌, ℤ, pos, negsuc, ◌+ℤ◌, List, [], ◌∷◌, ◌++◌, Option, Some, None, length, map, reverse, take, drop, replicate, slice_get, slice_set, refl, sym, ap, ◌∙◌, subst, arith, Bool, true, false, ltb-true, leb-false, le-leb, eq-eqb, take-append-drop}
 use Rattle.std.specs.Prelude.{◌==◌, not, nat_lt, nat_le, if◌then◌else◌, option_to_list, option_map, option_and_then}
 use Rattle.std.specs.List.{AllZip, AllByRecursion, list_all}
 use Rattle.std.proofs.lemmas.Int.{ints}
@@ -19,7 +19,7 @@ use Rattle.pearl_stack.specs.Frames.{Frame}
 use Rattle.pearl_instructions.specs.declared.instr.Instr.TheVariants.{Jump, JumpZero, Case, Turn, Call, Return, Within, Advance}
 use Rattle.pearl_instructions.specs.declared.object.Code.{Code}
 use Rattle.pearl_instructions.specs.declared.object.Procedure.{Procedure}
-use Rattle.pearl_instructions.specs.declared.object.Object.{Object}
+use Rattle.pearl_instructions.specs.declared.object.Parts.{Parts as Object}
 use Rattle.pearl_instructions.specs.Objects.{routine_at, is_task, result_of}
 use Rattle.pearl_instructions.specs.Lawful.{IsCellKind, IsPlain, IsProcedure, IsObject}
 use Rattle.pearl_instructions.specs.Steps.{Step, at, next}
@@ -77,7 +77,7 @@ target_is targets (pos zero) t e = cc
 target_is targets (pos (suc n)) t e = (n, e)
 target_is targets (negsuc n) t e = cc
 
-pub case_sound : (o : Object) (f : Frame) (lower : List Frame) (code : Code) (s : Shape) (targets : Box (List ℕ) Global) → Here o f lower code (Case targets) s →
+pub case_sound : (o : Object) (f : Frame) (lower : List Frame) (code : Code) (s : Shape) (targets : List ℕ) → Here o f lower code (Case targets) s →
     IsSound o (act o (Case targets) f lower)
 case_sound o f lower code [] targets h = let e = h.keeps.ends in cc
 case_sound o f lower code (k ∷ ks) targets h =
@@ -85,16 +85,16 @@ case_sound o f lower code (k ∷ ks) targets h =
     let fixed = fixed_kind k (and_true (is_fixed k) (v2 [] ks) h.keeps.ends).0 in
     popped_goes o (Suits o rs) k ks f.operands _ h.stands.operands (λ x left suits rest.
     let number = fixed_is fixed.0 x (subst (λ k. Suits o rs k x) fixed.1 suits) in
-    subst (λ x. IsSound o (flow.branch targets.value f lower left x)) (sym number.1)
-    (by_target left rest (flow.target_of targets.value number.0) (λ t e. target_is targets.value number.0 t e)))
+    subst (λ x. IsSound o (flow.branch targets f lower left x)) (sym number.1)
+    (by_target left rest (flow.target_of targets number.0) (λ t e. target_is targets number.0 t e)))
   where
     by_target : (left : List Cell) → AllZip (Suits o (f.routine ∷ routines_of lower)) ks left → (target : Option ℕ) →
-        ((t : ℕ) → target ≡ Some t → (n : ℕ) × (slice_get targets.value n ≡ Some t)) → IsSound o (flow.goes_or_on target f lower left)
+        ((t : ℕ) → target ≡ Some t → (n : ℕ) × (slice_get targets n ≡ Some t)) → IsSound o (flow.goes_or_on target f lower left)
     by_target left rest None is = goes o f lower code (Case targets) (k ∷ ks) h f.cells left ks refl refl h.stands.cells rest
     by_target left rest (Some t) is =
         let there = is t refl in
         lands o f lower code (Case targets) (k ∷ ks) h t f.cells left
-        (ltb-true t (length code.instructions) (all_at (λ i. nat_lt i (length code.instructions)) targets.value there.0 t h.keeps.named there.1))
+        (ltb-true t (length code.instructions) (all_at (λ i. nat_lt i (length code.instructions)) targets there.0 t h.keeps.named there.1))
         (jumped o f.routine code f.place (Case targets) (shape_after o f.routine code (Case targets) (k ∷ ks)) there.0 t h.keeps.flows there.1) h.stands.cells rest
 
 pub turn_sound : (o : Object) (f : Frame) (lower : List Frame) (code : Code) (s : Shape) → Here o f lower code Turn s → IsSound o (act o Turn f lower)

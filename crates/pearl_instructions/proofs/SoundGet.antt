@@ -1,5 +1,5 @@
 -- The row of GET leads from a stack of a valid object to such stacks only.
-use Rattle.std.proofs.Common.{◌≡◌, ℕ, zero, suc, ◌+◌, ◌≤◌, List, [], ◌∷◌, ◌++◌, Option, Some, None, length, take, drop, slice_get, refl, sym, ap, ◌∙◌, subst, arith, Bool, true, false, leb-true, le-leb, take-append-drop, Box, Global}
+use Rattle.std.proofs.Common.{◌≡◌, ℕ, zero, suc, ◌+◌, ◌≤◌, List, [], ◌∷◌, ◌++◌, Option, Some, None, length, take, drop, slice_get, refl, sym, ap, ◌∙◌, subst, arith, Bool, true, false, leb-true, le-leb, take-append-drop}
 use Rattle.std.specs.Prelude.{◌⊎◌, nat_lt, nat_le, if◌then◌else◌, option_and_then}
 use Rattle.std.proofs.Common.{inl, inr}
 use Rattle.std.proofs.lemmas.List.{append-nil}
@@ -16,7 +16,7 @@ use Rattle.pearl_stack.specs.Frames.{Frame}
 use Rattle.pearl_instructions.specs.declared.instr.Reading.{Reading}
 use Rattle.pearl_instructions.specs.declared.instr.Instr.TheVariants.{Get}
 use Rattle.pearl_instructions.specs.declared.object.Code.{Code}
-use Rattle.pearl_instructions.specs.declared.object.Object.{Object}
+use Rattle.pearl_instructions.specs.declared.object.Parts.{Parts as Object}
 use Rattle.pearl_instructions.specs.Objects.{items_at}
 use Rattle.pearl_instructions.specs.Lawful.{IsCellKind, IsObject}
 use Rattle.pearl_instructions.specs.Offers.{items_suit, value_kinds, cells_from, with_values}
@@ -117,44 +117,44 @@ read_goes o f lower g kinds there go = (there, by_answer)
     by_answer (One x) own e = absurd e
     by_answer (Many xs) own e = go xs.items e
 
-get_with : (o : Object) (w : IsObject o) (f : Frame) (lower : List Frame) (code : Code) (s : Shape) (g : Box Reading Global) (items : List Item) → items_at o g.value.format ≡ Some items →
-    ((data_count items ≡ 0) ⊎ (g.value.first + data_count items ≤ length code.cells)) → gives_texts (slice_get o.devices g.value.device) ≡ true →
+get_with : (o : Object) (w : IsObject o) (f : Frame) (lower : List Frame) (code : Code) (s : Shape) (g : Reading) (items : List Item) → items_at o g.format ≡ Some items →
+    ((data_count items ≡ 0) ⊎ (g.first + data_count items ≤ length code.cells)) → gives_texts (slice_get o.devices g.device) ≡ true →
     AllByRecursion IsCellKind code.cells → Here o f lower code (Get g) s →
-    IsSound o (given (option_and_then value_kinds (cells_from f.cells g.value.first (data_count items))) (λ kinds. needed (items_suit items kinds)
-    (Offers (action.Get g.value.device g.value.format (record { items = kinds }))
-    (λ answer. next (record f { cells = with_values f.cells g.value.first (all_heard answer) }) f.operands ∷ lower))))
+    IsSound o (given (option_and_then value_kinds (cells_from f.cells g.first (data_count items))) (λ kinds. needed (items_suit items kinds)
+    (Offers (action.Get g.device g.format (record { items = kinds }))
+    (λ answer. next (record f { cells = with_values f.cells g.first (all_heard answer) }) f.operands ∷ lower))))
 get_with o w f lower code s g items there size gives kinds h =
     let rs = routines_of lower in
-    let c = g.value.first in
+    let c = g.first in
     let n = data_count items in
     let suits = format_kinds items (plain_kinds (cells_at code c n)) (ap (λ i. cells_suit i (read_cells code c i)) (sym there) ∙ h.keeps.limits) in
     let room = room_is o code f.cells c n rs h.stands.cells size in
     let lawful = are_kinds (cells_at code c n) suits.kinds suits.are (all_take IsCellKind n (drop c code.cells) (all_drop IsCellKind c code.cells kinds)) in
     let fits : FitsFormat items suits.kinds = record {
-      suits = items_suited items suits.kinds (all_of IsFormat o.formats g.value.format items w.formats there) suits.suit;
+      suits = items_suited items suits.kinds (all_of IsFormat o.formats g.format items w.formats there) suits.suit;
       few = suits.few;
       short = suits.short;
     } in
-    let is : IsGet o g.value.device g.value.format suits.kinds = record {
-      gives = readable_there (slice_get o.devices g.value.device) gives;
+    let is : IsGet o g.device g.format suits.kinds = record {
+      gives = readable_there (slice_get o.devices g.device) gives;
       are = lawful;
       fits = subst (λ i. FitsSome i suits.kinds) (sym there) fits;
     } in
     given_goes o suits.kinds (option_and_then value_kinds (cells_from f.cells c n)) (λ kinds. needed (items_suit items kinds)
-    (Offers (action.Get g.value.device g.value.format (record { items = kinds }))
-    (λ answer. next (record f { cells = with_values f.cells g.value.first (all_heard answer) }) f.operands ∷ lower)))
+    (Offers (action.Get g.device g.format (record { items = kinds }))
+    (λ answer. next (record f { cells = with_values f.cells g.first (all_heard answer) }) f.operands ∷ lower)))
     (ap (option_and_then value_kinds) room.there ∙ kinds_of_values o rs (cells_at code c n) room.held suits.kinds suits.are room.suits)
-    (needed_goes o (items_suit items suits.kinds) _ suits.suit (read_goes o f lower g.value suits.kinds is (λ xs fits.
+    (needed_goes o (items_suit items suits.kinds) _ suits.suit (read_goes o f lower g suits.kinds is (λ xs fits.
     goes o f lower code (Get g) s h (with_values f.cells c xs) f.operands s refl refl
     (room.put xs (values_suit_cells o rs (cells_at code c n) suits.kinds xs suits.are fits)) h.stands.operands)))
 
-pub get_sound : (o : Object) (w : IsObject o) (f : Frame) (lower : List Frame) (code : Code) (s : Shape) (g : Box Reading Global) → AllByRecursion IsCellKind code.cells → Here o f lower code (Get g) s →
+pub get_sound : (o : Object) (w : IsObject o) (f : Frame) (lower : List Frame) (code : Code) (s : Shape) (g : Reading) → AllByRecursion IsCellKind code.cells → Here o f lower code (Get g) s →
     IsSound o (act o (Get g) f lower)
 get_sound o w f lower code s g kinds h =
-    let named = and_true (gives_texts (slice_get o.devices g.value.device)) (has_read_cells code g.value.first (items_at o g.value.format)) h.keeps.named in
-    let items = read_items code g.value.first (items_at o g.value.format) named.1 in
-    given_goes o items.0 (items_at o g.value.format) (λ items.
-    given (option_and_then value_kinds (cells_from f.cells g.value.first (data_count items))) (λ kinds. needed (items_suit items kinds)
-    (Offers (action.Get g.value.device g.value.format (record { items = kinds }))
-    (λ answer. next (record f { cells = with_values f.cells g.value.first (all_heard answer) }) f.operands ∷ lower))))
+    let named = and_true (gives_texts (slice_get o.devices g.device)) (has_read_cells code g.first (items_at o g.format)) h.keeps.named in
+    let items = read_items code g.first (items_at o g.format) named.1 in
+    given_goes o items.0 (items_at o g.format) (λ items.
+    given (option_and_then value_kinds (cells_from f.cells g.first (data_count items))) (λ kinds. needed (items_suit items kinds)
+    (Offers (action.Get g.device g.format (record { items = kinds }))
+    (λ answer. next (record f { cells = with_values f.cells g.first (all_heard answer) }) f.operands ∷ lower))))
     items.1 (get_with o w f lower code s g items.0 items.1 items.2 named.0 kinds h)

@@ -1,5 +1,5 @@
 -- The row of Index leads from a stack of a valid object to such stacks only: the offset of an element is a FIXED(31).
-use Rattle.std.proofs.Common.{◌≡◌, ℕ, zero, suc, ◌+◌, ◌*◌, ◌<◌, ◌≤◌, ℤ, pos, negsuc, ◌+ℤ◌, ◌-ℤ◌, ◌*ℤ◌, List, [], ◌∷◌, Option, Some, None, length, reverse, take, drop, replicate, refl, sym, ap, ◌∙◌, subst, arith, Bool, true, false, leb-true, Box, Global}
+use Rattle.std.proofs.Common.{◌≡◌, ℕ, zero, suc, ◌+◌, ◌*◌, ◌<◌, ◌≤◌, ℤ, pos, negsuc, ◌+ℤ◌, ◌-ℤ◌, ◌*ℤ◌, List, [], ◌∷◌, Option, Some, None, length, reverse, take, drop, replicate, refl, sym, ap, ◌∙◌, subst, arith, Bool, true, false, leb-true}
 use Rattle.std.specs.Prelude.{◌&&◌, nat_le, int_le, unsigned_abs, if◌then◌else◌, option_map, option_and_then}
 use Rattle.std.specs.List.{AllZip, list_all}
 use Rattle.std.proofs.lemmas.Int.{ints}
@@ -15,7 +15,7 @@ use Rattle.pearl_stack.specs.Frames.{Frame}
 use Rattle.pearl_instructions.specs.declared.instr.Bounds.{Bounds}
 use Rattle.pearl_instructions.specs.declared.instr.Instr.TheVariants.{Index}
 use Rattle.pearl_instructions.specs.declared.object.Code.{Code}
-use Rattle.pearl_instructions.specs.declared.object.Object.{Object}
+use Rattle.pearl_instructions.specs.declared.object.Parts.{Parts as Object}
 use Rattle.pearl_instructions.specs.Steps.{given, makes}
 use Rattle.pearl_instructions.specs.Operators.{numbers_of, offset_of, index_of}
 use Rattle.pearl_instructions.specs.Rows.{act}
@@ -109,20 +109,20 @@ numbers_are o rs (k ∷ s) (x ∷ xs) e z =
     let more = numbers_are o rs s xs both.1 z.1 in
     (n.0 ∷ more.0, ap (option_and_then (λ n. option_map (λ ns. n ∷ ns) (numbers_of xs))) n.1 ∙ ap (option_map (λ ns. n.0 ∷ ns)) more.1)
 
-pub index_sound : (o : Object) (f : Frame) (lower : List Frame) (code : Code) (s : Shape) (bounds : Box (List Bounds) Global) → Here o f lower code (Index bounds) s →
+pub index_sound : (o : Object) (f : Frame) (lower : List Frame) (code : Code) (s : Shape) (bounds : List Bounds) → Here o f lower code (Index bounds) s →
     IsSound o (act o (Index bounds) f lower)
 index_sound o f lower code s bounds h =
     let rs = f.routine ∷ routines_of lower in
-    let n = length bounds.value in
+    let n = length bounds in
     let ends = fixed_ends n s h.keeps.ends in
-    let limits = and_true _ (nat_le (elements bounds.value) 65536) h.keeps.limits in
-    let ok = and_true _ (list_all (λ b. int_le b.low b.high) bounds.value) limits.0 in
+    let limits = and_true _ (nat_le (elements bounds) 65536) h.keeps.limits in
+    let ok = and_true _ (list_all (λ b. int_le b.low b.high) bounds) limits.0 in
     taken_goes o (Suits o rs) n s f.operands (λ xs left.
-    given (numbers_of xs) (λ ns. makes f lower left (index_of (offset_of (pos 0) bounds.value ns)))) ends.0 h.stands.operands (λ xs left there under.
+    given (numbers_of xs) (λ ns. makes f lower left (index_of (offset_of (pos 0) bounds ns)))) ends.0 h.stands.operands (λ xs left there under.
     let ns = numbers_are o rs (reverse (take n s)) xs (all_reversed is_fixed (take n s) ends.1) there in
     given_goes o ns.0 (numbers_of xs) _ ns.1
-    (makes_goes o f lower left (index_of (offset_of (pos 0) bounds.value ns.0)) (kind.Fixed 31)
-    (index_gives (1 * elements bounds.value) (offset_of (pos 0) bounds.value ns.0) (let few = leb-true (elements bounds.value) 65536 limits.1 in omega (arith, few))
-    (offset_within 0 1 bounds.value ns.0 (omega arith) ok.1)) (λ x fits.
+    (makes_goes o f lower left (index_of (offset_of (pos 0) bounds ns.0)) (kind.Fixed 31)
+    (index_gives (1 * elements bounds) (offset_of (pos 0) bounds ns.0) (let few = leb-true (elements bounds) 65536 limits.1 in omega (arith, few))
+    (offset_within 0 1 bounds ns.0 (omega arith) ok.1)) (λ x fits.
     goes o f lower code (Index bounds) s h f.cells (x ∷ left) (Plain (kind.Fixed 31) ∷ drop n s) refl
     (ap (λ n. Plain (kind.Fixed 31) ∷ drop n s) (sym (length-replicate n SomeFixed))) h.stands.cells (fits, under))))

@@ -24,7 +24,7 @@ use Rattle.pearl_value.proofs.Offered.{keeps_rows1, keeps_rows2, keeps_kinds}
 use Rattle.pearl_stack.specs.Frames.{Frame}
 use Rattle.pearl_instructions.specs.declared.instr.Instr.TheVariants.{Conv, NonZero, Monadic, Dyadic}
 use Rattle.pearl_instructions.specs.declared.object.Code.{Code}
-use Rattle.pearl_instructions.specs.declared.object.Object.{Object}
+use Rattle.pearl_instructions.specs.declared.object.Parts.{Parts as Object}
 use Rattle.pearl_instructions.specs.Steps.{value_kind, next, traps, leaves, makes}
 use Rattle.pearl_instructions.specs.Operators.{number_of}
 use Rattle.pearl_instructions.specs.Rows.{act}

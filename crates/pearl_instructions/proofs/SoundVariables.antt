@@ -19,7 +19,7 @@ use Rattle.pearl_instructions.specs.declared.instr.Instr.{Instr}
 use Rattle.pearl_instructions.specs.declared.instr.Instr.TheVariants.{Read, Write, ReadAt, WriteAt, RefSlot, RefSlotAt, ReadRef, WriteRef}
 use Rattle.pearl_instructions.specs.declared.object.Leaf.{Leaf}
 use Rattle.pearl_instructions.specs.declared.object.Code.{Code}
-use Rattle.pearl_instructions.specs.declared.object.Object.{Object}
+use Rattle.pearl_instructions.specs.declared.object.Parts.{Parts as Object}
 use Rattle.pearl_instructions.specs.Objects.{first_slot, slot_kind}
 use Rattle.pearl_instructions.specs.Lawful.{IsLeaf, IsObject}
 use Rattle.pearl_instructions.specs.Steps.{next, asks, heard}

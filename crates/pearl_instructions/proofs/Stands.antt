@@ -4,7 +4,6 @@ use Rattle.std.specs.Prelude.{nat_lt, option_and_then}
 use Rattle.std.proofs.lemmas.List.{length-map, length-append}
 use Rattle.std.proofs.lemmas.Option.{slice_get_past}
 use Rattle.pearl_rules.specs.declared.action.Action.{Action}
-use Rattle.pearl_rules.specs.declared.action.Action.TheVariants.{End}
 use Rattle.pearl_rules.specs.declared.action.Answer.{Answer}
 use Rattle.pearl_rules.specs.Runs as runs
 use Rattle.pearl_stack.specs.Frames.{Frame}
@@ -12,7 +11,7 @@ use Rattle.pearl_instructions.specs.declared.instr.Instr.{Instr}
 use Rattle.pearl_instructions.specs.declared.object.Code.{Code}
 use Rattle.pearl_instructions.specs.declared.object.Procedure.{Procedure}
 use Rattle.pearl_instructions.specs.declared.object.Task.{Task}
-use Rattle.pearl_instructions.specs.declared.object.Object.{Object}
+use Rattle.pearl_instructions.specs.declared.object.Parts.{Parts as Object}
 use Rattle.pearl_instructions.specs.Actions.{IsOffered}
 use Rattle.pearl_instructions.specs.Lawful.{IsObject}
 use Rattle.pearl_instructions.specs.Laws as instructions
@@ -27,15 +26,15 @@ use Rattle.pearl_instructions.specs.Owners.{IsStackOf, StandsIn}
 use Rattle.pearl_instructions.specs.RunLaws.{Begins, GoesOn, GoesOnAfter, OffersWhatIsThere}
 
 -- what a step is, by what the engine makes of it
-pub silent_is : (step : Step) (frames : List Frame) → stepped_by step ≡ runs.Silent frames → step ≡ Silent frames
-silent_is (Silent frames) other e = let same : frames ≡ other = cc in ap Silent same
+pub silent_is : (step : Step) (frames : List Frame) → stepped_by step ≡ runs.Silent frames → (step ≡ Silent frames) ⊎ ((step ≡ Missing) × (frames ≡ []))
+silent_is (Silent frames) other e = let same : frames ≡ other = cc in inl (ap Silent same)
 silent_is (Offers action go) other e = cc
-silent_is Missing other e = cc
+silent_is Missing other e = let same : [] ≡ other = cc in inr (refl, sym same)
 
-pub offers_is : (step : Step) (action : Action) → stepped_by step ≡ runs.Offers action → ((go : Answer → List Frame) × (step ≡ Offers action go)) ⊎ ((step ≡ Missing) × (action ≡ End))
+pub offers_is : (step : Step) (action : Action) → stepped_by step ≡ runs.Offers action → (go : Answer → List Frame) × (step ≡ Offers action go)
 offers_is (Silent frames) action e = cc
-offers_is (Offers offered go) action e = let same : offered ≡ action = cc in inl (go, ap (λ a. Offers a go) same)
-offers_is Missing action e = let same : End ≡ action = cc in inr (refl, sym same)
+offers_is (Offers offered go) action e = let same : offered ≡ action = cc in (go, ap (λ a. Offers a go) same)
+offers_is Missing action e = cc
 
 -- the routine of a task, or none behind the last
 behind_all : (o : Object) (t : ℕ) → length o.tasks ≤ t → routine_at o (length o.procedures + t) ≡ None
@@ -113,33 +112,29 @@ leading leads has law o t frames step valid lawful s e = record {
 }
 
 pub goes_on : instructions.Leads → instructions.HasTask → instructions.KeepsTask → GoesOn
-goes_on leads has law o t frames next valid lawful (inl s) e =
-    let l = leading leads has law o t frames (Silent next) valid lawful s (silent_is (row o frames) next e) in
-    inl (record { stack = l.goes; task = task_is o t next l.stays })
+goes_on leads has law o t frames next valid lawful (inl s) e = by (silent_is (row o frames) next e)
+  where
+    by : (row o frames ≡ Silent next) ⊎ ((row o frames ≡ Missing) × (next ≡ [])) → StandsIn o t next
+    by (inl same) =
+        let l = leading leads has law o t frames (Silent next) valid lawful s same in
+        inl (record { stack = l.goes; task = task_is o t next l.stays })
+    by (inr none) = absurd (subst (Goes o (task_of o frames)) none.0 (leads o valid lawful frames s.stack))
 goes_on leads has law o t frames next valid lawful (inr none) e =
-    let no : runs.Offers End ≡ runs.Silent next = ap stepped_by (sym none.missing) ∙ e in cc
+    let same : runs.Silent [] ≡ runs.Silent next = ap stepped_by (sym none.missing) ∙ e in
+    let empty : [] ≡ next = cc in
+    inr (record { past = none.past; missing = subst (λ left. row o left ≡ Missing) empty refl })
 
 pub goes_on_after : instructions.Leads → instructions.HasTask → instructions.KeepsTask → GoesOnAfter
-goes_on_after leads has law o t frames action answer valid lawful (inl s) e suits = by (offers_is (row o frames) action e)
-  where
-    by : ((go : Answer → List Frame) × (row o frames ≡ Offers action go)) ⊎ ((row o frames ≡ Missing) × (action ≡ End)) → StandsIn o t (after (row o frames) answer)
-    by (inl offer) =
-        let l = leading leads has law o t frames (Offers action offer.0) valid lawful s offer.1 in
-        subst (λ step. StandsIn o t (after step answer)) (sym offer.1)
-        (inl (record { stack = l.goes answer suits; task = task_is o t (offer.0 answer) (l.stays answer suits) }))
-    by (inr none) = absurd (subst (λ a. Answers o t a answer) none.1 suits)
+goes_on_after leads has law o t frames action answer valid lawful (inl s) e suits =
+    let offer = offers_is (row o frames) action e in
+    let l = leading leads has law o t frames (Offers action offer.0) valid lawful s offer.1 in
+    subst (λ step. StandsIn o t (after step answer)) (sym offer.1)
+    (inl (record { stack = l.goes answer suits; task = task_is o t (offer.0 answer) (l.stays answer suits) }))
 goes_on_after leads has law o t frames action answer valid lawful (inr none) e suits =
-    let same : runs.Offers End ≡ runs.Offers action = ap stepped_by (sym none.missing) ∙ e in
-    let ends : action ≡ End = cc in
-    absurd (subst (λ a. Answers o t a answer) ends suits)
+    let no : runs.Silent [] ≡ runs.Offers action = ap stepped_by (sym none.missing) ∙ e in cc
 
 pub offers_there : instructions.OffersWhatIsThere → OffersWhatIsThere
-offers_there law o t frames action valid lawful (inl s) e = by (offers_is (row o frames) action e)
-  where
-    by : ((go : Answer → List Frame) × (row o frames ≡ Offers action go)) ⊎ ((row o frames ≡ Missing) × (action ≡ End)) → IsOffered o action
-    by (inl offer) = law o valid lawful frames s.stack action offer.0 offer.1
-    by (inr none) = subst (IsOffered o) (sym none.1) tt
+offers_there law o t frames action valid lawful (inl s) e =
+    let offer = offers_is (row o frames) action e in law o valid lawful frames s.stack action offer.0 offer.1
 offers_there law o t frames action valid lawful (inr none) e =
-    let same : runs.Offers End ≡ runs.Offers action = ap stepped_by (sym none.missing) ∙ e in
-    let ends : action ≡ End = cc in
-    subst (IsOffered o) (sym ends) tt
+    let no : runs.Silent [] ≡ runs.Offers action = ap stepped_by (sym none.missing) ∙ e in cc

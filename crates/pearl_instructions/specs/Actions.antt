@@ -18,7 +18,7 @@ use Rattle.pearl_rules.specs.declared.action.Start.TheVariants as start
 use Rattle.pearl_rules.specs.declared.action.Repeat.TheVariants as repeat
 use Rattle.pearl_rules.specs.Slots.{Lasts, IsRepeat}
 use Rattle.pearl_rules.specs.Tables.{IsWritable, IsReadable, IsInterrupt, input_kind, output_kind}
-use Rattle.pearl_instructions.specs.declared.object.Object.{Object}
+use Rattle.pearl_instructions.specs.declared.object.Parts.{Parts as Object}
 use Rattle.pearl_instructions.specs.Objects.{items_at, slot_kind}
 
 abbrev pub IsTaskNumber : Object → ℕ → Type 0

@@ -7,7 +7,7 @@ use Rattle.pearl_value.specs.declared.cell.Place.TheVariants as place
 use Rattle.pearl_value.specs.Blanks.{blank_of}
 use Rattle.pearl_rules.specs.declared.action.Action.TheVariants.{Read, Write}
 use Rattle.pearl_stack.specs.Frames.{Frame, cell_at, with_cell}
-use Rattle.pearl_instructions.specs.declared.object.Object.{Object}
+use Rattle.pearl_instructions.specs.declared.object.Parts.{Parts as Object}
 use Rattle.pearl_instructions.specs.declared.object.Leaf.{Leaf}
 use Rattle.pearl_instructions.specs.Objects.{first_slot}
 use Rattle.pearl_instructions.specs.Steps.{Step, Silent, Missing, given, needed, popped, value_kind, next, leaves, acts, asks, within}

@@ -13,7 +13,7 @@ use Rattle.pearl_instructions.specs.declared.instr.Instr.{Instr}
 use Rattle.pearl_instructions.specs.declared.object.Leaf.{Leaf}
 use Rattle.pearl_instructions.specs.declared.object.Code.{Code}
 use Rattle.pearl_instructions.specs.declared.object.Procedure.{Procedure}
-use Rattle.pearl_instructions.specs.declared.object.Object.{Object}
+use Rattle.pearl_instructions.specs.declared.object.Parts.{Parts as Object}
 use Rattle.pearl_value.specs.Conversions.{suits_kind}
 use Rattle.pearl_instructions.specs.Opcodes.{Exact, AnyKinds, KindOfCells, KindOfLeaf, KindReferred, KindSent, KindsOfParameters, CellsOf, FixedCells, Operation, NoOperation, Conversion, OnOne, OnTwo, Pushes, NoValue, Made, AValue, OfCell, OfLeaf, ToCell, ToLeaf, OfReferred, SameAgain, OfProcedure, OfInput, opcode}
 use Rattle.pearl_instructions.specs.Operands.{Shape, same_cell, same_shape, is_fixed, is_reference, asked}

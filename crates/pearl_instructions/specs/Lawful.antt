@@ -15,7 +15,7 @@ use Rattle.pearl_instructions.specs.declared.object.Shape.{Shape as Stated}
 use Rattle.pearl_instructions.specs.declared.object.Code.{Code}
 use Rattle.pearl_instructions.specs.declared.object.Procedure.{Procedure}
 use Rattle.pearl_instructions.specs.declared.object.Task.{Task}
-use Rattle.pearl_instructions.specs.declared.object.Object.{Object}
+use Rattle.pearl_instructions.specs.declared.object.Parts.{Parts as Object}
 use Rattle.pearl_instructions.specs.Opcodes.{Held, NothingHeld, Literal, OfKind, opcode}
 
 abbrev pub IsCellKind : CellKind → Type 0

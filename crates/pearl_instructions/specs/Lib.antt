@@ -42,3 +42,5 @@ pub mod Engines
 pub mod Owners
 -- what holds of the runs of valid objects
 pub mod RunLaws
+-- what an object's own code offers
+pub mod OwnOffers

@@ -11,7 +11,7 @@ use Rattle.pearl_instructions.specs.declared.schedule.StartForm.{StartForm}
 use Rattle.pearl_instructions.specs.declared.schedule.StartForm.TheVariants as form
 use Rattle.pearl_instructions.specs.declared.instr.Instr.{Instr}
 use Rattle.pearl_instructions.specs.declared.object.Code.{Code}
-use Rattle.pearl_instructions.specs.declared.object.Object.{Object}
+use Rattle.pearl_instructions.specs.declared.object.Parts.{Parts as Object}
 use Rattle.pearl_instructions.specs.Objects.{items_at}
 use Rattle.pearl_instructions.specs.Opcodes.{Names, NoName, ALeaf, AProcedure, ASemaphore, Semaphores, ATask, ATaskWhen, AWhen, AnInterrupt, AWriter, AReader, AnInput, AnOutput, Cells, NoCells, AnyCell, OneCell, ManyCells, LoopCells, ReadCells, Targets, NoTarget, Target, AnyTarget, Opcode, opcode}
 
@@ -26,12 +26,14 @@ is_interrupt device = false
 -- a terminal that takes texts, and one that gives them
 abbrev pub takes_texts : Option Device → Bool
 takes_texts (Some (Terminal number direction.In)) = false
-takes_texts (Some (Terminal number way)) = true
+takes_texts (Some (Terminal number direction.Out)) = true
+takes_texts (Some (Terminal number direction.InOut)) = true
 takes_texts device = false
 
 abbrev pub gives_texts : Option Device → Bool
+gives_texts (Some (Terminal number direction.In)) = true
 gives_texts (Some (Terminal number direction.Out)) = false
-gives_texts (Some (Terminal number way)) = true
+gives_texts (Some (Terminal number direction.InOut)) = true
 gives_texts device = false
 
 abbrev pub is_input : Option Device → Bool
@@ -44,9 +46,11 @@ is_output device = false
 
 -- a WHEN names an interrupt
 abbrev pub names_interrupt : Object → StartForm → Bool
+names_interrupt o form.Free = true
+names_interrupt o form.At = true
+names_interrupt o form.After = true
 names_interrupt o (form.When device) = is_interrupt (slice_get o.devices device)
 names_interrupt o (form.WhenAfter device) = is_interrupt (slice_get o.devices device)
-names_interrupt o when = true
 
 -- GET has as many cells as its format has items with a value; where it has none, its first cell may be any number
 abbrev pub has_read_cells : Code → ℕ → Option (List Item) → Bool

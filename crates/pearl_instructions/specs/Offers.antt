@@ -25,7 +25,7 @@ use Rattle.pearl_instructions.specs.declared.schedule.RepeatForm.TheVariants as 
 use Rattle.pearl_instructions.specs.declared.instr.Activation.{Activation}
 use Rattle.pearl_instructions.specs.declared.instr.Continuation.{Continuation}
 use Rattle.pearl_instructions.specs.declared.instr.Reading.{Reading}
-use Rattle.pearl_instructions.specs.declared.object.Object.{Object}
+use Rattle.pearl_instructions.specs.declared.object.Parts.{Parts as Object}
 use Rattle.pearl_instructions.specs.Objects.{items_at}
 use Rattle.pearl_instructions.specs.Steps.{Step, Offers, Missing, given, needed, taken, value_kind, next, traps, acts, all_heard}
 

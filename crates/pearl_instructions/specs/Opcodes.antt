@@ -167,7 +167,7 @@ abbrev pub activation_asked : Activation → List Asked
 activation_asked a = priority_asked a.priority ++ scheduled (start_kinds a.start ++ repeat_kinds a.repeat)
 
 abbrev pub opcode : Instr → Opcode
-opcode (Const x) = record plain { holds = Literal x.value; pushes = AValue (cell_kind_of x.value) }
+opcode (Const x) = record plain { holds = Literal x; pushes = AValue (cell_kind_of x) }
 opcode (Load c) = record plain { cells = AnyCell c; pushes = OfCell c }
 opcode (Store c) = record plain { cells = OneCell c; takes = These (Anything ∷ []); exact = KindOfCells }
 opcode (Fill c n of) = record plain { holds = OfKind of; cells = ManyCells c n; exact = CellsOf of }
@@ -179,9 +179,9 @@ opcode (Conv to) = record plain {
   pushes = Made;
 }
 opcode (Index bounds) = record plain {
-  takes = These (replicate (length bounds.value) SomeFixed);
+  takes = These (replicate (length bounds) SomeFixed);
   pushes = AValue (Plain (kind.Fixed 31));
-  limits = OfBounds bounds.value;
+  limits = OfBounds bounds;
 }
 opcode (LoadAt c n) = record plain { cells = ManyCells c n; takes = These (offset ∷ []); pushes = OfCell c }
 opcode (StoreAt c n) = record plain {
@@ -201,7 +201,7 @@ opcode ReadRef = record plain { takes = These (SomeReference ∷ []); pushes = O
 opcode WriteRef = record plain { takes = These (Anything ∷ SomeReference ∷ []); exact = KindReferred }
 opcode (Jump i) = record plain { targets = Target i; way = Stops }
 opcode (JumpZero i) = record plain { targets = Target i; takes = These (Exactly (kind.Bits 1) ∷ []) }
-opcode (Case list) = record plain { targets = AnyTarget list.value; takes = These (SomeFixed ∷ []) }
+opcode (Case list) = record plain { targets = AnyTarget list; takes = These (SomeFixed ∷ []) }
 opcode Turn = plain
 opcode (Call p) = record plain {
   names = AProcedure p;
@@ -219,16 +219,16 @@ opcode NonZero = record plain { takes = These (SomeFixed ∷ []); pushes = SameA
 opcode (Monadic op) = record plain { takes = These (Anything ∷ []); operation = OnOne op; pushes = Made }
 opcode (Dyadic op) = record plain { takes = These (Anything ∷ Anything ∷ []); operation = OnTwo op; pushes = Made }
 opcode Now = record plain { pushes = AValue (Plain kind.Clock) }
-opcode (Request list) = record plain { names = Semaphores list.value; limits = OfSemaphores list.value }
-opcode (Release list) = record plain { names = Semaphores list.value; limits = OfSemaphores list.value }
+opcode (Request list) = record plain { names = Semaphores list; limits = OfSemaphores list }
+opcode (Release list) = record plain { names = Semaphores list; limits = OfSemaphores list }
 opcode (Try s) = record plain { names = ASemaphore s; pushes = AValue (Plain (kind.Bits 1)) }
 opcode (Activate a) = record plain {
-  names = ATaskWhen a.value.task a.value.start;
-  takes = These (activation_asked a.value);
+  names = ATaskWhen a.task a.start;
+  takes = These (activation_asked a);
 }
 opcode (Continue c) = record plain {
-  names = ATaskWhen c.value.task (start_or_free c.value.once);
-  takes = These (scheduled (start_kinds (start_or_free c.value.once)));
+  names = ATaskWhen c.task (start_or_free c.once);
+  takes = These (scheduled (start_kinds (start_or_free c.once)));
 }
 opcode (Resume once) = record plain {
   names = AWhen (as_start once);
@@ -245,9 +245,9 @@ opcode (Disable d) = record plain { names = AnInterrupt d }
 opcode (Trigger d) = record plain { names = AnInterrupt d }
 opcode (Put d format) = record plain { names = AWriter d format; takes = Values format; limits = OfValues format }
 opcode (Get g) = record plain {
-  names = AReader g.value.device;
-  cells = ReadCells g.value.first g.value.format;
-  limits = OfCells g.value.first g.value.format;
+  names = AReader g.device;
+  cells = ReadCells g.first g.format;
+  limits = OfCells g.first g.format;
 }
 opcode (Take d) = record plain { names = AnInput d; pushes = OfInput d }
 opcode (Send d) = record plain { names = AnOutput d; takes = These (Anything ∷ []); exact = KindSent d }

@@ -8,7 +8,7 @@ use Rattle.pearl_format.specs.declared.item.Item.{Item}
 use Rattle.pearl_format.specs.Items.{data_count}
 use Rattle.pearl_instructions.specs.declared.instr.Instr.{Instr}
 use Rattle.pearl_instructions.specs.declared.object.Procedure.{Procedure}
-use Rattle.pearl_instructions.specs.declared.object.Object.{Object}
+use Rattle.pearl_instructions.specs.declared.object.Parts.{Parts as Object}
 use Rattle.pearl_instructions.specs.Objects.{items_at, result_of}
 use Rattle.pearl_instructions.specs.Opcodes.{Asked, Anything, SomeFixed, SomeReference, Exactly, Takes, These, Arguments, OwnResult, Values, opcode}
 

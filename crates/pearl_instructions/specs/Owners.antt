@@ -1,7 +1,7 @@
 -- Whose stack a task's code stands with, and how soon it offers an action.
 use Rattle.std.specs.Prelude.{◌≡◌, ◌⊎◌, ℕ, zero, suc, ◌≤◌, List, length}
 use Rattle.pearl_stack.specs.Frames.{Frame}
-use Rattle.pearl_instructions.specs.declared.object.Object.{Object}
+use Rattle.pearl_instructions.specs.declared.object.Parts.{Parts as Object}
 use Rattle.pearl_instructions.specs.Rows.{row}
 use Rattle.pearl_instructions.specs.Stacks.{IsStack, task_of}
 use Rattle.pearl_instructions.specs.Steps.{Step, Silent, Offers, Missing}

@@ -7,7 +7,7 @@ use Rattle.pearl_stack.specs.Frames.{Frame}
 use Rattle.pearl_instructions.specs.declared.instr.Instr.{Instr}
 use Rattle.pearl_instructions.specs.declared.instr.Instr.TheVariants.{Const, Load, Store, Fill, Drop, Conv, Index, LoadAt, StoreAt, Read, Write, ReadAt, WriteAt, RefSlot, RefSlotAt, RefCell, RefCellAt, ReadRef, WriteRef, Jump, JumpZero, Case, Turn, Call, Return, End, Trap, Within, Advance, NonZero, Monadic, Dyadic, Now, Request, Release, Try, Activate, Continue, Resume, Suspend, Terminate, Prevent, SuspendOwn, TerminateOwn, PreventOwn, Enable, Disable, Trigger, Put, Get, Take, Send}
 use Rattle.pearl_instructions.specs.declared.object.Code.{Code}
-use Rattle.pearl_instructions.specs.declared.object.Object.{Object}
+use Rattle.pearl_instructions.specs.declared.object.Parts.{Parts as Object}
 use Rattle.pearl_instructions.specs.Objects.{routine_at, result_of}
 use Rattle.pearl_instructions.specs.Steps.{Step, Silent, Offers, Missing, given, popped, leaves, stops, traps, acts, asks, within}
 use Rattle.pearl_instructions.specs.Cells.{load, store, fill, load_at, store_at, reads, writes, slot_reference, cell_reference, read_reference, write_reference}
@@ -26,13 +26,13 @@ own_task o f lower = lowest f lower - length o.procedures
 
 -- one row for each instruction, over the top frame and those below it
 abbrev pub act : Object → Instr → Frame → List Frame → Step
-act o (Const x) f lower = leaves f lower (x.value ∷ f.operands)
+act o (Const x) f lower = leaves f lower (x ∷ f.operands)
 act o (Load c) f lower = load c f lower f.operands
 act o (Store c) f lower = popped f.operands (λ x left. store c x f lower left)
 act o (Fill c n kind) f lower = fill c n kind f lower
 act o Drop f lower = popped f.operands (λ x left. leaves f lower left)
 act o (Conv kind) f lower = convert kind f lower
-act o (Index bounds) f lower = index bounds.value f lower
+act o (Index bounds) f lower = index bounds f lower
 act o (LoadAt c n) f lower = load_at c n f lower
 act o (StoreAt c n) f lower = store_at c n f lower
 act o (Read v) f lower = given (slice_get o.leaves v) (λ leaf. reads o v 0 f lower f.operands)
@@ -49,7 +49,7 @@ act o ReadRef f lower = popped f.operands (λ r left. read_reference f lower lef
 act o WriteRef f lower = popped f.operands (λ x more. popped more (λ r left. write_reference x f lower left r))
 act o (Jump i) f lower = goes i f lower f.operands
 act o (JumpZero i) f lower = popped f.operands (λ b left. jump_zero i f lower left b)
-act o (Case targets) f lower = popped f.operands (λ x left. branch targets.value f lower left x)
+act o (Case targets) f lower = popped f.operands (λ x left. branch targets f lower left x)
 act o Turn f lower = acts action.Turn f lower f.operands
 act o (Call p) f lower = call p (slice_get o.procedures p) f lower
 act o Return f lower = returns (result_of o f.routine) f lower
@@ -61,11 +61,11 @@ act o NonZero f lower = non_zero f lower
 act o (Monadic op) f lower = monadic op f lower
 act o (Dyadic op) f lower = dyadic op f lower
 act o Now f lower = asks action.Now f lower f.operands
-act o (Request semaphores) f lower = acts (action.Request (record { items = semaphores.value })) f lower f.operands
-act o (Release semaphores) f lower = acts (action.Release (record { items = semaphores.value })) f lower f.operands
+act o (Request semaphores) f lower = acts (action.Request (record { items = semaphores })) f lower f.operands
+act o (Release semaphores) f lower = acts (action.Release (record { items = semaphores })) f lower f.operands
 act o (Try semaphore) f lower = asks (action.Try semaphore) f lower f.operands
-act o (Activate a) f lower = activate a.value f lower
-act o (Continue c) f lower = continue c.value f lower
+act o (Activate a) f lower = activate a f lower
+act o (Continue c) f lower = continue c f lower
 act o (Resume form) f lower = resume form f lower
 act o (Suspend t) f lower = acts (action.Suspend t) f lower f.operands
 act o (Terminate t) f lower = acts (action.Terminate t) f lower f.operands
@@ -77,7 +77,7 @@ act o (Enable d) f lower = acts (action.Enable d) f lower f.operands
 act o (Disable d) f lower = acts (action.Disable d) f lower f.operands
 act o (Trigger d) f lower = acts (action.Trigger d) f lower f.operands
 act o (Put d format) f lower = put_values o d format f lower
-act o (Get g) f lower = get_values o g.value f lower
+act o (Get g) f lower = get_values o g f lower
 act o (Take d) f lower = asks (action.Take d) f lower f.operands
 act o (Send d) f lower = popped f.operands (λ x left. acts (action.Send d x) f lower left)
 

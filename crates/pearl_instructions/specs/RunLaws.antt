@@ -7,7 +7,7 @@ use Rattle.pearl_rules.specs.Runs.{Silent, Offers}
 use Rattle.pearl_rules.specs.Slots as rules
 use Rattle.pearl_rules.specs.Tables.{IsSetup}
 use Rattle.pearl_stack.specs.Frames.{Frame}
-use Rattle.pearl_instructions.specs.declared.object.Object.{Object}
+use Rattle.pearl_instructions.specs.declared.object.Parts.{Parts as Object}
 use Rattle.pearl_instructions.specs.Actions.{IsSlotNumber, IsOffered}
 use Rattle.pearl_instructions.specs.Lawful.{IsObject}
 use Rattle.pearl_instructions.specs.Objects.{slot_kind}

@@ -18,7 +18,7 @@ use Rattle.pearl_stack.specs.Frames.{Frame}
 use Rattle.pearl_instructions.specs.declared.instr.Instr.TheVariants.{Call}
 use Rattle.pearl_instructions.specs.declared.object.Code.{Code}
 use Rattle.pearl_instructions.specs.declared.object.Procedure.{Procedure}
-use Rattle.pearl_instructions.specs.declared.object.Object.{Object}
+use Rattle.pearl_instructions.specs.declared.object.Parts.{Parts as Object}
 use Rattle.pearl_instructions.specs.Objects.{routine_at, slot_kind}
 use Rattle.pearl_instructions.specs.Steps.{Step, Silent, Offers, Missing}
 use Rattle.pearl_instructions.specs.Operands.{Shape}

@@ -12,7 +12,7 @@ use Rattle.pearl_instructions.specs.declared.instr.Instr.TheVariants.{Turn}
 use Rattle.pearl_instructions.specs.declared.object.Shape.{Shape as Stated}
 use Rattle.pearl_instructions.specs.declared.object.Code.{Code}
 use Rattle.pearl_instructions.specs.declared.object.Procedure.{Procedure}
-use Rattle.pearl_instructions.specs.declared.object.Object.{Object}
+use Rattle.pearl_instructions.specs.declared.object.Parts.{Parts as Object}
 use Rattle.pearl_instructions.specs.Objects.{routine_at, is_task, result_of, items_at}
 use Rattle.pearl_instructions.specs.Offers.{items_suit}
 use Rattle.pearl_instructions.specs.Opcodes.{Targets, NoTarget, Target, AnyTarget, Way, GoesOn, Stops, Returns, Finishes, Limits, NoLimits, OfSemaphores, OfBounds, OfValues, OfCells, opcode}

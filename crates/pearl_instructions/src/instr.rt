@@ -1,5 +1,6 @@
 // The instructions of the stack machine.
 
+use crate::boxed::Boxed;
 use crate::schedule::{OnceForm, RepeatForm, StartForm};
 use pearl_value::cell::Cell;
 use pearl_value::kind::Kind;
@@ -44,7 +45,7 @@ pub struct Reading {
 #[derive(Drop)]
 pub enum Instr {
     /// Pushes a literal.
-    Const(Box<Cell>),
+    Const(Boxed<Cell>),
     /// Pushes a copy of a cell.
     Load(u64),
     /// Takes a value off into a cell.
@@ -56,7 +57,7 @@ pub enum Instr {
     /// Converts the value on top to a kind.
     Conv(Kind),
     /// Takes a subscript for each dimension off, and pushes the offset of the element.
-    Index(Box<Listing<Bounds>>),
+    Index(Boxed<Listing<Bounds>>),
     /// Pushes a copy of the cell at an offset, which is taken off, among so many.
     LoadAt { first: u64, count: u64 },
     /// Takes a value and an offset off, and puts the value into the cell at the offset.
@@ -86,7 +87,7 @@ pub enum Instr {
     /// Goes to an instruction where the bit on top is 0.
     JumpZero(u64),
     /// Goes to the x-th of these instructions, x being the number on top, where there is one.
-    Case(Box<Listing<u64>>),
+    Case(Boxed<Listing<u64>>),
     /// Begins the next turn of a loop.
     Turn,
     /// Calls a procedure.
@@ -108,11 +109,11 @@ pub enum Instr {
     Dyadic(Dyad),
     /// Asks for the time of day.
     Now,
-    Request(Box<Listing<u64>>),
-    Release(Box<Listing<u64>>),
+    Request(Boxed<Listing<u64>>),
+    Release(Boxed<Listing<u64>>),
     Try(u64),
-    Activate(Box<Activation>),
-    Continue(Box<Continuation>),
+    Activate(Boxed<Activation>),
+    Continue(Boxed<Continuation>),
     /// Suspends the own task, and plans that it goes on.
     Resume(OnceForm),
     Suspend(u64),
@@ -127,7 +128,7 @@ pub enum Instr {
     /// Takes the values of a format's items and writes their text.
     Put { device: u64, format: u64 },
     /// Reads values into cells.
-    Get(Box<Reading>),
+    Get(Boxed<Reading>),
     /// Asks for the oldest value of an input.
     Take(u64),
     /// Sends the value on top to an output.

@@ -2,6 +2,7 @@
 // entries of a journal.
 #![tactic(auto)]
 
+pub mod boxed;
 pub mod instr;
 pub mod laws;
 pub mod object;

@@ -1,5 +1,8 @@
 // Objects: compiled programs.
 
+ghost use Rattle.std.specs.Prelude.{◌≡◌};
+ghost use Rattle.pearl_instructions.specs.Lawful.{IsObject};
+
 use crate::instr::Instr;
 use arrayvec::ArrayVec;
 use pearl_format::item::Item;
@@ -7,6 +10,7 @@ use pearl_value::cell::Cell;
 use pearl_value::device::Device;
 use pearl_value::kind::{CellKind, Kind};
 use pearl_value::listing::Listing;
+use std::marker::Model;
 
 /// The slots of a module's variable, or of one of its components, which have one kind.
 #[derive(Drop)]
@@ -57,9 +61,9 @@ pub struct Task {
     pub code: Code,
 }
 
-/// A compiled program. Its routines are the procedures, and then the tasks.
+/// What an object is made of. Its routines are the procedures, and then the tasks.
 #[derive(Drop)]
-pub struct Object {
+pub struct Parts {
     pub devices: Listing<Device>,
     /// The first count of each semaphore, at most 2^31 - 1.
     pub semaphores: Listing<u32>,
@@ -67,4 +71,47 @@ pub struct Object {
     pub formats: Listing<Listing<Item>>,
     pub procedures: Listing<Procedure>,
     pub tasks: Listing<Task>,
+}
+
+/// A compiled program, as each is to be: lengths, counts, kinds, names and numbers are in their ranges.
+#[derive(Drop)]
+pub struct Object {
+    parts: Parts,
+}
+
+impl Model for Object {
+    ghost use Rattle.pearl_instructions.specs.declared.object.Parts.{Parts};
+    ghost use Rattle.pearl_instructions.specs.Lawful.{IsObject};
+
+    ghost Value = { Parts };
+
+    ghost view = { λ o. o.parts };
+
+    ghost invariant = { λ o. IsObject o.parts };
+}
+
+impl Object {
+    /// The object of these parts.
+    pub fn new(parts: Parts) -> Object
+        requires { IsObject parts }
+        ensures { result ≡ parts }
+    {
+        Object { parts }
+    }
+
+    /// The object's parts.
+    pub fn parts(&self) -> &Parts
+        ensures value { result.now ≡ self.now }
+        ensures object { IsObject result.now }
+    {
+        &self.parts
+    }
+
+    /// The object's parts, which may be changed then.
+    pub fn into_parts(self) -> Parts
+        ensures value { result ≡ self }
+        ensures object { IsObject result }
+    {
+        self.parts
+    }
 }

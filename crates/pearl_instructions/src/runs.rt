@@ -1,6 +1,7 @@
 // What holds of the runs of valid objects. Each function's contract is one theorem; none does anything.
 
 ghost use Rattle.pearl_instructions.specs.RunLaws.{AreTables, KnowsSlots, Begins, GoesOn, GoesOnAfter, HearsWhatSuits, OffersWhatIsThere, FitsTables, OffersSoon};
+ghost use Rattle.pearl_instructions.specs.OwnOffers.{CodeStands, RunsAsOffered};
 
 use crate::laws;
 
@@ -63,4 +64,27 @@ pub fn actions_are_offered_soon()
     ensures { OffersSoon }
 {
     laws::actions_are_offered_soon();
+}
+
+/// The code of each task stands where its own offers and their answers lead. So what of one task at a time is enough for a
+/// whole run holds of every valid object.
+pub fn code_stands()
+    ensures { CodeStands }
+{
+    laws::actions_are_offered_soon();
+    tasks_begin();
+    stacks_stay_a_tasks();
+    answers_lead_to_stacks();
+    answers_suit();
+    offers_name_what_is_there();
+    offers_fit_the_tables();
+}
+
+/// A valid object runs as its own code offers, over any journal whose entries fit its tables.
+pub fn objects_run_as_they_offer()
+    ensures { RunsAsOffered }
+{
+    tables_are_lawful();
+    code_stands();
+    actions_are_offered_soon();
 }

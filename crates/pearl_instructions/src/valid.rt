@@ -6,11 +6,11 @@ ghost use Rattle.pearl_instructions.specs.Lawful.{IsObject};
 ghost use Rattle.pearl_instructions.specs.Slots.{IsLeafAt, first_slots};
 ghost use Rattle.pearl_instructions.specs.Valid.{IsValid};
 
-use crate::object::{Leaf, Object};
+use crate::object::{Leaf, Object, Parts};
 use std::alloc::{AllocError as NoMemory, Global};
 use std::marker::Model;
 
-/// An object which is as each object is to be, and in which no rule of the validator fails.
+/// An object in which no rule of the validator fails.
 #[derive(Drop)]
 pub struct Valid {
     object: Object,
@@ -20,12 +20,12 @@ pub struct Valid {
 
 impl Model for Valid {
     ghost use Rattle.std.specs.Prelude.{◌≡◌};
-    ghost use Rattle.pearl_instructions.specs.declared.object.Object.{Object};
+    ghost use Rattle.pearl_instructions.specs.declared.object.Parts.{Parts};
     ghost use Rattle.pearl_instructions.specs.Lawful.{IsObject};
     ghost use Rattle.pearl_instructions.specs.Slots.{first_slots};
     ghost use Rattle.pearl_instructions.specs.Valid.{IsValid};
 
-    ghost Value = { Object };
+    ghost Value = { Parts };
 
     ghost view = { λ v. v.object };
 
@@ -49,20 +49,20 @@ fn first_slots(alloc: Global, leaves: &[Leaf]) -> Result<Vec<u32>, NoMemory>
 impl Valid {
     /// The same object. Beside its memory it takes four bytes for each leaf.
     pub fn new(alloc: Global, object: Object) -> Result<Valid, NoMemory>
-        requires object { IsObject object }
-        requires valid { IsValid object }
+        requires { IsValid object }
         ensures { IfOk result (λ valid. valid ≡ object) }
     {
-        let firsts = first_slots(alloc, object.leaves.as_slice())?;
+        let firsts = first_slots(alloc, object.parts().leaves.as_slice())?;
         Ok(Valid { object, firsts })
     }
 
-    pub fn object(&self) -> &Object
+    /// The object's parts.
+    pub fn object(&self) -> &Parts
         ensures value { result.now ≡ self.now }
         ensures object { IsObject result.now }
         ensures valid { IsValid result.now }
     {
-        &self.object
+        self.object.parts()
     }
 
     /// The number of a leaf's first slot, in one step.
@@ -73,10 +73,9 @@ impl Valid {
         self.firsts[leaf as usize]
     }
 
-    /// The object, which may be changed then.
+    /// The object.
     pub fn into_object(self) -> Object
         ensures value { result ≡ self }
-        ensures object { IsObject result }
         ensures valid { IsValid result }
     {
         self.object

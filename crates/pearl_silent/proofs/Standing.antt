@@ -3,7 +3,7 @@ use Rattle.std.proofs.Common.{◌≡◌, sym, subst}
 use Rattle.pearl_stack.specs.declared.stack.Frame as size
 use Rattle.pearl_stack.specs.Frames.{Stack}
 use Rattle.pearl_instructions.specs.declared.instr.Instr.{Instr}
-use Rattle.pearl_instructions.specs.declared.object.Object.{Object}
+use Rattle.pearl_instructions.specs.declared.object.Parts.{Parts as Object}
 use Rattle.pearl_silent.specs.Steps.{Stepped}
 use Rattle.pearl_silent.specs.Steps.{Does, Applies}
 use Rattle.pearl_silent.specs.Standing.{act_on, StandsAt}

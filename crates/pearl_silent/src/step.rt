@@ -20,7 +20,7 @@ fn on_jumps(code: &Valid, stack: &mut Loaded, instr: &Instr) -> Option<Did>
     match instr {
         Instr::Jump(i) => Some(flow::jump(stack, *i)),
         Instr::JumpZero(i) => Some(flow::jump_zero(stack, *i)),
-        Instr::Case(targets) => Some(flow::case(stack, targets.as_slice())),
+        Instr::Case(targets) => Some(flow::case(stack, targets.get().as_slice())),
         Instr::Return => Some(return_to_caller(code, stack)),
         Instr::Within(c) => Some(loops::within(stack, *c)),
         Instr::Advance { first, past } => Some(advances::advance(stack, *first, *past)),
@@ -35,7 +35,7 @@ pub fn on_silent(code: &Valid, stack: &mut Loaded, instr: &Instr) -> Option<Did>
     ensures { Tries (act_on code.now instr.now stack.old.frames) (2 ≤ family instr.now) stack.old stack.new result }
 {
     match instr {
-        Instr::Const(x) => Some(cells::literal(stack, x)),
+        Instr::Const(x) => Some(cells::literal(stack, x.get())),
         Instr::Load(c) => Some(cells::load(stack, *c)),
         Instr::Store(c) => Some(cells::store(stack, *c)),
         Instr::Fill { first, count, kind } => Some(cells::fill(stack, *first, *count, *kind)),
@@ -45,7 +45,7 @@ pub fn on_silent(code: &Valid, stack: &mut Loaded, instr: &Instr) -> Option<Did>
         Instr::RefCell(c) => Some(cells::ref_cell(stack, *c)),
         Instr::RefCellAt { first, count } => Some(cells::ref_cell_at(stack, *first, *count)),
         Instr::Conv(kind) => Some(operators::converting(stack, *kind)),
-        Instr::Index(bounds) => Some(indices::index(stack, bounds.as_slice())),
+        Instr::Index(bounds) => Some(indices::index(stack, bounds.get().as_slice())),
         Instr::NonZero => Some(advances::non_zero(stack)),
         Instr::Monadic(op) => Some(operators::monadic(stack, *op)),
         Instr::Dyadic(op) => Some(operators::dyadic(stack, *op)),

@@ -4,13 +4,13 @@ ghost use Rattle.std.specs.Prelude.{◌≡◌, ◌+◌, ◌<◌, ◌^◌, Some, 
 ghost use Rattle.pearl_instructions.specs.Objects.{routine_at, result_of as result_kind};
 
 use pearl_instructions::instr::Instr;
-use pearl_instructions::object::{Code, Object};
+use pearl_instructions::object::{Code, Parts};
 use pearl_instructions::valid::Valid;
 use pearl_stack::stack::Frame;
 use pearl_value::kind::Kind;
 
 // The code of a routine.
-pub(crate) fn code_at(object: &Object, routine: u32) -> &Code
+pub(crate) fn code_at(object: &Parts, routine: u32) -> &Code
     requires { IsSome (routine_at object.now routine) }
     ensures { routine_at object.now routine ≡ Some result.now }
 {

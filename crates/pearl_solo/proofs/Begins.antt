@@ -9,7 +9,7 @@ use Rattle.pearl_stack.specs.Frames.{used, entered}
 use Rattle.pearl_instructions.specs.declared.object.Code.{Code}
 use Rattle.pearl_instructions.specs.declared.object.Procedure.{Procedure}
 use Rattle.pearl_instructions.specs.declared.object.Task.{Task}
-use Rattle.pearl_instructions.specs.declared.object.Object.{Object}
+use Rattle.pearl_instructions.specs.declared.object.Parts.{Parts as Object}
 use Rattle.pearl_instructions.specs.Objects.{routine_at}
 use Rattle.pearl_instructions.specs.Flow as flow
 use Rattle.pearl_instructions.specs.Lawful.{IsCellKind, IsTask, IsObject}

@@ -1,5 +1,5 @@
 -- Which instructions are left where those of the families before are not it.
-use Rattle.std.proofs.Common.{◌≡◌, ℕ, ◌≤◌, List, refl, arith, Box, Global}
+use Rattle.std.proofs.Common.{◌≡◌, ℕ, ◌≤◌, List, refl, arith}
 use Rattle.pearl_value.specs.declared.trap.Trap.{Trap as Trapped}
 use Rattle.pearl_instructions.specs.declared.instr.Activation.{Activation}
 use Rattle.pearl_instructions.specs.declared.instr.Continuation.{Continuation}
@@ -29,7 +29,7 @@ beyond_variables (RefSlot x) h n0 n1 n2 n3 n4 n5 = absurd (n4 x refl)
 beyond_variables (RefSlotAt x) h n0 n1 n2 n3 n4 n5 = absurd (n5 x refl)
 beyond_variables i h n0 n1 n2 n3 n4 n5 = omega (arith, h)
 
-pub beyond_tasks : (i : Instr) → 4 ≤ family i → ((x : Box Activation Global) → i ≡ Activate x → ⊥) → ((x : Box Continuation Global) → i ≡ Continue x → ⊥) → ((x : OnceForm) → i ≡ Resume x → ⊥) → ((x : ℕ) → i ≡ Suspend x → ⊥) → ((x : ℕ) → i ≡ Terminate x → ⊥) → ((x : ℕ) → i ≡ Prevent x → ⊥) → (i ≡ SuspendOwn → ⊥) → (i ≡ TerminateOwn → ⊥) → (i ≡ PreventOwn → ⊥) →
+pub beyond_tasks : (i : Instr) → 4 ≤ family i → ((x : Activation) → i ≡ Activate x → ⊥) → ((x : Continuation) → i ≡ Continue x → ⊥) → ((x : OnceForm) → i ≡ Resume x → ⊥) → ((x : ℕ) → i ≡ Suspend x → ⊥) → ((x : ℕ) → i ≡ Terminate x → ⊥) → ((x : ℕ) → i ≡ Prevent x → ⊥) → (i ≡ SuspendOwn → ⊥) → (i ≡ TerminateOwn → ⊥) → (i ≡ PreventOwn → ⊥) →
     5 ≤ family i
 beyond_tasks (Activate x) h n0 n1 n2 n3 n4 n5 n6 n7 n8 = absurd (n0 x refl)
 beyond_tasks (Continue x) h n0 n1 n2 n3 n4 n5 n6 n7 n8 = absurd (n1 x refl)
@@ -42,7 +42,7 @@ beyond_tasks TerminateOwn h n0 n1 n2 n3 n4 n5 n6 n7 n8 = absurd (n7 refl)
 beyond_tasks PreventOwn h n0 n1 n2 n3 n4 n5 n6 n7 n8 = absurd (n8 refl)
 beyond_tasks i h n0 n1 n2 n3 n4 n5 n6 n7 n8 = omega (arith, h)
 
-pub beyond_devices : (i : Instr) → 5 ≤ family i → (i ≡ Now → ⊥) → ((x : Box (List ℕ) Global) → i ≡ Request x → ⊥) → ((x : Box (List ℕ) Global) → i ≡ Release x → ⊥) → ((x : ℕ) → i ≡ Try x → ⊥) → ((x : ℕ) → i ≡ Enable x → ⊥) → ((x : ℕ) → i ≡ Disable x → ⊥) → ((x : ℕ) → i ≡ Trigger x → ⊥) → ((x : ℕ) (y : ℕ) → i ≡ Put x y → ⊥) → ((x : Box Reading Global) → i ≡ Get x → ⊥) → ((x : ℕ) → i ≡ Take x → ⊥) → ((x : ℕ) → i ≡ Send x → ⊥) →
+pub beyond_devices : (i : Instr) → 5 ≤ family i → (i ≡ Now → ⊥) → ((x : List ℕ) → i ≡ Request x → ⊥) → ((x : List ℕ) → i ≡ Release x → ⊥) → ((x : ℕ) → i ≡ Try x → ⊥) → ((x : ℕ) → i ≡ Enable x → ⊥) → ((x : ℕ) → i ≡ Disable x → ⊥) → ((x : ℕ) → i ≡ Trigger x → ⊥) → ((x : ℕ) (y : ℕ) → i ≡ Put x y → ⊥) → ((x : Reading) → i ≡ Get x → ⊥) → ((x : ℕ) → i ≡ Take x → ⊥) → ((x : ℕ) → i ≡ Send x → ⊥) →
     ⊥
 beyond_devices Now h n0 n1 n2 n3 n4 n5 n6 n7 n8 n9 n10 = absurd (n0 refl)
 beyond_devices (Request x) h n0 n1 n2 n3 n4 n5 n6 n7 n8 n9 n10 = absurd (n1 x refl)

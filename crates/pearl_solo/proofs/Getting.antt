@@ -13,7 +13,7 @@ use Rattle.pearl_rules.specs.declared.action.Action.TheVariants as action
 use Rattle.pearl_rules.specs.declared.action.Answer.{Answer}
 use Rattle.pearl_stack.specs.Frames.{Frame}
 use Rattle.pearl_instructions.specs.declared.instr.Reading.{Reading}
-use Rattle.pearl_instructions.specs.declared.object.Object.{Object}
+use Rattle.pearl_instructions.specs.declared.object.Parts.{Parts as Object}
 use Rattle.pearl_instructions.specs.Objects.{items_at}
 use Rattle.pearl_instructions.specs.Offers.{items_suit, value_kinds, cells_from, with_values, get_values}
 use Rattle.pearl_instructions.specs.Steps.{Step, Offers, given, needed, next, all_heard, value_kind}

@@ -1,5 +1,5 @@
 -- The stack after an answer that suits.
-use Rattle.std.proofs.Common.{◌≡◌, ℕ, ◌+◌, ◌≤◌, pos, negsuc, List, [], ◌∷◌, Option, Some, None, Ok, Err, length, take, drop, reverse, slice_get, refl, sym, ap, ◌∙◌, subst, arith, Bool, true, false, leb-true, Box, Global}
+use Rattle.std.proofs.Common.{◌≡◌, ℕ, ◌+◌, ◌≤◌, pos, negsuc, List, [], ◌∷◌, Option, Some, None, Ok, Err, length, take, drop, reverse, slice_get, refl, sym, ap, ◌∙◌, subst, arith, Bool, true, false, leb-true}
 use Rattle.std.specs.Prelude.{ℤ, ◌+ℤ◌, ◌==◌, ◌&&◌, nat_lt, nat_le, int_le, if◌then◌else◌, option_and_then, Result}
 use Rattle.pearl_value.specs.declared.kind.Kind.{Kind}
 use Rattle.pearl_value.specs.declared.cell.Cell.{Cell}
@@ -13,7 +13,7 @@ use Rattle.pearl_stack.specs.Frames.{Frame, cell_at}
 use Rattle.pearl_instructions.specs.declared.instr.Reading.{Reading}
 use Rattle.pearl_instructions.specs.declared.instr.Instr.{Instr}
 use Rattle.pearl_instructions.specs.declared.instr.Instr.TheVariants.{Const, Load, Store, Fill, Drop, Conv, Index, LoadAt, StoreAt, Read, Write, ReadAt, WriteAt, RefSlot, RefSlotAt, RefCell, RefCellAt, ReadRef, WriteRef, Jump, JumpZero, Case, Turn, Call, Return, End, Trap, Within, Advance, NonZero, Monadic, Dyadic, Now, Request, Release, Try, Activate, Continue, Resume, Suspend, Terminate, Prevent, SuspendOwn, TerminateOwn, PreventOwn, Enable, Disable, Trigger, Put, Get, Take, Send}
-use Rattle.pearl_instructions.specs.declared.object.Object.{Object}
+use Rattle.pearl_instructions.specs.declared.object.Parts.{Parts as Object}
 use Rattle.pearl_instructions.specs.declared.schedule.RepeatForm.{RepeatForm}
 use Rattle.pearl_instructions.specs.declared.schedule.RepeatForm.TheVariants as again
 use Rattle.pearl_instructions.specs.declared.schedule.StartForm.{StartForm}
@@ -213,14 +213,14 @@ module _ (o : Object) (f : Frame) (lower : List Frame) where
       (off n f lower (drop m f.operands) (ap (λ k. drop k f.operands) (sym same), subst (λ k. k ≤ length f.operands) (sym same) (leb-true m (length f.operands) t))))))
 
   pub goes_after : (i : Instr) → ((v : ℕ) → i ≡ Read v → ⊥) → ((v : ℕ) → i ≡ ReadAt v → ⊥) → (i ≡ ReadRef → ⊥) → (i ≡ Now → ⊥) → ((s : ℕ) → i ≡ Try s → ⊥) →
-      ((d : ℕ) → i ≡ Take d → ⊥) → ((p : ℕ) → i ≡ Call p → ⊥) → ((g : Box Reading Global) → i ≡ Get g → ⊥) → Heard o own (On (taken_of o i)) (act o i f lower)
+      ((d : ℕ) → i ≡ Take d → ⊥) → ((p : ℕ) → i ≡ Call p → ⊥) → ((g : Reading) → i ≡ Get g → ⊥) → Heard o own (On (taken_of o i)) (act o i f lower)
   goes_after (Const x) n0 n1 n2 n3 n4 n5 n6 n7 = λ answer never. absurd never
   goes_after (Load c) n0 n1 n2 n3 n4 n5 n6 n7 = load_heard o own (On 0) f lower c f.operands
   goes_after (Store c) n0 n1 n2 n3 n4 n5 n6 n7 = popped_heard o own (On 0) f.operands _ (λ x left e. store_heard o own (On 0) f lower c x left)
   goes_after (Fill c n kind) n0 n1 n2 n3 n4 n5 n6 n7 = needed_heard o own (On 0) (nat_le (c + n) (length f.cells)) _ (λ e answer never. absurd never)
   goes_after Drop n0 n1 n2 n3 n4 n5 n6 n7 = popped_heard o own (On 0) f.operands _ (λ x left e answer never. absurd never)
   goes_after (Conv to) n0 n1 n2 n3 n4 n5 n6 n7 = popped_heard o own (On 0) f.operands _ (λ x left e. given_heard o own (On 0) (value_kind x) _ (λ from h. needed_heard o own (On 0) (suits_kind from to) _ (λ t. makes_heard o own (On 0) f lower left (converted x to))))
-  goes_after (Index bounds) n0 n1 n2 n3 n4 n5 n6 n7 = needed_heard o own (On 0) (nat_le (length bounds.value) (length f.operands)) _ (λ t. given_heard o own (On 0) (numbers_of (reverse (take (length bounds.value) f.operands))) _ (λ ns e. makes_heard o own (On 0) f lower _ _))
+  goes_after (Index bounds) n0 n1 n2 n3 n4 n5 n6 n7 = needed_heard o own (On 0) (nat_le (length bounds) (length f.operands)) _ (λ t. given_heard o own (On 0) (numbers_of (reverse (take (length bounds) f.operands))) _ (λ ns e. makes_heard o own (On 0) f lower _ _))
   goes_after (LoadAt c n) n0 n1 n2 n3 n4 n5 n6 n7 = popped_heard o own (On 0) f.operands _ (λ x left e. within_heard o own (On 0) n x f lower _ (λ k. load_heard o own (On 0) f lower (c + k) left))
   goes_after (StoreAt c n) n0 n1 n2 n3 n4 n5 n6 n7 = popped_heard o own (On 0) f.operands _ (λ x more e. popped_heard o own (On 0) more _ (λ y left h. within_heard o own (On 0) n y f lower _ (λ k. store_heard o own (On 0) f lower (c + k) x left)))
   goes_after (Read v) n0 n1 n2 n3 n4 n5 n6 n7 = absurd (n0 v refl)
@@ -235,7 +235,7 @@ module _ (o : Object) (f : Frame) (lower : List Frame) where
   goes_after WriteRef n0 n1 n2 n3 n4 n5 n6 n7 = popped_heard o own (On 2) f.operands _ (λ x more e. popped_heard o own (On 2) more _ (λ r left h. writes_on o own f lower x r left (two_off f.operands more left x r e h)))
   goes_after (Jump i) n0 n1 n2 n3 n4 n5 n6 n7 = λ answer never. absurd never
   goes_after (JumpZero i) n0 n1 n2 n3 n4 n5 n6 n7 = popped_heard o own (On 0) f.operands _ (λ x left e. zero_heard o own (On 0) f lower i left x)
-  goes_after (Case targets) n0 n1 n2 n3 n4 n5 n6 n7 = popped_heard o own (On 0) f.operands _ (λ x left e. branch_heard o own (On 0) f lower targets.value left x)
+  goes_after (Case targets) n0 n1 n2 n3 n4 n5 n6 n7 = popped_heard o own (On 0) f.operands _ (λ x left e. branch_heard o own (On 0) f lower targets left x)
   goes_after Turn n0 n1 n2 n3 n4 n5 n6 n7 = λ answer suits. none_off f lower answer
   goes_after (Call p) n0 n1 n2 n3 n4 n5 n6 n7 = absurd (n6 p refl)
   goes_after Return n0 n1 n2 n3 n4 n5 n6 n7 = returns_heard o own (On 0) f lower (result_of o f.routine)
@@ -250,8 +250,8 @@ module _ (o : Object) (f : Frame) (lower : List Frame) where
   goes_after (Request list) n0 n1 n2 n3 n4 n5 n6 n7 = λ answer suits. none_off f lower answer
   goes_after (Release list) n0 n1 n2 n3 n4 n5 n6 n7 = λ answer suits. none_off f lower answer
   goes_after (Try s) n0 n1 n2 n3 n4 n5 n6 n7 = absurd (n4 s refl)
-  goes_after (Activate a) n0 n1 n2 n3 n4 n5 n6 n7 = let n = activation_count a.value in needed_heard o own (On n) (nat_le n (length f.operands)) _ (λ t. started_heard o own (On n) f lower a.value.start _ _ (λ s more. repeated_heard o own (On n) f lower a.value.repeat more _ (λ how rest. priority_heard o own (On n) f lower a.value.priority rest _ (λ p answer suits. off n f lower (drop n f.operands) (refl, leb-true n (length f.operands) t) answer))))
-  goes_after (Continue c) n0 n1 n2 n3 n4 n5 n6 n7 = let n = length (start_kinds (start_or_free c.value.once)) in needed_heard o own (On n) (nat_le n (length f.operands)) _ (λ t. started_heard o own (On n) f lower (start_or_free c.value.once) _ _ (λ s more answer suits. off n f lower (drop n f.operands) (refl, leb-true n (length f.operands) t) answer))
+  goes_after (Activate a) n0 n1 n2 n3 n4 n5 n6 n7 = let n = activation_count a in needed_heard o own (On n) (nat_le n (length f.operands)) _ (λ t. started_heard o own (On n) f lower a.start _ _ (λ s more. repeated_heard o own (On n) f lower a.repeat more _ (λ how rest. priority_heard o own (On n) f lower a.priority rest _ (λ p answer suits. off n f lower (drop n f.operands) (refl, leb-true n (length f.operands) t) answer))))
+  goes_after (Continue c) n0 n1 n2 n3 n4 n5 n6 n7 = let n = length (start_kinds (start_or_free c.once)) in needed_heard o own (On n) (nat_le n (length f.operands)) _ (λ t. started_heard o own (On n) f lower (start_or_free c.once) _ _ (λ s more answer suits. off n f lower (drop n f.operands) (refl, leb-true n (length f.operands) t) answer))
   goes_after (Resume when) n0 n1 n2 n3 n4 n5 n6 n7 = let n = length (start_kinds (as_start when)) in needed_heard o own (On n) (nat_le n (length f.operands)) _ (λ t. started_heard o own (On n) f lower (as_start when) _ _ (λ s more answer suits. off n f lower (drop n f.operands) (refl, leb-true n (length f.operands) t) answer))
   goes_after (Suspend t) n0 n1 n2 n3 n4 n5 n6 n7 = λ answer suits. none_off f lower answer
   goes_after (Terminate t) n0 n1 n2 n3 n4 n5 n6 n7 = λ answer suits. none_off f lower answer

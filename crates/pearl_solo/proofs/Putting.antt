@@ -19,7 +19,7 @@ use Rattle.pearl_rules.specs.declared.action.Action.TheVariants as action
 use Rattle.pearl_rules.specs.declared.action.Answer.{Answer}
 use Rattle.pearl_format.specs.Texts.{text_of}
 use Rattle.pearl_stack.specs.Frames.{Frame, top_operands}
-use Rattle.pearl_instructions.specs.declared.object.Object.{Object}
+use Rattle.pearl_instructions.specs.declared.object.Parts.{Parts as Object}
 use Rattle.pearl_instructions.specs.Objects.{items_at}
 use Rattle.pearl_instructions.specs.Offers.{takes_kind, item_suits, items_suit, value_kinds, put_text, put_values}
 use Rattle.pearl_instructions.specs.Operands.{Shape}

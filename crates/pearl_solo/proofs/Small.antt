@@ -1,5 +1,5 @@
 -- Numbers that an instruction names are small, and what it stands on besides.
-use Rattle.std.proofs.Common.{◌≡◌, ℕ, ◌<◌, ◌≤◌, ◌^◌, List, [], ◌∷◌, Option, Some, None, length, slice_get, refl, sym, ap, ◌∙◌, subst, arith, Bool, true, false, ltb-true, leb-true, Box, Global}
+use Rattle.std.proofs.Common.{◌≡◌, ℕ, ◌<◌, ◌≤◌, ◌^◌, List, [], ◌∷◌, Option, Some, None, length, slice_get, refl, sym, ap, ◌∙◌, subst, arith, Bool, true, false, ltb-true, leb-true}
 use Rattle.std.specs.Prelude.{nat_lt, nat_le, is_some, IfSome}
 use Rattle.std.specs.List.{AllByRecursion, list_all}
 use Rattle.std.proofs.lemmas.Option.{same_Some, slice_get_within}
@@ -11,7 +11,7 @@ use Rattle.pearl_stack.specs.Frames.{Frame, Stack, top_operands}
 use Rattle.pearl_instructions.specs.declared.instr.Instr.{Instr}
 use Rattle.pearl_instructions.specs.declared.instr.Instr.TheVariants.{Put, Get}
 use Rattle.pearl_instructions.specs.declared.instr.Reading.{Reading}
-use Rattle.pearl_instructions.specs.declared.object.Object.{Object}
+use Rattle.pearl_instructions.specs.declared.object.Parts.{Parts as Object}
 use Rattle.pearl_instructions.specs.Lawful.{IsObject}
 use Rattle.pearl_instructions.specs.Named.{v1, read_cells, gives_texts, has_read_cells, takes_texts}
 use Rattle.pearl_instructions.specs.Objects.{items_at}
@@ -82,24 +82,24 @@ puts o instr here s d format e h =
         makes_text o (routines_of s.frames) format h.kinds (top_operands s.frames) items h.lawful.formats q h.suits
         (put_there o d format s.frames s.room items q (subst (λ i. Applies (act_on o i s.frames) s.room) e h.ready)) (limits_as o instr (Put d format) here s e h)
 
-pub gets_few : (o : Object) (instr : Instr) (here : size.Frame) (s : Stack) (g : Box Reading Global) → instr ≡ Get g → StandsAt o instr here s →
-    IfSome (items_at o g.value.format) (λ items. data_count items ≤ 64)
-gets_few o instr here s g e h = by (items_at o g.value.format) refl
+pub gets_few : (o : Object) (instr : Instr) (here : size.Frame) (s : Stack) (g : Reading) → instr ≡ Get g → StandsAt o instr here s →
+    IfSome (items_at o g.format) (λ items. data_count items ≤ 64)
+gets_few o instr here s g e h = by (items_at o g.format) refl
   where
-    by : (items : Option (List Item)) → items_at o g.value.format ≡ items → IfSome items (λ items. data_count items ≤ 64)
+    by : (items : Option (List Item)) → items_at o g.format ≡ items → IfSome items (λ items. data_count items ≤ 64)
     by None q = tt
     by (Some items) q =
-        format_few items (plain_kinds (read_cells h.code g.value.first (Some items)))
-        (ap (λ i. cells_suit i (read_cells h.code g.value.first i)) (sym q) ∙ limits_as o instr (Get g) here s e h)
+        format_few items (plain_kinds (read_cells h.code g.first (Some items)))
+        (ap (λ i. cells_suit i (read_cells h.code g.first i)) (sym q) ∙ limits_as o instr (Get g) here s e h)
 
-pub gets_format : (o : Object) (instr : Instr) (here : size.Frame) (s : Stack) (g : Box Reading Global) → instr ≡ Get g → StandsAt o instr here s → g.value.format < 2 ^ 32
+pub gets_format : (o : Object) (instr : Instr) (here : size.Frame) (s : Stack) (g : Reading) → instr ≡ Get g → StandsAt o instr here s → g.format < 2 ^ 32
 gets_format o instr here s g e h =
-    let named = and_true (gives_texts (slice_get o.devices g.value.device)) (has_read_cells h.code g.value.first (items_at o g.value.format)) (named_as o instr (Get g) here s e h) in
-    by (items_at o g.value.format) refl named.1
+    let named = and_true (gives_texts (slice_get o.devices g.device)) (has_read_cells h.code g.first (items_at o g.format)) (named_as o instr (Get g) here s e h) in
+    by (items_at o g.format) refl named.1
   where
-    by : (items : Option (List Item)) → items_at o g.value.format ≡ items → has_read_cells h.code g.value.first items ≡ true → g.value.format < 2 ^ 32
+    by : (items : Option (List Item)) → items_at o g.format ≡ items → has_read_cells h.code g.first items ≡ true → g.format < 2 ^ 32
     by None q has = cc
     by (Some items) q has =
-        let within = slice_get_within o.formats g.value.format items q in
+        let within = slice_get_within o.formats g.format items q in
         let few = h.lawful.few_formats in
         omega (arith, within, few)

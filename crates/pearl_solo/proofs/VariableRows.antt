@@ -10,7 +10,7 @@ use Rattle.pearl_rules.specs.declared.action.Answer.{Answer}
 use Rattle.pearl_stack.specs.declared.stack.Frame as size
 use Rattle.pearl_stack.specs.Frames.{Frame, top_operands}
 use Rattle.pearl_instructions.specs.declared.object.Leaf.{Leaf}
-use Rattle.pearl_instructions.specs.declared.object.Object.{Object}
+use Rattle.pearl_instructions.specs.declared.object.Parts.{Parts as Object}
 use Rattle.pearl_instructions.specs.Objects.{first_slot}
 use Rattle.pearl_instructions.specs.Steps as step
 use Rattle.pearl_instructions.specs.Steps.{Step, Offers, given, leaves, asks, acts, traps, within}

@@ -9,7 +9,7 @@ use Rattle.pearl_format.specs.Items.{data_count}
 use Rattle.pearl_rules.specs.declared.action.Answer.{Answer}
 use Rattle.pearl_instructions.specs.declared.instr.Instr.{Instr}
 use Rattle.pearl_instructions.specs.declared.instr.Instr.TheVariants.{Write, WriteAt, WriteRef, Activate, Continue, Resume, Put, Send}
-use Rattle.pearl_instructions.specs.declared.object.Object.{Object}
+use Rattle.pearl_instructions.specs.declared.object.Parts.{Parts as Object}
 use Rattle.pearl_instructions.specs.Objects.{items_at}
 use Rattle.pearl_instructions.specs.Offers.{as_start, start_or_free, start_kinds, activation_count}
 use Rattle.pearl_instructions.specs.Stacks.{Answers}
@@ -44,8 +44,8 @@ abbrev pub taken_of : Object → Instr → ℕ
 taken_of o (Write v) = 1
 taken_of o (WriteAt v) = 2
 taken_of o WriteRef = 2
-taken_of o (Activate a) = activation_count a.value
-taken_of o (Continue c) = length (start_kinds (start_or_free c.value.once))
+taken_of o (Activate a) = activation_count a
+taken_of o (Continue c) = length (start_kinds (start_or_free c.once))
 taken_of o (Resume form) = length (start_kinds (as_start form))
 taken_of o (Put d format) = count_or_none (items_at o format)
 taken_of o (Send d) = 1

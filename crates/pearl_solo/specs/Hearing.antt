@@ -8,7 +8,7 @@ use Rattle.pearl_stack.specs.declared.stack.Frame as size
 use Rattle.pearl_stack.specs.Frames.{Frame, Stack, top_operands, used}
 use Rattle.pearl_instructions.specs.declared.instr.Instr.{Instr}
 use Rattle.pearl_instructions.specs.declared.instr.Instr.TheVariants.{Put}
-use Rattle.pearl_instructions.specs.declared.object.Object.{Object}
+use Rattle.pearl_instructions.specs.declared.object.Parts.{Parts as Object}
 use Rattle.pearl_instructions.specs.declared.object.Procedure.{Procedure}
 use Rattle.pearl_instructions.specs.Flow.{called}
 use Rattle.pearl_instructions.specs.Objects.{items_at}

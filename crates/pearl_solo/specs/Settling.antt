@@ -3,7 +3,7 @@ use Rattle.std.specs.Prelude.{◌≡◌, ℕ, ◌<◌, List}
 use Rattle.pearl_rules.specs.declared.action.Action.{Action}
 use Rattle.pearl_rules.specs.declared.action.Answer.{Answer}
 use Rattle.pearl_stack.specs.Frames.{Frame}
-use Rattle.pearl_instructions.specs.declared.object.Object.{Object}
+use Rattle.pearl_instructions.specs.declared.object.Parts.{Parts as Object}
 use Rattle.pearl_instructions.specs.Objects.{routines}
 use Rattle.pearl_instructions.specs.Rows.{row}
 use Rattle.pearl_instructions.specs.Stacks.{all_rows}

@@ -140,8 +140,8 @@ fn taken_by(code: &Valid, instr: &Instr) -> u32
         Instr::Write(_) => 1,
         Instr::WriteAt(_) => 2,
         Instr::WriteRef => 2,
-        Instr::Activate(a) => activation_count(a),
-        Instr::Continue(c) => start_count(start_or_free(c.once)),
+        Instr::Activate(a) => activation_count(a.get()),
+        Instr::Continue(c) => start_count(start_or_free(c.get().once)),
         Instr::Resume(form) => start_count(as_start(*form)),
         Instr::Put { format, .. } => count_at(code, *format),
         Instr::Send(_) => 1,
@@ -169,7 +169,7 @@ fn hear_at(
         Instr::Try(_) => hear(stack, here, 0, heard, beside),
         Instr::Take(_) => hear(stack, here, 0, heard, beside),
         Instr::Call(p) => enter_called(code, stack, *p),
-        Instr::Get(reading) => hear_all(stack, here, reading.first, heard, beside),
+        Instr::Get(reading) => hear_all(stack, here, reading.get().first, heard, beside),
         _ => {
             let taken = taken_by(code, instr);
             go_on(stack, here, taken);

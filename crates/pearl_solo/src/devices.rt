@@ -128,7 +128,13 @@ fn kinds_from(stack: &Loaded, here: &Frame, first: u64, count: u32, kinds: &mut 
 }
 
 // Get.
-pub fn get(code: &Valid, stack: &Loaded, here: &Frame, reading: &Reading, into: &mut Offer) -> Gave
+pub fn get_values(
+    code: &Valid,
+    stack: &Loaded,
+    here: &Frame,
+    reading: &Reading,
+    into: &mut Offer,
+) -> Gave
     requires here { IsHere here.now stack.now.frames }
     requires device { reading.now.device < 2 ^ 32 }
     requires format { reading.now.format < 2 ^ 32 }

@@ -86,8 +86,8 @@ fn on_tasks(code: &Valid, stack: &mut Loaded, here: &Frame, instr: &Instr, into:
     ensures { Does (act_on code.now instr.now stack.old.frames) stack.old stack.new (gave result (action_of into.new)) }
 {
     match instr {
-        Instr::Activate(a) => plans::activate(stack, here, a, into),
-        Instr::Continue(c) => plans::go_on_later(stack, here, c, into),
+        Instr::Activate(a) => plans::activate(stack, here, a.get(), into),
+        Instr::Continue(c) => plans::go_on_later(stack, here, c.get(), into),
         Instr::Resume(form) => plans::resume(stack, here, *form, into),
         Instr::Suspend(t) => offers::acts(stack, What::Suspend(*t as u32), into),
         Instr::Terminate(t) => offers::acts(stack, What::Terminate(*t as u32), into),
@@ -123,11 +123,11 @@ fn on_devices(
     match instr {
         Instr::Now => offers::asks(stack, What::Now, into),
         Instr::Request(list) => {
-            semaphores(list.as_slice(), &mut into.list);
+            semaphores(list.get().as_slice(), &mut into.list);
             offers::acts(stack, What::Request, into)
         }
         Instr::Release(list) => {
-            semaphores(list.as_slice(), &mut into.list);
+            semaphores(list.get().as_slice(), &mut into.list);
             offers::acts(stack, What::Release, into)
         }
         Instr::Try(s) => offers::asks(stack, What::Try(*s as u16), into),
@@ -135,7 +135,7 @@ fn on_devices(
         Instr::Disable(d) => offers::acts(stack, What::Disable(*d as u32), into),
         Instr::Trigger(d) => offers::acts(stack, What::Trigger(*d as u32), into),
         Instr::Put { device, format } => devices::put(code, stack, here, *device, *format, into),
-        Instr::Get(reading) => devices::get(code, stack, here, reading, into),
+        Instr::Get(reading) => devices::get_values(code, stack, here, reading.get(), into),
         Instr::Take(d) => offers::asks(stack, What::Take(*d as u32), into),
         Instr::Send(d) => offers::send(stack, here, *d as u32, into),
         _ => unreachable!(),

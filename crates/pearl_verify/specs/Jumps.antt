@@ -5,7 +5,7 @@ use Rattle.pearl_instructions.specs.declared.instr.Instr.{Instr}
 use Rattle.pearl_instructions.specs.declared.object.Shape.{Shape as Stated}
 use Rattle.pearl_instructions.specs.declared.object.Code.{Code}
 use Rattle.pearl_instructions.specs.Operands.{Shape}
-use Rattle.pearl_instructions.specs.declared.object.Object.{Object}
+use Rattle.pearl_instructions.specs.declared.object.Parts.{Parts as Object}
 use Rattle.pearl_instructions.specs.Valid.{is_named, stated, shape_before}
 use Rattle.pearl_verify.specs.declared.jumps.JumpTable.{JumpTable}
 use Rattle.pearl_verify.specs.Numbers.{Edges, number_of, IsTree}

@@ -12,7 +12,7 @@ use crate::runs::CellRuns;
 use crate::same::{is_fixed, is_kind, referred, same_cell, same_list};
 use crate::table::{cells_at, data_count, kind_sent, leaf_kind};
 use pearl_instructions::instr::Instr;
-use pearl_instructions::object::{Code, Object};
+use pearl_instructions::object::{Code, Parts};
 use pearl_value::kind::{CellKind, Kind};
 
 fn has_on_top(kinds: &Kinds, want: Option<CellKind>) -> bool
@@ -33,7 +33,7 @@ fn suits_reference(kinds: &Kinds) -> bool
     }
 }
 
-fn suits_parameters(object: &Object, procedure: u64, kinds: &Kinds) -> bool
+fn suits_parameters(object: &Parts, procedure: u64, kinds: &Kinds) -> bool
     ensures { result ≡ suits_parameters (slice_get object.now.procedures procedure) kinds.now }
 {
     match object.procedures.as_slice().get(procedure as usize) {
@@ -80,7 +80,7 @@ fn is_uniform(code: &Code, runs: &CellRuns, instr: &Instr) -> bool
     }
 }
 
-fn suits_exactly(object: &Object, code: &Code, instr: &Instr, kinds: &Kinds) -> bool
+fn suits_exactly(object: &Parts, code: &Code, instr: &Instr, kinds: &Kinds) -> bool
     ensures { result ≡ suits_exactly object.now code.now instr.now kinds.now }
 {
     match instr {
@@ -101,7 +101,7 @@ fn suits_exactly(object: &Object, code: &Code, instr: &Instr, kinds: &Kinds) -> 
 
 /// Whether kinds are exactly those that are wanted, and the cells of a range have one kind (V4).
 pub(crate) fn is_exact(
-    object: &Object,
+    object: &Parts,
     code: &Code,
     runs: &CellRuns,
     instr: &Instr,
@@ -115,7 +115,7 @@ pub(crate) fn is_exact(
 
 /// Whether no cell is a reference that must be none (V5).
 pub(crate) fn names_values(
-    object: &Object,
+    object: &Parts,
     code: &Code,
     formats: &[FormatRow],
     runs: &CellRuns,
@@ -133,10 +133,13 @@ pub(crate) fn names_values(
         | Instr::RefCellAt { first, count } => runs.are_values(code, *first, *count),
         Instr::Within(first) => runs.are_values(code, *first, 3),
         Instr::Advance { first, .. } => runs.are_values(code, *first, 3),
-        Instr::Get(reading) => match data_count(object, formats, reading.format) {
-            Some(count) => runs.are_values(code, reading.first, count as u64),
-            None => true,
-        },
+        Instr::Get(reading) => {
+            let r = reading.get();
+            match data_count(object, formats, r.format) {
+                Some(count) => runs.are_values(code, r.first, count as u64),
+                None => true,
+            }
+        }
         _ => true,
     }
 }

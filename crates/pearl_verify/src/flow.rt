@@ -16,7 +16,7 @@ use crate::kinds::Kinds;
 use crate::running::Running;
 use crate::table::{is_task, result_of};
 use pearl_instructions::instr::Instr;
-use pearl_instructions::object::{Code, Object};
+use pearl_instructions::object::{Code, Parts};
 use pearl_value::kind::{CellKind, Kind};
 use std::alloc::AllocError as NoMemory;
 
@@ -35,7 +35,7 @@ pub(crate) fn goes_on(instr: &Instr) -> bool
 
 /// Whether these are the kinds before an instruction that a jump names.
 fn lands(
-    object: &Object,
+    object: &Parts,
     routine: usize,
     code: &Code,
     jumps: &JumpTable,
@@ -58,7 +58,7 @@ fn lands(
 }
 
 fn all_land(
-    object: &Object,
+    object: &Parts,
     routine: usize,
     code: &Code,
     jumps: &JumpTable,
@@ -80,7 +80,7 @@ fn all_land(
 
 /// Whether these are the kinds before each instruction to which this one jumps.
 fn arrives(
-    object: &Object,
+    object: &Parts,
     routine: usize,
     code: &Code,
     jumps: &JumpTable,
@@ -95,7 +95,7 @@ fn arrives(
     match instr {
         Instr::Jump(to) => lands(object, routine, code, jumps, *to, running),
         Instr::JumpZero(to) => lands(object, routine, code, jumps, *to, running),
-        Instr::Case(list) => all_land(object, routine, code, jumps, list.as_slice(), running),
+        Instr::Case(list) => all_land(object, routine, code, jumps, list.get().as_slice(), running),
         Instr::Advance { past, .. } => lands(object, routine, code, jumps, *past, running),
         _ => true,
     }
@@ -103,7 +103,7 @@ fn arrives(
 
 /// Whether these are the kinds before the next instruction, to which this one goes on.
 fn follows(
-    object: &Object,
+    object: &Parts,
     routine: usize,
     code: &Code,
     jumps: &JumpTable,
@@ -130,7 +130,7 @@ fn follows(
 
 /// Whether an instruction goes on and jumps with the kinds before where it goes (V6). The kinds are those behind it.
 pub(crate) fn flows(
-    object: &Object,
+    object: &Parts,
     routine: usize,
     code: &Code,
     jumps: &JumpTable,
@@ -159,7 +159,7 @@ pub(crate) fn flows(
 
 /// Makes the kinds behind an instruction those before the next one.
 pub(crate) fn advance(
-    object: &Object,
+    object: &Parts,
     routine: usize,
     code: &Code,
     jumps: &JumpTable,
@@ -219,14 +219,14 @@ pub(crate) fn goes_forward(code: &Code, i: usize, instr: &Instr) -> bool
     match instr {
         Instr::Jump(to) => may_go_to(code, i, *to),
         Instr::JumpZero(to) => may_go_to(code, i, *to),
-        Instr::Case(list) => may_go_to_all(code, i, list.as_slice()),
+        Instr::Case(list) => may_go_to_all(code, i, list.get().as_slice()),
         Instr::Advance { past, .. } => may_go_to(code, i, *past),
         _ => true,
     }
 }
 
 /// Whether a procedure calls smaller ones alone (V8).
-pub(crate) fn calls_smaller(object: &Object, routine: usize, instr: &Instr) -> bool
+pub(crate) fn calls_smaller(object: &Parts, routine: usize, instr: &Instr) -> bool
     ensures { result ≡ v8 object.now routine instr.now }
 {
     match instr {
@@ -245,7 +245,7 @@ fn is_result(of: Option<Kind>, kinds: &Kinds) -> bool
 }
 
 /// Whether a procedure returns just its result, and a task ends with no operand (V10).
-pub(crate) fn ends_well(object: &Object, routine: usize, instr: &Instr, kinds: &Kinds) -> bool
+pub(crate) fn ends_well(object: &Parts, routine: usize, instr: &Instr, kinds: &Kinds) -> bool
     ensures { result ≡ v10 object.now routine instr.now kinds.now }
 {
     match instr {
@@ -258,7 +258,7 @@ pub(crate) fn ends_well(object: &Object, routine: usize, instr: &Instr, kinds: &
 }
 
 /// Whether the cells, the operands below the arguments and the callee's depth stay within the depth.
-fn call_fits(object: &Object, code: &Code, procedure: u64, kinds: &Kinds) -> bool
+fn call_fits(object: &Parts, code: &Code, procedure: u64, kinds: &Kinds) -> bool
     ensures { result ≡ call_fits code.now (slice_get object.now.procedures procedure) kinds.now }
 {
     match object.procedures.as_slice().get(procedure as usize) {
@@ -272,7 +272,7 @@ fn call_fits(object: &Object, code: &Code, procedure: u64, kinds: &Kinds) -> boo
 }
 
 /// Whether cells and operands stay within the stated depth, also over calls (V11).
-pub(crate) fn keeps_depth(object: &Object, code: &Code, instr: &Instr, kinds: &Kinds) -> bool
+pub(crate) fn keeps_depth(object: &Parts, code: &Code, instr: &Instr, kinds: &Kinds) -> bool
     ensures { result ≡ v11 object.now code.now instr.now kinds.now }
 {
     let cells = code.cells.as_slice().len();

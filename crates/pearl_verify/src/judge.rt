@@ -25,12 +25,12 @@ use crate::running::Running;
 use crate::runs::CellRuns;
 use crate::tree::ShapeTree;
 use pearl_instructions::instr::Instr;
-use pearl_instructions::object::{Code, Object};
+use pearl_instructions::object::{Code, Parts};
 use std::alloc::AllocError as NoMemory;
 
 // The least of the rules on numbers and kinds that fails.
 fn first_rule(
-    object: &Object,
+    object: &Parts,
     formats: &[FormatRow],
     routine: usize,
     code: &Code,
@@ -62,7 +62,7 @@ fn first_rule(
 
 // The least of the rules on jumps, calls, ends, depths and limits that fails.
 fn last_rule(
-    object: &Object,
+    object: &Parts,
     formats: &[FormatRow],
     routine: usize,
     code: &Code,
@@ -93,7 +93,7 @@ fn last_rule(
 
 // Makes the kinds before an instruction those behind it.
 fn carry_out(
-    object: &Object,
+    object: &Parts,
     formats: &[FormatRow],
     routine: usize,
     code: &Code,
@@ -117,7 +117,7 @@ fn carry_out(
 /// The least rule that fails at an instruction, from the kinds before it. Where none fails they become those before the
 /// next instruction.
 pub(crate) fn judge(
-    object: &Object,
+    object: &Parts,
     formats: &[FormatRow],
     routine: usize,
     code: &Code,

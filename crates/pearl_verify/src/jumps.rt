@@ -44,7 +44,7 @@ fn mark_targets(marks: &mut Vec<bool>, instr: &Instr)
     match instr {
         Instr::Jump(to) => mark(marks, *to),
         Instr::JumpZero(to) => mark(marks, *to),
-        Instr::Case(list) => mark_all(marks, list.as_slice()),
+        Instr::Case(list) => mark_all(marks, list.get().as_slice()),
         Instr::Advance { past, .. } => mark(marks, *past),
         _ => {}
     }

@@ -17,7 +17,7 @@ use crate::table::cells_at;
 use arrayvec::ArrayVec;
 use pearl_format::item::{Item, ItemCode};
 use pearl_instructions::instr::{Bounds, Instr, Reading};
-use pearl_instructions::object::{Code, Object};
+use pearl_instructions::object::{Code, Parts};
 use pearl_value::kind::{CellKind, Kind};
 
 fn is_repeated(number: u64, numbers: &[u64]) -> bool
@@ -213,7 +213,7 @@ fn suits_format(row: &FormatRow, cells: &[CellKind]) -> bool
     }
 }
 
-fn values_suit(object: &Object, formats: &[FormatRow], format: u64, kinds: &Kinds) -> bool
+fn values_suit(object: &Parts, formats: &[FormatRow], format: u64, kinds: &Kinds) -> bool
     requires { formats.now ≡ map format_row object.now.formats }
     ensures { result ≡ values_suit (items_at object.now format) kinds.now }
 {
@@ -223,7 +223,7 @@ fn values_suit(object: &Object, formats: &[FormatRow], format: u64, kinds: &Kind
     }
 }
 
-fn cells_suit(object: &Object, code: &Code, formats: &[FormatRow], reading: Reading) -> bool
+fn cells_suit(object: &Parts, code: &Code, formats: &[FormatRow], reading: Reading) -> bool
     requires { formats.now ≡ map format_row object.now.formats }
     ensures { result ≡ cells_suit (items_at object.now reading.format) (read_cells code.now reading.first (items_at object.now reading.format)) }
 {
@@ -235,7 +235,7 @@ fn cells_suit(object: &Object, code: &Code, formats: &[FormatRow], reading: Read
 
 /// Whether lists of semaphores, bounds and formats keep their limits (V12).
 pub(crate) fn keeps_limits(
-    object: &Object,
+    object: &Parts,
     code: &Code,
     formats: &[FormatRow],
     instr: &Instr,
@@ -245,10 +245,10 @@ pub(crate) fn keeps_limits(
     ensures { result ≡ v12 object.now code.now instr.now kinds.now }
 {
     match instr {
-        Instr::Request(list) | Instr::Release(list) => is_semaphore_list(list.as_slice()),
-        Instr::Index(bounds) => is_array(bounds.as_slice()),
+        Instr::Request(list) | Instr::Release(list) => is_semaphore_list(list.get().as_slice()),
+        Instr::Index(bounds) => is_array(bounds.get().as_slice()),
         Instr::Put { format, .. } => values_suit(object, formats, *format, kinds),
-        Instr::Get(reading) => cells_suit(object, code, formats, **reading),
+        Instr::Get(reading) => cells_suit(object, code, formats, *reading.get()),
         _ => true,
     }
 }

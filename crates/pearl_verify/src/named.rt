@@ -13,7 +13,7 @@ use crate::table::{
     items_at, takes_texts,
 };
 use pearl_instructions::instr::{Instr, Reading};
-use pearl_instructions::object::{Code, Object};
+use pearl_instructions::object::{Code, Parts};
 use pearl_instructions::schedule::{OnceForm, StartForm};
 
 /// When a task goes on, as a start.
@@ -36,7 +36,7 @@ pub(crate) fn start_or_free(form: Option<OnceForm>) -> StartForm
     }
 }
 
-fn names_interrupt(object: &Object, form: StartForm) -> bool
+fn names_interrupt(object: &Parts, form: StartForm) -> bool
     ensures { result ≡ names_interrupt object.now form }
 {
     match form {
@@ -48,7 +48,7 @@ fn names_interrupt(object: &Object, form: StartForm) -> bool
     }
 }
 
-fn has_read_cells(object: &Object, code: &Code, formats: &[FormatRow], reading: Reading) -> bool
+fn has_read_cells(object: &Parts, code: &Code, formats: &[FormatRow], reading: Reading) -> bool
     requires { formats.now ≡ map format_row object.now.formats }
     ensures { result ≡ has_read_cells code.now reading.first (items_at object.now reading.format) }
 {
@@ -59,7 +59,7 @@ fn has_read_cells(object: &Object, code: &Code, formats: &[FormatRow], reading: 
 }
 
 /// Whether what an instruction names in the object's tables is there, of the right sort and direction.
-fn names_tables(object: &Object, instr: &Instr) -> bool
+fn names_tables(object: &Parts, instr: &Instr) -> bool
     ensures { result ≡ all_kept (names_there object.now (opcode instr.now).names) }
 {
     let tasks = object.tasks.as_slice().len();
@@ -72,10 +72,14 @@ fn names_tables(object: &Object, instr: &Instr) -> bool
         | Instr::RefSlot(leaf)
         | Instr::RefSlotAt(leaf) => is_below(*leaf, object.leaves.as_slice().len()),
         Instr::Call(procedure) => is_below(*procedure, object.procedures.as_slice().len()),
-        Instr::Request(list) | Instr::Release(list) => all_below(list.as_slice(), semaphores),
+        Instr::Request(list) | Instr::Release(list) => all_below(list.get().as_slice(), semaphores),
         Instr::Try(semaphore) => is_below(*semaphore, semaphores),
-        Instr::Activate(a) => is_below(a.task, tasks) && names_interrupt(object, a.start),
-        Instr::Continue(c) => {
+        Instr::Activate(activation) => {
+            let a = activation.get();
+            is_below(a.task, tasks) && names_interrupt(object, a.start)
+        }
+        Instr::Continue(continuation) => {
+            let c = continuation.get();
             is_below(c.task, tasks) && names_interrupt(object, start_or_free(c.once))
         }
         Instr::Resume(form) => names_interrupt(object, as_start(*form)),
@@ -88,7 +92,7 @@ fn names_tables(object: &Object, instr: &Instr) -> bool
         Instr::Put { device, format } => {
             takes_texts(object, *device) && items_at(object, *format).is_some()
         }
-        Instr::Get(reading) => gives_texts(object, reading.device),
+        Instr::Get(reading) => gives_texts(object, reading.get().device),
         Instr::Take(device) => is_input(object, *device),
         Instr::Send(device) => is_output(object, *device),
         _ => true,
@@ -96,7 +100,7 @@ fn names_tables(object: &Object, instr: &Instr) -> bool
 }
 
 /// Whether the cells that it names are the routine's.
-fn names_cells(object: &Object, code: &Code, formats: &[FormatRow], instr: &Instr) -> bool
+fn names_cells(object: &Parts, code: &Code, formats: &[FormatRow], instr: &Instr) -> bool
     requires { formats.now ≡ map format_row object.now.formats }
     ensures { result ≡ all_kept (cells_there object.now code.now (opcode instr.now).cells) }
 {
@@ -109,7 +113,7 @@ fn names_cells(object: &Object, code: &Code, formats: &[FormatRow], instr: &Inst
         | Instr::RefCellAt { first, count } => has_cells(code, *first, *count),
         Instr::Within(first) => has_cells(code, *first, 3),
         Instr::Advance { first, .. } => has_cells(code, *first, 3),
-        Instr::Get(reading) => has_read_cells(object, code, formats, **reading),
+        Instr::Get(reading) => has_read_cells(object, code, formats, *reading.get()),
         _ => true,
     }
 }
@@ -121,14 +125,14 @@ fn names_targets(code: &Code, instr: &Instr) -> bool
     let instructions = code.instructions.as_slice().len();
     match instr {
         Instr::Jump(to) | Instr::JumpZero(to) => is_below(*to, instructions),
-        Instr::Case(list) => all_below(list.as_slice(), instructions),
+        Instr::Case(list) => all_below(list.get().as_slice(), instructions),
         Instr::Advance { past, .. } => is_below(*past, instructions),
         _ => true,
     }
 }
 
 /// Whether each number names something of the right sort, and each range is one of the routine's cells (V1).
-pub(crate) fn names_all(object: &Object, code: &Code, formats: &[FormatRow], instr: &Instr) -> bool
+pub(crate) fn names_all(object: &Parts, code: &Code, formats: &[FormatRow], instr: &Instr) -> bool
     requires { formats.now ≡ map format_row object.now.formats }
     ensures { result ≡ v1 object.now code.now instr.now }
 {

@@ -14,7 +14,7 @@ use crate::named::{as_start, start_or_free};
 use crate::same::{is_fixed, is_reference, same_cell};
 use crate::table::{data_count, result_of};
 use pearl_instructions::instr::{Activation, Instr};
-use pearl_instructions::object::Object;
+use pearl_instructions::object::Parts;
 use pearl_instructions::schedule::{RepeatForm, StartForm};
 use pearl_value::kind::{CellKind, Kind};
 
@@ -145,7 +145,7 @@ fn meets_activation(kinds: &Kinds, a: Activation) -> bool
     meets_start(kinds, values, a.start)
 }
 
-fn arguments_count(object: &Object, procedure: u64) -> u64
+fn arguments_count(object: &Parts, procedure: u64) -> u64
     ensures { result ≡ length (arguments_asked (slice_get object.now.procedures procedure)) }
 {
     match object.procedures.as_slice().get(procedure as usize) {
@@ -154,7 +154,7 @@ fn arguments_count(object: &Object, procedure: u64) -> u64
     }
 }
 
-fn values_count(object: &Object, formats: &[FormatRow], format: u64) -> usize
+fn values_count(object: &Parts, formats: &[FormatRow], format: u64) -> usize
     requires { formats.now ≡ map format_row object.now.formats }
     ensures { result ≡ length (values_asked (items_at object.now format)) }
 {
@@ -163,7 +163,7 @@ fn values_count(object: &Object, formats: &[FormatRow], format: u64) -> usize
 
 /// Whether the operands are what the instruction takes (V2).
 pub(crate) fn are_operands(
-    object: &Object,
+    object: &Parts,
     formats: &[FormatRow],
     routine: usize,
     instr: &Instr,
@@ -178,7 +178,7 @@ pub(crate) fn are_operands(
         }
         Instr::Send(_) => has(kinds, 1),
         Instr::Dyadic(_) => has(kinds, 2),
-        Instr::Index(bounds) => are_fixed(kinds, bounds.as_slice().len()),
+        Instr::Index(bounds) => are_fixed(kinds, bounds.get().as_slice().len()),
         Instr::LoadAt { .. } | Instr::ReadAt(_) | Instr::RefSlotAt(_) | Instr::RefCellAt { .. } => {
             is_exactly_at(kinds, 0, Kind::Fixed(31))
         }
@@ -189,8 +189,8 @@ pub(crate) fn are_operands(
         Instr::Case(_) | Instr::NonZero => is_fixed_at(kinds, 0),
         Instr::Call(procedure) => has(kinds, arguments_count(object, *procedure)),
         Instr::Return => result_of(object, routine).is_none() || has(kinds, 1),
-        Instr::Activate(a) => meets_activation(kinds, **a),
-        Instr::Continue(c) => meets_start(kinds, 0, start_or_free(c.once)),
+        Instr::Activate(a) => meets_activation(kinds, *a.get()),
+        Instr::Continue(c) => meets_start(kinds, 0, start_or_free(c.get().once)),
         Instr::Resume(form) => meets_start(kinds, 0, as_start(*form)),
         Instr::Put { format, .. } => has(kinds, values_count(object, formats, *format) as u64),
         _ => true,
@@ -199,7 +199,7 @@ pub(crate) fn are_operands(
 
 /// How many operands the instruction takes.
 pub(crate) fn operand_count(
-    object: &Object,
+    object: &Parts,
     formats: &[FormatRow],
     routine: usize,
     instr: &Instr,
@@ -211,7 +211,7 @@ pub(crate) fn operand_count(
         Instr::Store(_) | Instr::Drop | Instr::Conv(_) | Instr::Write(_) | Instr::Monadic(_) => 1,
         Instr::Send(_) => 1,
         Instr::Dyadic(_) => 2,
-        Instr::Index(bounds) => bounds.as_slice().len() as u64,
+        Instr::Index(bounds) => bounds.get().as_slice().len() as u64,
         Instr::LoadAt { .. } | Instr::ReadAt(_) | Instr::RefSlotAt(_) | Instr::RefCellAt { .. } =>
             1,
         Instr::StoreAt { .. } | Instr::WriteAt(_) | Instr::WriteRef => 2,
@@ -221,11 +221,12 @@ pub(crate) fn operand_count(
             Some(_) => 1,
             None => 0,
         },
-        Instr::Activate(a) => {
+        Instr::Activate(activation) => {
+            let a = activation.get();
             let priorities = if a.priority { 1 } else { 0 };
             (priorities + start_count(a.start) + repeat_count(a.repeat)) as u64
         }
-        Instr::Continue(c) => start_count(start_or_free(c.once)) as u64,
+        Instr::Continue(c) => start_count(start_or_free(c.get().once)) as u64,
         Instr::Resume(form) => start_count(as_start(*form)) as u64,
         Instr::Put { format, .. } => values_count(object, formats, *format) as u64,
         _ => 0,

@@ -8,7 +8,7 @@ use crate::kinds::Kinds;
 use crate::same::{reference_to, referred};
 use crate::table::{kind_taken, leaf_kind, result_of};
 use pearl_instructions::instr::Instr;
-use pearl_instructions::object::{Code, Object};
+use pearl_instructions::object::{Code, Parts};
 use pearl_value::conversion::{cell_kind, suits};
 use pearl_value::kind::{CellKind, Kind};
 use pearl_value::operator::{Dyad, Monad, result1, result2};
@@ -89,7 +89,7 @@ fn cell_at(code: &Code, cell: u64) -> Option<CellKind>
 
 /// The kind of what the instruction pushes, where it pushes something.
 pub(crate) fn pushed_kind(
-    object: &Object,
+    object: &Parts,
     code: &Code,
     instr: &Instr,
     kinds: &Kinds,
@@ -97,7 +97,7 @@ pub(crate) fn pushed_kind(
     ensures { result ≡ pushed_kind object.now code.now instr.now kinds.now }
 {
     match instr {
-        Instr::Const(literal) => Some(cell_kind(literal)),
+        Instr::Const(literal) => Some(cell_kind(literal.get())),
         Instr::Load(cell) => cell_at(code, *cell),
         Instr::Conv(to) => Some(CellKind::Plain(*to)),
         Instr::Index(_) => Some(CellKind::Plain(Kind::Fixed(31))),

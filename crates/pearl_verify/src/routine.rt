@@ -14,7 +14,7 @@ use crate::rule::{V1, V9, V11};
 use crate::running::Running;
 use crate::runs::CellRuns;
 use pearl_instructions::instr::Instr;
-use pearl_instructions::object::{Code, Object, Shape};
+use pearl_instructions::object::{Code, Parts, Shape};
 use std::alloc::{AllocError as NoMemory, Global};
 
 /// A rule that fails, and the instruction at which it does.
@@ -65,7 +65,7 @@ fn judge_whole(code: &Code) -> Option<u8>
 /// The first instruction of a routine at which a rule fails, and the least one that does.
 pub(crate) fn judge_routine(
     alloc: Global,
-    object: &Object,
+    object: &Parts,
     formats: &[FormatRow],
     routine: usize,
     code: &Code,

@@ -10,7 +10,7 @@ ghost use Rattle.pearl_verify.specs.Formats.{format_row};
 
 use crate::formats::FormatRow;
 use pearl_format::item::Item;
-use pearl_instructions::object::{Code, Object};
+use pearl_instructions::object::{Code, Parts};
 use pearl_value::device::{Device, Direction};
 use pearl_value::kind::{CellKind, Kind};
 
@@ -32,14 +32,14 @@ pub(crate) fn all_below(numbers: &[u64], count: usize) -> bool
     true
 }
 
-pub(crate) fn is_task(object: &Object, routine: usize) -> bool
+pub(crate) fn is_task(object: &Parts, routine: usize) -> bool
     ensures { result ≡ is_task object.now routine }
 {
     object.procedures.as_slice().len() <= routine
 }
 
 /// The kind of a routine's result, where it has one.
-pub(crate) fn result_of(object: &Object, routine: usize) -> Option<Kind>
+pub(crate) fn result_of(object: &Parts, routine: usize) -> Option<Kind>
     ensures { result ≡ result_of object.now routine }
 {
     match object.procedures.as_slice().get(routine) {
@@ -67,7 +67,7 @@ pub(crate) fn cells_at(code: &Code, first: u64, count: u64) -> &[CellKind]
     &rest[..size]
 }
 
-pub(crate) fn leaf_kind(object: &Object, leaf: u64) -> Option<CellKind>
+pub(crate) fn leaf_kind(object: &Parts, leaf: u64) -> Option<CellKind>
     ensures { result ≡ leaf_kind (slice_get object.now.leaves leaf) }
 {
     match object.leaves.as_slice().get(leaf as usize) {
@@ -76,13 +76,13 @@ pub(crate) fn leaf_kind(object: &Object, leaf: u64) -> Option<CellKind>
     }
 }
 
-fn device_at(object: &Object, device: u64) -> Option<Device>
+fn device_at(object: &Parts, device: u64) -> Option<Device>
     ensures { result ≡ slice_get object.now.devices device }
 {
     object.devices.as_slice().get(device as usize).copied()
 }
 
-pub(crate) fn is_interrupt(object: &Object, device: u64) -> bool
+pub(crate) fn is_interrupt(object: &Parts, device: u64) -> bool
     ensures { result ≡ is_interrupt (slice_get object.now.devices device) }
 {
     match device_at(object, device) {
@@ -92,7 +92,7 @@ pub(crate) fn is_interrupt(object: &Object, device: u64) -> bool
 }
 
 /// Whether it is a terminal that takes texts.
-pub(crate) fn takes_texts(object: &Object, device: u64) -> bool
+pub(crate) fn takes_texts(object: &Parts, device: u64) -> bool
     ensures { result ≡ takes_texts (slice_get object.now.devices device) }
 {
     match device_at(object, device) {
@@ -106,7 +106,7 @@ pub(crate) fn takes_texts(object: &Object, device: u64) -> bool
 }
 
 /// Whether it is a terminal that gives texts.
-pub(crate) fn gives_texts(object: &Object, device: u64) -> bool
+pub(crate) fn gives_texts(object: &Parts, device: u64) -> bool
     ensures { result ≡ gives_texts (slice_get object.now.devices device) }
 {
     match device_at(object, device) {
@@ -120,7 +120,7 @@ pub(crate) fn gives_texts(object: &Object, device: u64) -> bool
 }
 
 /// The kind of the values that come in, where it is an input.
-pub(crate) fn kind_taken(object: &Object, device: u64) -> Option<CellKind>
+pub(crate) fn kind_taken(object: &Parts, device: u64) -> Option<CellKind>
     ensures { result ≡ kind_taken (slice_get object.now.devices device) }
 {
     match device_at(object, device) {
@@ -130,7 +130,7 @@ pub(crate) fn kind_taken(object: &Object, device: u64) -> Option<CellKind>
 }
 
 /// The kind of the values that go out, where it is an output.
-pub(crate) fn kind_sent(object: &Object, device: u64) -> Option<CellKind>
+pub(crate) fn kind_sent(object: &Parts, device: u64) -> Option<CellKind>
     ensures { result ≡ kind_sent (slice_get object.now.devices device) }
 {
     match device_at(object, device) {
@@ -139,7 +139,7 @@ pub(crate) fn kind_sent(object: &Object, device: u64) -> Option<CellKind>
     }
 }
 
-pub(crate) fn is_input(object: &Object, device: u64) -> bool
+pub(crate) fn is_input(object: &Parts, device: u64) -> bool
     ensures { result ≡ is_input (slice_get object.now.devices device) }
 {
     match device_at(object, device) {
@@ -148,7 +148,7 @@ pub(crate) fn is_input(object: &Object, device: u64) -> bool
     }
 }
 
-pub(crate) fn is_output(object: &Object, device: u64) -> bool
+pub(crate) fn is_output(object: &Parts, device: u64) -> bool
     ensures { result ≡ is_output (slice_get object.now.devices device) }
 {
     match device_at(object, device) {
@@ -158,7 +158,7 @@ pub(crate) fn is_output(object: &Object, device: u64) -> bool
 }
 
 /// The items of a format.
-pub(crate) fn items_at(object: &Object, format: u64) -> Option<&[Item]>
+pub(crate) fn items_at(object: &Parts, format: u64) -> Option<&[Item]>
     ensures { MatchOption result (items_at object.now format ≡ None) (λ items. items_at object.now format ≡ Some items.now) }
 {
     match object.formats.as_slice().get(format as usize) {
@@ -168,7 +168,7 @@ pub(crate) fn items_at(object: &Object, format: u64) -> Option<&[Item]>
 }
 
 /// How many values a format takes, where there is one.
-pub(crate) fn data_count(object: &Object, formats: &[FormatRow], format: u64) -> Option<usize>
+pub(crate) fn data_count(object: &Parts, formats: &[FormatRow], format: u64) -> Option<usize>
     requires { formats.now ≡ map format_row object.now.formats }
     ensures { result ≡ option_map data_count (items_at object.now format) }
 {

@@ -1,7 +1,6 @@
 // The validator.
 
-ghost use Rattle.std.specs.Prelude.{◌≡◌, ◌+◌, ◌<◌, ◌^◌, ℕ, Some, None, map, IfOk, IfErr, IfSome, OnOk, MatchOption};
-ghost use Rattle.pearl_instructions.specs.Lawful.{IsObject};
+ghost use Rattle.std.specs.Prelude.{◌≡◌, ◌+◌, ◌<◌, ◌≤◌, ◌^◌, ℕ, Some, None, length, map, IfOk, IfErr, IfSome, OnOk, MatchOption};
 ghost use Rattle.pearl_instructions.specs.Objects.{routine_at};
 ghost use Rattle.pearl_instructions.specs.Valid.{unsound, IsValid};
 ghost use Rattle.pearl_verify.specs.Verdicts.{BreaksFirst, IsLeast};
@@ -9,7 +8,7 @@ ghost use Rattle.pearl_verify.specs.Formats.{format_row};
 
 use crate::formats::{FormatRow, format_rows};
 use crate::routine::judge_routine;
-use pearl_instructions::object::{Code, Object};
+use pearl_instructions::object::{Code, Object, Parts};
 use pearl_instructions::valid::Valid;
 use std::alloc::{AllocError as NoMemory, Global};
 use thiserror::Error;
@@ -21,7 +20,7 @@ pub enum VerifyFault {
     /// whole routine is told behind its last instruction.
     #[error("Unsound")]
     Unsound {
-        routine: u64,
+        routine: u32,
         instruction: u64,
         rule: u8,
     },
@@ -30,9 +29,9 @@ pub enum VerifyFault {
 }
 
 /// The code of a routine: the procedures come first, and then the tasks.
-fn code_at(object: &Object, routine: usize) -> Option<&Code>
+fn code_at(object: &Parts, routine: usize) -> Option<&Code>
     ensures code { MatchOption result (routine_at object.now routine ≡ None) (λ code. routine_at object.now routine ≡ Some code.now) }
-    ensures few { IfSome result (λ code. routine + 1 < 2 ^ 64) }
+    ensures few { IfSome result (λ code. routine < length object.now.procedures + length object.now.tasks) }
 {
     let procedures = object.procedures.as_slice();
     if routine < procedures.len() {
@@ -46,20 +45,21 @@ fn code_at(object: &Object, routine: usize) -> Option<&Code>
 
 fn judge_at(
     alloc: Global,
-    object: &Object,
+    object: &Parts,
     formats: &[FormatRow],
     routine: usize,
     code: &Code,
 ) -> Result<(), VerifyFault>
     requires formats { formats.now ≡ map format_row object.now.formats }
     requires code { routine_at object.now routine ≡ Some code.now }
+    requires few { routine < 2 ^ 32 }
     ensures ok { OnOk result ((i : ℕ) → unsound object.now routine i ≡ None) }
     ensures err { IfErr result (BreaksFirst object.now routine) }
 {
     match judge_routine(alloc, object, formats, routine, code) {
         Ok(None) => Ok(()),
         Ok(Some(broken)) => Err(VerifyFault::Unsound {
-            routine: routine as u64,
+            routine: routine as u32,
             instruction: broken.instruction as u64,
             rule: broken.rule,
         }),
@@ -68,8 +68,10 @@ fn judge_at(
 }
 
 /// Judges all routines, up to the first in which a rule fails.
-fn judge_all(alloc: Global, object: &Object, formats: &[FormatRow]) -> Result<(), VerifyFault>
-    requires { formats.now ≡ map format_row object.now.formats }
+fn judge_all(alloc: Global, object: &Parts, formats: &[FormatRow]) -> Result<(), VerifyFault>
+    requires formats { formats.now ≡ map format_row object.now.formats }
+    requires procedures { length object.now.procedures ≤ 200 }
+    requires tasks { length object.now.tasks ≤ 200 }
     ensures ok { OnOk result (IsValid object.now) }
     ensures err { IfErr result (IsLeast object.now) }
 {
@@ -81,11 +83,14 @@ fn judge_all(alloc: Global, object: &Object, formats: &[FormatRow]) -> Result<()
     Ok(())
 }
 
-/// Nothing where no rule fails in the code of any routine, else the least routine, instruction and rule that fails.
+/// Nothing where no rule fails in the code of any routine, else the least routine, instruction and rule that fails. The
+/// parts need not be those of an object.
 ///
 /// What it takes grows with the object as written, times the logarithm of a routine's stated shapes: each of these gets a
 /// number once, so that at a jump two numbers are compared, and of a PUT's or GET's format at most 65 items are looked at.
-pub fn judge_object(alloc: Global, object: &Object) -> Result<(), VerifyFault>
+pub fn judge_object(alloc: Global, object: &Parts) -> Result<(), VerifyFault>
+    requires procedures { length object.now.procedures ≤ 200 }
+    requires tasks { length object.now.tasks ≤ 200 }
     ensures ok { OnOk result (IsValid object.now) }
     ensures err { IfErr result (IsLeast object.now) }
 {
@@ -98,11 +103,10 @@ pub fn judge_object(alloc: Global, object: &Object) -> Result<(), VerifyFault>
 /// The same object as a valid one, or the least routine, instruction and rule that fails. It costs what `judge_object`
 /// does.
 pub fn verify(alloc: Global, object: Object) -> Result<Valid, VerifyFault>
-    requires { IsObject object }
     ensures ok { IfOk result (λ valid. (valid ≡ object) × IsValid object) }
     ensures err { IfErr result (IsLeast object) }
 {
-    judge_object(alloc, &object)?;
+    judge_object(alloc, object.parts())?;
     match Valid::new(alloc, object) {
         Ok(valid) => Ok(valid),
         Err(_) => Err(VerifyFault::NoMemory),

@@ -67,7 +67,7 @@ emit_offset-returns-clause-added t c =
     let old = c.args.code.now.items in let one = c.emit_all.new.code.items in
     index_emits p old one c.emit.new.code.items v.target v.bounds.items (plain_exprs v.subscripts.items) c.in_ok-bounds.bounds
     (subst (λ xs. EmitsAll p (plain_exprs xs) old one) c.as_slice.ensures.value c.in_ok-emit_all.ensures.added)
-    (c.in_ok-bounds.ensures.ok ∙ (c.new-list.ensures ∙ (c.in_ok-index_bounds.ensures ∙ ap (map bounds_of) c.as_slice-2.ensures.value)))
+    (c.in_ok-bounds.ensures ∙ (c.new-list.ensures ∙ (c.in_ok-index_bounds.ensures ∙ ap (map bounds_of) c.as_slice-2.ensures.value)))
     c.in_ok-emit.ensures.added (some_are (vec_len v.bounds) v.bounds.items c.if-is_empty.ensures (omega (arith, v.bounds.ok.0)))
 
 pub emit_read-returns-clause-added : goal.emit_read-returns-clause-added

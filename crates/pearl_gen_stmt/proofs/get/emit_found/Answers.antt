@@ -11,7 +11,7 @@ pub returns-then-is_empty-clause-added : goal.returns-then-is_empty-clause-added
 returns-then-is_empty-clause-added c =
     let v = c.args.target.now in
     zero_found_adds (setting_of c.args.site.program.now c.args.site.result c.args.site.routine.now) c.args.code.now.items c.emit.new.code.items v.target v.bounds.items (plain_exprs v.subscripts.items) c.in_ok-zero.zero
-    (none_there v.bounds.items (subst (λ n. true ≡ (n == 0)) (omega (arith, v.bounds.ok.0)) c.if-is_empty.ensures)) c.in_ok-zero.ensures.ok c.in_ok-emit.ensures.added
+    (none_there v.bounds.items (subst (λ n. true ≡ (n == 0)) (omega (arith, v.bounds.ok.0)) c.if-is_empty.ensures)) c.in_ok-zero.ensures c.in_ok-emit.ensures.added
 
 pub returns-clause-added : goal.returns-clause-added
 returns-clause-added c =

@@ -16,7 +16,7 @@ returns-clause-added c =
     (map plain_variable get.targets.items) get.device get.format get.cell kinds.0 c.in_ok-boxed.boxed
     (kept_same setting c.args.code.now.items c.emit_kept.new.code.items (c.from.result + length xs) (get.cell + length (map plain_variable get.targets.items)) xs get.targets.items c.as_slice-targets.ensures.value at c.in_ok-emit_kept.ensures.added)
     c.in_ok-emit_filled.ensures.kept kinds.1 kinds.2
-    (c.in_ok-boxed.ensures.ok ∙ (ap (λ n. record { device = n; format = c.from-3.result; first = c.from-4.result }) c.from-2.ensures
+    (c.in_ok-boxed.ensures ∙ (ap (λ n. record { device = n; format = c.from-3.result; first = c.from-4.result }) c.from-2.ensures
     ∙ (ap (λ n. record { device = get.device; format = n; first = c.from-4.result }) c.from-3.ensures
     ∙ ap (λ n. record { device = get.device; format = get.format; first = n }) c.from-4.ensures)))
     c.in_ok-emit.ensures.added c.in_ok-emit_written.ensures.kept

@@ -9,7 +9,7 @@ loop-index-preserved c =
     let old = c.args.code.now.items in let now = c.loop-index.code.items in let one = c.emit.new.code.items in let two = c.emit-in-loop-index.new.code.items in (
       extends_more old now two c.loop-index.invariant.0 (extends_more now one two c.in_ok-emit.ensures.kept c.in_ok-emit-2.ensures.kept),
       λ setting. stores_more setting old now one two c.args.cell c.args.constants.now c.loop-index.index c.index-constants-index.result c.in_ok-value.value
-          c.loop-index-test.true c.index-constants-index.is (c.in_ok-value.ensures.ok ∙ c.cell.ensures) c.in_ok-emit.ensures.added
+          c.loop-index-test.true c.index-constants-index.is (c.in_ok-value.ensures ∙ c.cell.ensures) c.in_ok-emit.ensures.added
           (subst (λ n. two ≡ one ++ instr.Store (n + c.loop-index.index) ∷ []) c.from.ensures c.in_ok-emit-2.ensures.added) (c.loop-index.invariant.1 setting),
     )
 

@@ -12,5 +12,5 @@ returns-clause-added c =
     part.task (option_map plain_start part.start) (option_map plain_period part.period) (option_map plain_expr part.priority)
     c.in_ok-start.start c.in_ok-repeat.repeat c.in_ok-priority.priority c.in_ok-boxed.boxed c.in_ok-start.ensures.added c.in_ok-repeat.ensures.kept
     c.in_ok-repeat.ensures.added c.in_ok-priority.ensures.kept c.in_ok-priority.ensures.added
-    (c.in_ok-boxed.ensures.ok ∙ ap (λ task. record { task = task; start = c.in_ok-start.start; repeat = c.in_ok-repeat.repeat; priority = c.in_ok-priority.priority }) c.from.ensures)
+    (c.in_ok-boxed.ensures ∙ ap (λ task. record { task = task; start = c.in_ok-start.start; repeat = c.in_ok-repeat.repeat; priority = c.in_ok-priority.priority }) c.from.ensures)
     c.in_ok-emit.ensures.added

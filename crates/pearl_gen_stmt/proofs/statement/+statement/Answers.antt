@@ -24,7 +24,7 @@ use Rattle.pearl_meaning.specs.Setting.{Setting}
 use Rattle.pearl_instructions.specs.declared.instr.Instr.TheVariants as instr
 use Rattle.pearl_gen_expr.specs.ExprCode.{Is}
 use Rattle.pearl_gen_expr.proofs.Offered.{extends_more, some_are}
-use Rattle.pearl_gen_stmt.specs.StmtCode.{on_task, RenewAt, AssignAt, CallOfAt, ReturnAt, ActivateAt, ContinueAt, ResumeAt, ListAt, PutAt, GetAt, SendAt, TakeAt, AdvanceAt}
+use Rattle.pearl_gen_stmt.specs.StmtCode.{on_task, RenewAt, AssignAt, CallOfAt, ReturnAt, ActivateAt, ContinueAt, ResumeAt, Alone, PutAt, GetAt, SendAt, TakeAt, AdvanceAt}
 use Rattle.pearl_gen_stmt.specs.Emission.{setting_of, plain_if, plain_case, plain_repeat, Adds, AddsStmt, AddsStmts, AddsElse, AddsBranches}
 use Rattle.pearl_gen_stmt.proofs.Adding.{alone_adds}
 use Rattle.pearl_gen_stmt.proofs.Settling.{on_ok, none_there, extends_longer, extends_by, extends_apart}
@@ -86,14 +86,14 @@ emit_stmt-returns-in-Request-clause-added t c =
     let old = c.args.code.now.items in let new = c.emit_request.new.code.items in
     subst (λ s. OnOk c.emit_request.result (AddsStmt (setting_of c.args.site.program.now c.args.site.result c.args.site.routine.now) c.args.site.in_loop (plain_stmt s) old new)) (sym c.in-Request.is)
     (on_ok c.emit_request.result (λ adds final leave stays exits. adds (setting_of c.args.site.program.now c.args.site.result c.args.site.routine.now) final stays)
-    (subst (λ (part : ArrayVec ℕ). OnOk c.emit_request.result ((setting : Setting) → Adds (λ code from to. ListAt setting code from instr.Request part.items to) old new)) c.deref-in-Request.ensures c.emit_request.ensures.added))
+    (subst (λ (part : ArrayVec ℕ). OnOk c.emit_request.result ((setting : Setting) → Adds (λ code from to. Alone setting code from (instr.Request part.items) to) old new)) c.deref-in-Request.ensures c.emit_request.ensures.added))
 
 pub emit_stmt-returns-in-Release-clause-added : goal.emit_stmt-returns-in-Release-clause-added
 emit_stmt-returns-in-Release-clause-added t c =
     let old = c.args.code.now.items in let new = c.emit_release.new.code.items in
     subst (λ s. OnOk c.emit_release.result (AddsStmt (setting_of c.args.site.program.now c.args.site.result c.args.site.routine.now) c.args.site.in_loop (plain_stmt s) old new)) (sym c.in-Release.is)
     (on_ok c.emit_release.result (λ adds final leave stays exits. adds (setting_of c.args.site.program.now c.args.site.result c.args.site.routine.now) final stays)
-    (subst (λ (part : ArrayVec ℕ). OnOk c.emit_release.result ((setting : Setting) → Adds (λ code from to. ListAt setting code from instr.Release part.items to) old new)) c.deref-in-Release.ensures c.emit_release.ensures.added))
+    (subst (λ (part : ArrayVec ℕ). OnOk c.emit_release.result ((setting : Setting) → Adds (λ code from to. Alone setting code from (instr.Release part.items) to) old new)) c.deref-in-Release.ensures c.emit_release.ensures.added))
 
 pub emit_stmt-returns-in-Put-clause-added : goal.emit_stmt-returns-in-Put-clause-added
 emit_stmt-returns-in-Put-clause-added t c =
@@ -243,7 +243,7 @@ emit_case-returns-clause-added t c =
     let end : c.len-end.result ≡ length three = c.len-end.ensures ∙ omega (arith, c.emit_stmts.new.code.ok.0) in
     let to : c.len-to.result ≡ length five = c.len-to.ensures ∙ omega (arith, c.emit_branches.new.code.ok.0) in
     let targets = c.in_ok-targets.targets in
-    let places : c.in_ok-places.places.items ≡ targets.value = sym (c.in_ok-targets.ensures.ok ∙ c.new.ensures) in
+    let places : c.in_ok-places.places.items ≡ targets = sym (c.in_ok-targets.ensures ∙ c.new.ensures) in
     case_adds setting in_loop old one two three four five six seven (plain_expr part.selector) (plain_branches part.alternatives.items) (plain_stmts part.otherwise.items)
     targets c.len-to.result to c.in_ok-emit_expr.ensures.added c.in_ok-emit_expr.ensures.kept c.in_ok-emit_pending.ensures.added c.in_ok-emit_stmts.ensures.kept
     (subst (λ (xs : List Stmt). AddsStmts setting in_loop (plain_stmts xs) two three) c.as_slice.ensures.value c.in_ok-emit_stmts.ensures.added)

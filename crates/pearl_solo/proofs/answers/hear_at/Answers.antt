@@ -18,15 +18,15 @@ pub hear_all-requires-clause-there : goal.hear_all-requires-clause-there
 hear_all-requires-clause-there c =
     let frames = c.args.stack.now.frames in
     let suits = subst (λ i. CanHear c.args.code.now (task_of c.args.code.now frames) (act_on c.args.code.now i frames) (answer_of c.args.heard c.args.beside.now)) c.in-Get.is c.requires.suits in
-    subst (λ (r : Reading). 0 < length (all_heard (answer_of c.args.heard c.args.beside.now)) → r.first + length (all_heard (answer_of c.args.heard c.args.beside.now)) ≤ length (top_cells frames)) (sym c.deref.ensures)
-    (reads_on c.args.code.now c.in-Get.reading.value frames (answer_of c.args.heard c.args.beside.now) suits).fits
+    subst (λ (r : Reading). 0 < length (all_heard (answer_of c.args.heard c.args.beside.now)) → r.first + length (all_heard (answer_of c.args.heard c.args.beside.now)) ≤ length (top_cells frames)) (sym c.get.ensures)
+    (reads_on c.args.code.now c.in-Get.reading frames (answer_of c.args.heard c.args.beside.now) suits).fits
 
 pub returns-in-Get : goal.returns-in-Get
 returns-in-Get c =
     let old : Stack = c.args.stack.now in
     let suits = subst (λ i. CanHear c.args.code.now (task_of c.args.code.now old.frames) (act_on c.args.code.now i old.frames) (answer_of c.args.heard c.args.beside.now)) c.in-Get.is c.requires.suits in
-    c.hear_all.ensures ∙ (ap (λ (r : Reading). record old { frames = read_on r.first (all_heard (answer_of c.args.heard c.args.beside.now)) old.frames }) c.deref.ensures
-    ∙ ap (λ fs. record old { frames = fs }) (sym (ap (λ i. after (act_on c.args.code.now i old.frames) (answer_of c.args.heard c.args.beside.now)) c.in-Get.is ∙ (reads_on c.args.code.now c.in-Get.reading.value old.frames (answer_of c.args.heard c.args.beside.now) suits).is)))
+    c.hear_all.ensures ∙ (ap (λ (r : Reading). record old { frames = read_on r.first (all_heard (answer_of c.args.heard c.args.beside.now)) old.frames }) c.get.ensures
+    ∙ ap (λ fs. record old { frames = fs }) (sym (ap (λ i. after (act_on c.args.code.now i old.frames) (answer_of c.args.heard c.args.beside.now)) c.in-Get.is ∙ (reads_on c.args.code.now c.in-Get.reading old.frames (answer_of c.args.heard c.args.beside.now) suits).is)))
 
 pub taken_by-taken-requires : goal.taken_by-taken-requires
 taken_by-taken-requires c = has_format c.args.code.now c.args.instr.now c.args.here.now c.args.stack.now c.requires.at

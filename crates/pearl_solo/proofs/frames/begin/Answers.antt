@@ -1,6 +1,6 @@
 use Rattle.std.proofs.Common.{◌≡◌, ◌+◌, ◌-◌, ◌≤◌, [], ◌++◌, length, map, take, drop, sym, ap, ◌∙◌, subst, arith}
 use Rattle.pearl_stack.specs.Frames.{Stack, entered}
-use Rattle.pearl_instructions.specs.declared.object.Object.{Object}
+use Rattle.pearl_instructions.specs.declared.object.Parts.{Parts as Object}
 use Rattle.pearl_instructions.specs.Flow as flow
 use Rattle.pearl_instructions.specs.Stacks.{IsStack, task_of, room}
 use Rattle.pearl_silent.specs.Steps.{top_cells, with_cells}

@@ -34,28 +34,28 @@ put-requires-clause-device c = device_small c.args.code.now c.in-Put.device take
 
 pub semaphores-requires-clause-small : goal.semaphores-requires-clause-small
 semaphores-requires-clause-small c =
-    subst (AllByRecursion (λ n. n < 2 ^ 16)) (sym (c.as_slice.ensures ∙ c.deref.ensures))
-    (semaphores_small c.args.code.now c.in-Request.list.value c.requires.at.lawful (named_as c.args.code.now c.args.instr.now (Request c.in-Request.list) c.args.here.now c.args.stack.now c.in-Request.is c.requires.at))
+    subst (AllByRecursion (λ n. n < 2 ^ 16)) (sym (c.as_slice.ensures ∙ c.get.ensures))
+    (semaphores_small c.args.code.now c.in-Request.list c.requires.at.lawful (named_as c.args.code.now c.args.instr.now (Request c.in-Request.list) c.args.here.now c.args.stack.now c.in-Request.is c.requires.at))
 
 pub semaphores-requires-in-Release-clause-small : goal.semaphores-requires-in-Release-clause-small
 semaphores-requires-in-Release-clause-small c =
-    subst (AllByRecursion (λ n. n < 2 ^ 16)) (sym (c.as_slice-in-Release.ensures ∙ c.deref-in-Release.ensures))
-    (semaphores_small c.args.code.now c.in-Release.list.value c.requires.at.lawful (named_as c.args.code.now c.args.instr.now (Release c.in-Release.list) c.args.here.now c.args.stack.now c.in-Release.is c.requires.at))
+    subst (AllByRecursion (λ n. n < 2 ^ 16)) (sym (c.as_slice-in-Release.ensures ∙ c.get-in-Release.ensures))
+    (semaphores_small c.args.code.now c.in-Release.list c.requires.at.lawful (named_as c.args.code.now c.args.instr.now (Release c.in-Release.list) c.args.here.now c.args.stack.now c.in-Release.is c.requires.at))
 
 pub put-requires-clause-text : goal.put-requires-clause-text
 put-requires-clause-text c = puts c.args.code.now c.args.instr.now c.args.here.now c.args.stack.now c.in-Put.device c.in-Put.format c.in-Put.is c.requires.at
 
-pub get-requires-clause-device : goal.get-requires-clause-device
-get-requires-clause-device c =
-    subst (λ (r : Reading). r.device < 2 ^ 32) (sym c.deref-in-Get.ensures)
-    (device_small c.args.code.now c.in-Get.reading.value.device gives_texts c.requires.at.lawful refl (and_true _ _ (named_as c.args.code.now c.args.instr.now (Get c.in-Get.reading) c.args.here.now c.args.stack.now c.in-Get.is c.requires.at)).0)
+pub get_values-requires-clause-device : goal.get_values-requires-clause-device
+get_values-requires-clause-device c =
+    subst (λ (r : Reading). r.device < 2 ^ 32) (sym c.get-in-Get.ensures)
+    (device_small c.args.code.now c.in-Get.reading.device gives_texts c.requires.at.lawful refl (and_true _ _ (named_as c.args.code.now c.args.instr.now (Get c.in-Get.reading) c.args.here.now c.args.stack.now c.in-Get.is c.requires.at)).0)
 
-pub get-requires-clause-format : goal.get-requires-clause-format
-get-requires-clause-format c =
-    subst (λ (r : Reading). r.format < 2 ^ 32) (sym c.deref-in-Get.ensures)
+pub get_values-requires-clause-format : goal.get_values-requires-clause-format
+get_values-requires-clause-format c =
+    subst (λ (r : Reading). r.format < 2 ^ 32) (sym c.get-in-Get.ensures)
     (gets_format c.args.code.now c.args.instr.now c.args.here.now c.args.stack.now c.in-Get.reading c.in-Get.is c.requires.at)
 
-pub get-requires-clause-few : goal.get-requires-clause-few
-get-requires-clause-few c =
-    subst (λ (r : Reading). IfSome (items_at c.args.code.now r.format) (λ items. data_count items ≤ 64)) (sym c.deref-in-Get.ensures)
+pub get_values-requires-clause-few : goal.get_values-requires-clause-few
+get_values-requires-clause-few c =
+    subst (λ (r : Reading). IfSome (items_at c.args.code.now r.format) (λ items. data_count items ≤ 64)) (sym c.get-in-Get.ensures)
     (gets_few c.args.code.now c.args.instr.now c.args.here.now c.args.stack.now c.in-Get.reading c.in-Get.is c.requires.at)

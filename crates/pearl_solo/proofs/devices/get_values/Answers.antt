@@ -3,7 +3,7 @@ use Rattle.std.specs.Prelude.{option_and_then}
 use Rattle.pearl_instructions.specs.Offers.{value_kinds, cells_from}
 use Rattle.pearl_silent.specs.Steps.{top_cells}
 use Rattle.pearl_solo.proofs.Getting.{gets_row}
-use Rattle.pearl_solo.proofs.devices.get.Goals as goal
+use Rattle.pearl_solo.proofs.devices.get_values.Goals as goal
 
 pub returns : goal.returns
 returns c =
