@@ -1,8 +1,10 @@
 -- A program, the object that it becomes, and their runs: REPEAT; CALL P; EXIT; END; and P returns.
-use Rattle.std.specs.Prelude.{◌≡◌, ℕ, zero, suc, ◌+◌, ◌==◌, Bool, true, false, if◌then◌else◌, List, [], ◌∷◌, length, Option, Some, None, slice_get, nat_eq}
+use Rattle.std.specs.Prelude.{◌≡◌, ℕ, zero, suc, ◌+◌, ◌==◌, Bool, true, false, if◌then◌else◌, List, [], ◌∷◌, length, map, Option, Some, None, slice_get, nat_eq, bytes_eq}
 use Rattle.std.specs.List.{IsDistinct}
-use Rattle.std.proofs.Common.{refl, subst, arith}
+use Rattle.std.proofs.Common.{refl, sym, ap, ◌∙◌, subst, arith}
+use Rattle.std.proofs.lemmas.Bool.{true≢false}
 use Rattle.std.proofs.lemmas.Option.{same_Some}
+use Rattle.pearl_value.specs.declared.kind.Kind.TheVariants.{Clock}
 use Rattle.pearl_rules.specs.declared.entry.Entry.TheVariants.{Run}
 use Rattle.pearl_rules.specs.declared.event.Event.TheVariants.{Start, End as Ended}
 use Rattle.pearl_rules.specs.Core.{Report, Happened}
@@ -10,17 +12,18 @@ use Rattle.pearl_rules.specs.Effect.{effect}
 use Rattle.pearl_rules.specs.Runs.{source_step, machine_step}
 use Rattle.pearl_program.specs.PlainExpressions.{NoArguments}
 use Rattle.pearl_program.specs.PlainStatements.{OfCallOf, OfRepeat, OfExit, OfReturn, PlainStmts, NoStmts, MoreStmts}
-use Rattle.pearl_program.specs.PlainPrograms.{PlainProcedure, PlainTask, PlainProg}
+use Rattle.pearl_program.specs.PlainPrograms.{PlainLeaf, PlainProcedure, PlainTask, PlainProg}
 use Rattle.pearl_program.specs.Sound.{IsProcedure, IsTask, IsSound}
 use Rattle.pearl_instructions.specs.declared.instr.Instr.{Instr}
 use Rattle.pearl_instructions.specs.declared.instr.Instr.TheVariants.{Jump, Turn, Call, Return, End}
 use Rattle.pearl_instructions.specs.declared.object.Code.{Code}
-use Rattle.pearl_instructions.specs.declared.object.Object.{Object}
+use Rattle.pearl_instructions.specs.declared.object.Parts.{Parts as Object}
 use Rattle.pearl_instructions.specs.Lawful.{IsObject}
 use Rattle.pearl_instructions.specs.Valid.{unsound, IsValid}
 use Rattle.pearl_meaning.specs.Programs.{offer}
 use Rattle.pearl_meaning.specs.ProgramRuns.{source_run}
 use Rattle.pearl_instructions.specs.Engines.{machine_run, marked}
+use Rattle.pearl_gen_expr.specs.Tables.{plain_leaf}
 use Rattle.pearl_gen_stmt.specs.Generated.{last_of, IsCode, IsGenerated}
 use Rattle.pearl_faithful.specs.Faithful.{IsFaithfulTo}
 use Rattle.pearl_faithful.specs.Laws.{FaithfulPrograms}
@@ -189,3 +192,15 @@ object_tells = refl
 object_makes_its_marks : marked object (Run 9 ∷ []) 9 ≡ 3
 unfolding machine_step effect
 object_makes_its_marks = refl
+
+-- one variable of the module, of this name
+abbrev leaf : List ℕ → PlainLeaf
+leaf name = record { name = name; values = record { kind = Clock; count = 1; constants = [] } }
+
+abbrev is_q : List PlainLeaf → Bool
+is_q [] = false
+is_q (first ∷ leaves) = bytes_eq first.name (113 ∷ [])
+
+-- an object that names it q isn't the program's, whatever it does
+other_name : (o : Object) → map plain_leaf o.leaves ≡ leaf (113 ∷ []) ∷ [] → IsFaithfulTo (record program { leaves = leaf (97 ∷ []) ∷ [] }) o → ⊥
+other_name o is faithful = true≢false (ap is_q (sym is ∙ faithful.tables.leaves))

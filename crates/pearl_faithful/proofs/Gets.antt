@@ -1,9 +1,10 @@
 -- The instructions of GET and of the beginnings of loops.
-use Rattle.std.proofs.Common.{◌≡◌, ℕ, ◌+◌, ◌<◌, List, [], ◌∷◌, Option, Some, None, slice_get, length, refl, sym, ap, ◌∙◌, subst, arith}
+use Rattle.std.proofs.Common.{◌≡◌, ℕ, ◌+◌, ◌<◌, pos, List, [], ◌∷◌, Option, Some, None, slice_get, length, map, refl, sym, ap, ◌∙◌, subst, arith}
 use Rattle.std.specs.Prelude.{option_map, option_and_then}
 use Rattle.std.specs.List.{AllZip}
 use Rattle.std.proofs.lemmas.Option.{same_Some}
 use Rattle.pearl_value.specs.declared.kind.Kind.{Kind}
+use Rattle.pearl_value.specs.declared.cell.Cell.TheVariants.{Fixed}
 use Rattle.pearl_value.specs.declared.kind.Kind.TheVariants as kind_
 use Rattle.pearl_value.specs.declared.kind.CellKind.{CellKind}
 use Rattle.pearl_value.specs.declared.kind.CellKind.TheVariants.{Plain, RefTo}
@@ -20,8 +21,9 @@ use Rattle.pearl_meaning.specs.Transfers.{kinds_of}
 use Rattle.pearl_instructions.specs.declared.instr.Instr.{Instr}
 use Rattle.pearl_instructions.specs.declared.instr.Instr.TheVariants as instr
 use Rattle.pearl_instructions.specs.declared.object.Code.{Code}
-use Rattle.pearl_instructions.specs.declared.object.Object.{Object}
+use Rattle.pearl_instructions.specs.declared.object.Parts.{Parts as Object}
 use Rattle.pearl_instructions.specs.Valid.{targets}
+use Rattle.pearl_gen_expr.specs.ExprCode.{bounds_of}
 use Rattle.pearl_gen_expr.proofs.Offered.{all_forward}
 use Rattle.pearl_gen_stmt.specs.StmtCode.{writing_at, kept_in, CountedAt, LimitAt, BeginsAt, FoundAt, KeptAt, FilledAt, WrittenAt, GetAt}
 use Rattle.pearl_faithful.proofs.Places.{IsBare}
@@ -72,17 +74,17 @@ module _ (o : Object) (r : ℕ) (code : Code) (setting : Setting) (around : Arou
 
   pub found_piece : (target : PlainVariable) (kind : Kind) (from to : ℕ) → IsVariable around target kind → FoundAt setting code.instructions from target to → Part from to
   found_piece (OfVariable target [] es) kind from to typed is =
-      then from from to (instr.Const is.0.0) (none from from refl) is.1 is.0.2 (refl, subst IsValue (sym is.0.1) zero_value)
+      then from from to (instr.Const (Fixed 31 (pos 0))) (none from from refl) is.1 is.0 (refl, zero_value)
   found_piece (OfVariable (LeafOf number) (bound ∷ bounds) es) kind from to typed is =
-      then from is.0 to (instr.Index is.2.0) (
+      then from is.0 to (instr.Index (map bounds_of (bound ∷ bounds))) (
         all_forward setting.program instrs es from is.0 is.1,
         subscripts_add setting.program o instrs around stands.placed.sound stands.placed.tables stands.placed.stands es (bound ∷ bounds) from is.0 typed.2 is.1,
-      ) is.3 is.2.2 (refl, tt)
+      ) is.3 is.2 (refl, tt)
   found_piece (OfVariable (Own cell) (bound ∷ bounds) es) kind from to typed is =
-      then from is.0 to (instr.Index is.2.0) (
+      then from is.0 to (instr.Index (map bounds_of (bound ∷ bounds))) (
         all_forward setting.program instrs es from is.0 is.1,
         subscripts_add setting.program o instrs around stands.placed.sound stands.placed.tables stands.placed.stands es (bound ∷ bounds) from is.0 typed.2 is.1,
-      ) is.3 is.2.2 (refl, tt)
+      ) is.3 is.2 (refl, tt)
   found_piece (OfVariable (Param cell) (bound ∷ bounds) es) kind from to typed is = absurd (no_bounds (slice_get around.cells cell) bound bounds es kind typed)
 
   -- FROM, BY and TO
@@ -90,7 +92,7 @@ module _ (o : Object) (r : ℕ) (code : Code) (setting : Setting) (around : Arou
       IsIf (IsFixed around) e → CountedAt setting code.instructions from counter e to → Part from to
   counted_piece counter len None from to known lawful typed is =
       let same : is.0 ≡ kind_.Fixed len = same_Some is.0 (kind_.Fixed len) (sym is.1 ∙ known) in
-      then from (from + 1) to (instr.Conv is.0) (then from from (from + 1) (instr.Const is.2.0) (none from from refl) refl is.2.2 (refl, subst IsValue (sym is.2.1) one_value))
+      then from (from + 1) to (instr.Conv is.0) (then from from (from + 1) (instr.Const (Fixed 31 (pos 1))) (none from from refl) refl is.2 (refl, one_value))
       (let last = is.4 in omega (arith, last)) is.3 (refl, subst IsKind (sym same) lawful)
   counted_piece counter len (Some e) from to known lawful typed is =
       converted_piece o r code setting around below stands e (kind_.Fixed len) (cell_kind setting counter.cell) from to (kind_.Fixed typed.0, typed.1, tt) known lawful is
@@ -134,9 +136,9 @@ module _ (o : Object) (r : ℕ) (code : Code) (setting : Setting) (around : Arou
         let same : is.0 ≡ kinds = same_Some is.0 kinds (sym is.1 ∙ kinds_are o r code setting around below stands targets kinds typed) in
         let kept = kept_sits targets kinds from (cell + length targets) is.2 typed bare is.4 in
         let filled = filled_sits targets kinds is.2 cell is.3 typed kept.bare (subst (λ kinds. FilledAt setting instrs is.2 cell kinds is.3) same is.5) in
-        let read = close is.3 is.3 (is.3 + 1) (instr.Get is.6) (none is.3 is.3 refl) refl is.8 (tt, refl, refl) in
+        let read = close is.3 is.3 (is.3 + 1) (instr.Get (record { device = device; format = format; first = cell })) (none is.3 is.3 refl) refl is.6 (tt, refl, refl) in
         both_sit o instrs leave from is.2 to kept (both_sit o instrs leave is.2 is.3 to filled (both_sit o instrs leave is.3 (is.3 + 1) to read
-        (written_sits targets (is.3 + 1) cell (cell + length targets) to read.bare is.9)))
+        (written_sits targets (is.3 + 1) cell (cell + length targets) to read.bare is.7)))
 
     limit_sits : (counter : PlainCounter) (len : ℕ) (e : Option PlainExpr) (from to : ℕ) → cell_kind setting counter.cell ≡ Some (kind_.Fixed len) → IsKind (kind_.Fixed len) →
         IsIf (IsFixed around) e → IsBare instrs o from → LimitAt setting instrs from counter e to → Sitting from to

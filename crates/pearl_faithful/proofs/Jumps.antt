@@ -12,7 +12,7 @@ use Rattle.pearl_meaning.specs.Setting.{Setting}
 use Rattle.pearl_instructions.specs.declared.instr.Instr.{Instr}
 use Rattle.pearl_instructions.specs.declared.instr.Instr.TheVariants as instr
 use Rattle.pearl_instructions.specs.declared.object.Code.{Code}
-use Rattle.pearl_instructions.specs.declared.object.Object.{Object}
+use Rattle.pearl_instructions.specs.declared.object.Parts.{Parts as Object}
 use Rattle.pearl_gen_stmt.specs.StmtCode.{WithinAt, CountsAt, WhileAt, PassedAt, AdvanceAt, StmtAt, StmtsAt, ElseAt, BranchesAt}
 use Rattle.pearl_faithful.proofs.Places.{Every, IsBare, LeadsWell, nowhere, at_one, both, then_at, all_less}
 use Rattle.pearl_faithful.proofs.Pushing.{Adds}
@@ -177,7 +177,7 @@ module _ (o : Object) (r : ℕ) (code : Code) (setting : Setting) (below : ℕ) 
         let selected = is.0 in let end = is.1 in let targets = is.2 in
         let test = expr_piece o r code setting around below stands selector (kind_.Fixed typed.0.0) from selected typed.0.1 is.3 in
         let first = stmts_sit otherwise around stands leave (selected + 1) end typed.2 (bare_behind o instrs selected (selected + 1) (instr.Case targets) refl is.4 refl) is.5 in
-        let last = branches_sit alternatives around stands leave (end + 1) targets.value to typed.1 (bare_behind o instrs end (end + 1) (instr.Jump to) refl is.6 refl) is.7 in
+        let last = branches_sit alternatives around stands leave (end + 1) targets to typed.1 (bare_behind o instrs end (end + 1) (instr.Jump to) refl is.6 refl) is.7 in
         let rest = both_sit o instrs leave (selected + 1) end to first (jump_over leave end to is.6 last.sits) in
         let a = test.0 in let b = first.forward in let c = rest.forward in
         record {
@@ -186,7 +186,7 @@ module _ (o : Object) (r : ℕ) (code : Code) (setting : Setting) (below : ℕ) 
           fine = λ out inside.
               both instrs (Fine o instrs) from (selected + 1) to
               (then_at instrs (Fine o instrs) from selected (selected + 1) (instr.Case targets) (fines o instrs from selected test.1) refl is.4
-              (tt, heads_lead o instrs selected (end + 1) to targets.value (omega (arith, b)) inside last.heads)) (rest.fine out inside);
+              (tt, heads_lead o instrs selected (end + 1) to targets (omega (arith, b)) inside last.heads)) (rest.fine out inside);
         }
     stmt_sits (OfRepeat counter condition statements) around stands leave from to typed bare is =
         let top = is.0 in let counted = is.1 in let begin = is.2 in let end = is.3 in
@@ -227,8 +227,8 @@ module _ (o : Object) (r : ℕ) (code : Code) (setting : Setting) (below : ℕ) 
         on_task_sits o r code setting around below stands leave instr.Terminate instr.TerminateOwn task from to (λ t. (tt, refl, refl)) (tt, refl, refl) is
     stmt_sits (OfPrevent task) around stands leave from to typed bare is =
         on_task_sits o r code setting around below stands leave instr.Prevent instr.PreventOwn task from to (λ t. (tt, refl, refl)) (tt, refl, refl) is
-    stmt_sits (OfRequest semaphores) around stands leave from to typed bare is = alone o instrs leave from to (instr.Request is.0) is.2 tt refl refl
-    stmt_sits (OfRelease semaphores) around stands leave from to typed bare is = alone o instrs leave from to (instr.Release is.0) is.2 tt refl refl
+    stmt_sits (OfRequest semaphores) around stands leave from to typed bare is = alone o instrs leave from to (instr.Request semaphores) is tt refl refl
+    stmt_sits (OfRelease semaphores) around stands leave from to typed bare is = alone o instrs leave from to (instr.Release semaphores) is tt refl refl
     stmt_sits (OfEnable interrupt) around stands leave from to typed bare is = alone o instrs leave from to (instr.Enable interrupt) is tt refl refl
     stmt_sits (OfDisable interrupt) around stands leave from to typed bare is = alone o instrs leave from to (instr.Disable interrupt) is tt refl refl
     stmt_sits (OfTrigger interrupt) around stands leave from to typed bare is = alone o instrs leave from to (instr.Trigger interrupt) is tt refl refl

@@ -24,7 +24,7 @@ use Rattle.pearl_meaning.specs.Setting.{Setting, params_of, variable_kind, sent_
 use Rattle.pearl_instructions.specs.declared.instr.Instr.{Instr}
 use Rattle.pearl_instructions.specs.declared.instr.Instr.TheVariants as instr
 use Rattle.pearl_instructions.specs.declared.object.Code.{Code}
-use Rattle.pearl_instructions.specs.declared.object.Object.{Object}
+use Rattle.pearl_instructions.specs.declared.object.Parts.{Parts as Object}
 use Rattle.pearl_instructions.specs.Objects.{result_of}
 use Rattle.pearl_instructions.specs.Operands.{Shape}
 use Rattle.pearl_instructions.specs.Valid.{result_shape}
@@ -103,7 +103,7 @@ module _ (o : Object) (r : ℕ) (code : Code) (setting : Setting) (below most ne
   stores_keep [] kind from c to typed are is = stays o r code from to [] is
   stores_keep (x ∷ xs) kind from c to typed are is =
       let two : from + 2 ≡ from + 1 + 1 = omega arith in
-      let one = const_keeps o r code from (quiet_at o r code whole from (instr.Const is.0.0) is.0.2 refl) is.0.0 kind [] is.0.2 (ap cell_kind_of is.0.1 ∙ literal_kind x kind typed.0) (omega (arith, room)) in
+      let one = const_keeps o r code from (quiet_at o r code whole from (instr.Const x) is.0 refl) x kind [] is.0 (literal_kind x kind typed.0) (omega (arith, room)) in
       let stored = store_keep c kind (from + 1) is.1 (at_first c kind (are 0 (omega arith))) in
       both_keep o r code from (from + 2) to [] [] []
       (then_one o r code from (from + 1) (from + 2) [] (Plain kind ∷ []) [] two one stored)

@@ -3,7 +3,7 @@ use Rattle.std.proofs.Common.{◌≡◌, ℕ, ◌+◌, ◌<◌, ◌≤◌, false
 use Rattle.std.specs.List.{AllByRecursion}
 use Rattle.std.proofs.lemmas.Option.{same_Some}
 use Rattle.pearl_instructions.specs.declared.instr.Instr.{Instr}
-use Rattle.pearl_instructions.specs.declared.object.Object.{Object}
+use Rattle.pearl_instructions.specs.declared.object.Parts.{Parts as Object}
 use Rattle.pearl_instructions.specs.Lawful.{IsInstr}
 use Rattle.pearl_instructions.specs.Valid.{targets}
 use Rattle.pearl_faithful.proofs.Places.{pushes, pushing_stays, Every, IsBare, LeadsWell, AllLead, nowhere, both, then_at, all_less}

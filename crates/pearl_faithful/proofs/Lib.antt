@@ -23,5 +23,8 @@ mod Setups
 mod Offering
 mod Answers
 mod Standing
+mod Picks
+mod Telling
 mod Runs
 mod Example
+pub mod Offered

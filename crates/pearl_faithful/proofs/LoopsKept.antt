@@ -1,7 +1,8 @@
 -- No rule of the validator fails in what stands in a loop beside its statements.
-use Rattle.std.proofs.Common.{◌≡◌, ℕ, ◌+◌, ◌<◌, ◌≤◌, List, [], ◌∷◌, Option, Some, None, slice_get, length, replicate, refl, sym, ap, ◌∙◌, subst, arith}
+use Rattle.std.proofs.Common.{◌≡◌, ℕ, ◌+◌, ◌<◌, ◌≤◌, pos, List, [], ◌∷◌, Option, Some, None, slice_get, length, replicate, refl, sym, ap, ◌∙◌, subst, arith}
 use Rattle.std.proofs.lemmas.Option.{same_Some}
 use Rattle.pearl_value.specs.declared.kind.Kind.{Kind}
+use Rattle.pearl_value.specs.declared.cell.Cell.TheVariants.{Fixed}
 use Rattle.pearl_value.specs.declared.kind.Kind.TheVariants as kind_
 use Rattle.pearl_value.specs.declared.kind.CellKind.TheVariants.{Plain}
 use Rattle.pearl_value.specs.Cells.{cell_kind_of}
@@ -13,7 +14,7 @@ use Rattle.pearl_meaning.specs.Setting.{Setting}
 use Rattle.pearl_instructions.specs.declared.instr.Instr.{Instr}
 use Rattle.pearl_instructions.specs.declared.instr.Instr.TheVariants as instr
 use Rattle.pearl_instructions.specs.declared.object.Code.{Code}
-use Rattle.pearl_instructions.specs.declared.object.Object.{Object}
+use Rattle.pearl_instructions.specs.declared.object.Parts.{Parts as Object}
 use Rattle.pearl_instructions.specs.Operands.{Shape}
 use Rattle.pearl_gen_expr.specs.ExprCode.{Is, ExprAt}
 use Rattle.pearl_gen_expr.specs.Shapes.{Keeps}
@@ -54,7 +55,7 @@ module _ (o : Object) (r : ℕ) (code : Code) (setting : Setting) (below most ne
       let two : to ≡ from + 1 + 1 = let last = is.4 in omega (arith, last) in
       let same : is.0 ≡ kind_.Fixed len = same_Some is.0 (kind_.Fixed len) (sym is.1 ∙ known) in
       then_one o r code from (from + 1) to [] (Plain (kind_.Fixed 31) ∷ []) (Plain (kind_.Fixed len) ∷ []) two
-      (const_keeps o r code from (quiet_at o r code whole from (instr.Const is.2.0) is.2.2 refl) is.2.0 (kind_.Fixed 31) [] is.2.2 (ap cell_kind_of is.2.1) (omega (arith, room)))
+      (const_keeps o r code from (quiet_at o r code whole from (instr.Const (Fixed 31 (pos 1))) is.2 refl) (Fixed 31 (pos 1)) (kind_.Fixed 31) [] is.2 refl (omega (arith, room)))
       (conv_keeps o r code (from + 1) (quiet_at o r code whole (from + 1) (instr.Conv is.0) is.3 refl) (kind_.Fixed 31) (kind_.Fixed len) []
       (subst (λ kind. Is instrs (from + 1) (instr.Conv kind)) same is.3) tt (omega (arith, room)))
   counted_keep counter len (Some e) from to known typed small is =

@@ -5,7 +5,7 @@ use Rattle.std.specs.List.{AllByRecursion, list_all, list_any}
 use Rattle.std.proofs.lemmas.Option.{same_Some, slice_get_within}
 use Rattle.pearl_instructions.specs.declared.instr.Instr.{Instr}
 use Rattle.pearl_instructions.specs.declared.instr.Instr.TheVariants.{Const, Load, Conv, Index, LoadAt, Read, ReadAt, RefSlot, RefSlotAt, RefCell, RefCellAt, ReadRef, Call, Within, NonZero, Monadic, Dyadic, Now, Try, Take, Turn}
-use Rattle.pearl_instructions.specs.declared.object.Object.{Object}
+use Rattle.pearl_instructions.specs.declared.object.Parts.{Parts as Object}
 use Rattle.pearl_instructions.specs.Objects.{result_of}
 use Rattle.pearl_instructions.specs.Valid.{targets, is_named}
 

@@ -15,7 +15,7 @@ use Rattle.pearl_gen_expr.specs.Tables.{code_entry}
 use Rattle.pearl_meaning.specs.Setting.{Setting}
 use Rattle.pearl_instructions.specs.declared.instr.Instr.{Instr}
 use Rattle.pearl_instructions.specs.declared.object.Code.{Code}
-use Rattle.pearl_instructions.specs.declared.object.Object.{Object}
+use Rattle.pearl_instructions.specs.declared.object.Parts.{Parts as Object}
 use Rattle.pearl_instructions.specs.Operands.{Shape}
 use Rattle.pearl_gen_expr.specs.ExprCode.{ExprAt}
 use Rattle.pearl_gen_expr.specs.Shapes.{Keeps, handed}
@@ -177,9 +177,9 @@ module _ (o : Object) (r : ℕ) (code : Code) (setting : Setting) (below most ne
       let urgent = priority_keep priority is.2 is.4 is.5 t typed.urgent (right o below most need g h rest) (omega (arith, sizes, one, two, long_one, long_two)) is.8 in
       let three = urgent.2 in
       let last : Goes is.5 (is.5 + 1) (urgent_shape is.2 urgent.0 t) [] =
-      activate_keeps o r code whole is.5 is.9 (record { task = task; start = is.0; repeat = is.1; priority = is.2 }) urgent.0 is.11 is.10 (task_there task typed.named) begun.1
+      activate_keeps o r code whole is.5 (record { task = task; start = is.0; repeat = is.1; priority = is.2 }) urgent.0 is.9 (task_there task typed.named) begun.1
       (omega (arith, room, sizes, one, two, three, long_one, long_two)) in
-      then_one o r code from is.5 to [] (urgent_shape is.2 urgent.0 t) [] is.12
+      then_one o r code from is.5 to [] (urgent_shape is.2 urgent.0 t) [] is.10
       (both_keep o r code from is.4 is.5 [] t (urgent_shape is.2 urgent.0 t)
       (both_keep o r code from is.3 is.4 [] s t begun.0.0 (subst (λ after. Goes is.3 is.4 s after) same again.0)) urgent.1) last
 
@@ -191,8 +191,8 @@ module _ (o : Object) (r : ℕ) (code : Code) (setting : Setting) (below most ne
       let few = plans.0.1 in
       let s = handed (map Plain (start_kinds (start_or_free is.0))) [] in
       let all = long (start_kinds (start_or_free is.0)) [] in
-      then_one o r code from is.1 to [] s [] is.6 plans.0.0
-      (continue_keeps o r code whole is.1 is.3 (record { task = task; once = is.0 }) is.5 is.4 (task_there task named) plans.1 (omega (arith, room, sizes, few, all)))
+      then_one o r code from is.1 to [] s [] is.4 plans.0.0
+      (continue_keeps o r code whole is.1 (record { task = task; once = is.0 }) is.3 (task_there task named) plans.1 (omega (arith, room, sizes, few, all)))
 
   pub resume_keep : (later : PlainOnce) (from to : ℕ) → IsOnce around later → Fit (λ z. of_once z later) → ResumeAt setting instrs from later to → Goes from to [] []
   resume_keep later from to typed small is =

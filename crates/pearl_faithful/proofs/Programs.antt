@@ -18,7 +18,7 @@ use Rattle.pearl_instructions.specs.declared.instr.Instr.TheVariants as instr
 use Rattle.pearl_instructions.specs.declared.object.Code.{Code}
 use Rattle.pearl_instructions.specs.declared.object.Procedure.{Procedure}
 use Rattle.pearl_instructions.specs.declared.object.Task.{Task}
-use Rattle.pearl_instructions.specs.declared.object.Object.{Object}
+use Rattle.pearl_instructions.specs.declared.object.Parts.{Parts as Object}
 use Rattle.pearl_instructions.specs.Objects.{routine_at, is_task, result_of}
 use Rattle.pearl_instructions.specs.Valid.{unsound_in, unsound, IsValid}
 use Rattle.pearl_gen_expr.specs.Tables.{Head, head_of, code_head, code_entry}

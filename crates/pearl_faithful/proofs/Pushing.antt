@@ -1,5 +1,5 @@
 -- Each instruction of an expression leaves an operand, and is one that an object may have.
-use Rattle.std.proofs.Common.{◌≡◌, ℕ, ◌⊎◌, inl, inr, true, List, [], ◌∷◌, Option, Some, slice_get, refl, sym, ap, ◌∙◌, subst}
+use Rattle.std.proofs.Common.{◌≡◌, ℕ, ◌⊎◌, inl, inr, true, List, [], ◌∷◌, Option, Some, slice_get, map, refl, sym, ap, ◌∙◌, subst}
 use Rattle.std.specs.Prelude.{is_some, option_map, option_and_then}
 use Rattle.std.specs.List.{AllByRecursion}
 use Rattle.std.proofs.lemmas.Option.{slice_get-map}
@@ -19,12 +19,12 @@ use Rattle.pearl_meaning.specs.Setting.{params_of}
 use Rattle.pearl_instructions.specs.declared.instr.Instr.{Instr}
 use Rattle.pearl_instructions.specs.declared.instr.Instr.TheVariants as instr
 use Rattle.pearl_instructions.specs.declared.object.Procedure.{Procedure}
-use Rattle.pearl_instructions.specs.declared.object.Object.{Object}
+use Rattle.pearl_instructions.specs.declared.object.Parts.{Parts as Object}
 use Rattle.pearl_instructions.specs.Lawful.{IsInstr}
 use Rattle.pearl_instructions.specs.Objects.{result_of}
 use Rattle.pearl_gen_expr.specs.Calls.{IsAroundIn}
 use Rattle.pearl_gen_expr.specs.Tables.{Head, head_of, code_head, HasTables}
-use Rattle.pearl_gen_expr.specs.ExprCode.{reading, slot_reference, cell_reference, OffsetOf, WayOf, ReadOf, ReferenceOf, ExprAt, AllAt, ArgumentsAt, ArgumentAt}
+use Rattle.pearl_gen_expr.specs.ExprCode.{reading, slot_reference, cell_reference, bounds_of, OffsetOf, WayOf, ReadOf, ReferenceOf, ExprAt, AllAt, ArgumentsAt, ArgumentAt}
 use Rattle.pearl_gen_expr.proofs.Offered.{each, signature_is, callee_of}
 use Rattle.pearl_faithful.proofs.Places.{pushes, Every, nowhere, at_one, both, then_at}
 
@@ -51,7 +51,7 @@ module _ (o : Object) (instrs : List Instr) (from : ℕ) (subscripts : ℕ → T
   pub offset_adds : (bounds : List Bound) (to : ℕ) → ((end : ℕ) → subscripts end → Every instrs (Adds o) from end) → OffsetOf instrs from bounds subscripts to →
       Every instrs (Adds o) from to
   offset_adds [] to on is = nowhere instrs (Adds o) from to is
-  offset_adds (bound ∷ bounds) to on is = then_at instrs (Adds o) from is.0 to (instr.Index is.2.0) (on is.0 is.1) is.3 is.2.2 (refl, tt)
+  offset_adds (bound ∷ bounds) to on is = then_at instrs (Adds o) from is.0 to (instr.Index (map bounds_of (bound ∷ bounds))) (on is.0 is.1) is.3 is.2 (refl, tt)
 
   pub way_adds : (target : Target) (bounds : List Bound) (to : ℕ) → ((end : ℕ) → subscripts end → Every instrs (Adds o) from end) → WayOf instrs from target bounds subscripts to →
       Every instrs (Adds o) from to
@@ -111,7 +111,7 @@ module _ (p : PlainProg) (o : Object) (instrs : List Instr) (around : Around) (s
   mutual
     pub expr_adds : (e : PlainExpr) (kind : Kind) (from to : ℕ) → HasKind around e kind → ExprAt p instrs from e to → Adding from to
     expr_adds (OfLiteral value) kind from to typed is =
-        at_one instrs (Adds o) from to (instr.Const is.0.0) is.1 is.0.2 (refl, subst IsValue (sym is.0.1) typed.is_value)
+        at_one instrs (Adds o) from to (instr.Const value) is.1 is.0 (refl, typed.is_value)
     expr_adds (OfRead (OfVariable target bounds subscripts)) kind from to typed is =
         read_with target bounds subscripts kind from to (λ are end at. subscripts_add subscripts bounds from end are at) typed is
     expr_adds (OfMonadic op operand) kind from to typed is =

@@ -14,7 +14,7 @@ use Rattle.pearl_meaning.specs.Setting.{Setting}
 use Rattle.pearl_instructions.specs.declared.instr.Instr.{Instr}
 use Rattle.pearl_instructions.specs.declared.object.Shape.{Shape as Stated}
 use Rattle.pearl_instructions.specs.declared.object.Code.{Code}
-use Rattle.pearl_instructions.specs.declared.object.Object.{Object}
+use Rattle.pearl_instructions.specs.declared.object.Parts.{Parts as Object}
 use Rattle.pearl_instructions.specs.Lawful.{IsInstr}
 use Rattle.pearl_instructions.specs.Objects.{routine_at, is_task}
 use Rattle.pearl_instructions.specs.Valid.{goes_on, targets, keep, is_closed, judged_whole, judged_at, unsound_in, unsound}

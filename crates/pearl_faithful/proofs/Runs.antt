@@ -1,47 +1,59 @@
 -- An object runs as its program means.
-use Rattle.std.proofs.Common.{◌≡◌, ℕ, ◌+◌, ◌*◌, ◌≤◌, List, None, length, map, sym, ap, ◌∙◌, subst}
+use Rattle.std.proofs.Common.{◌≡◌, ℕ, ◌+◌, ◌*◌, ◌≤◌, List, Some, None, option_map, length, map, sym, ap, ap₂, ◌∙◌, subst}
 use Rattle.std.proofs.lemmas.List.{length-map}
 use Rattle.pearl_rules.specs.declared.entry.Entry.{Entry}
 use Rattle.pearl_rules.specs.Runs as runs
-use Rattle.pearl_rules.specs.Runs.{source_next, source_offers, told_at_end}
+use Rattle.pearl_rules.specs.Runs.{source_next, source_offers}
 use Rattle.pearl_rules.specs.Entries.{AreFitting}
 use Rattle.pearl_rules.specs.Faithful.{Alone, Soon, IsFaithful}
 use Rattle.pearl_rules.specs.Laws.{Comes, EndsSoon}
-use Rattle.pearl_rules.proofs.Offered.{faithful, ends_soon, has_kinds, ends_alike, first_end, source_ends}
+use Rattle.pearl_rules.proofs.Offered.{faithful, ends_soon, has_kinds, first_end, source_ends}
 use Rattle.pearl_program.specs.PlainPrograms.{PlainProg}
 use Rattle.pearl_program.specs.Sound.{IsSound}
-use Rattle.pearl_instructions.specs.declared.object.Object.{Object}
+use Rattle.pearl_instructions.specs.declared.object.Parts.{Parts as Object}
 use Rattle.pearl_instructions.specs.Lawful.{IsObject}
 use Rattle.pearl_instructions.specs.Valid.{IsValid}
 use Rattle.pearl_meaning.specs.Programs.{offer}
+use Rattle.pearl_meaning.specs.ProgramRuns as program
+use Rattle.pearl_meaning.specs.ProgramRuns.{source_run}
 use Rattle.pearl_instructions.specs.Setups.{entry_of, setup_of}
-use Rattle.pearl_instructions.specs.Engines.{engine, total_rows, marked}
+use Rattle.pearl_instructions.specs.Engines.{engine, total_rows, machine_run, marked}
 use Rattle.pearl_instructions.specs.Owners.{rows_left}
 use Rattle.pearl_instructions.specs.RunLaws.{AreTables}
 use Rattle.pearl_gen_stmt.specs.Generated.{IsGenerated}
-use Rattle.pearl_faithful.specs.Laws.{SameRuns, TasksStand, TasksOfferSoon, FaithfulPrograms, ObjectsFinish, ObjectsKeepKinds, ObjectsRun, ObjectsEndAlike}
+use Rattle.pearl_faithful.specs.Said.{said, without_formats}
+use Rattle.pearl_faithful.specs.Faithful.{RunsAlike, Makes}
+use Rattle.pearl_faithful.specs.Laws.{SameRuns, TasksStand, TasksOfferSoon, FaithfulPrograms, SameActions, ObjectsFinish, ObjectsKeepKinds}
 use Rattle.pearl_faithful.specs.Standing.{Stands}
 use Rattle.pearl_faithful.proofs.Setups.{same_setups}
+use Rattle.pearl_faithful.proofs.Telling.{end_alike}
 
 pub same_runs : SameRuns
 same_runs p o tables es m = ap (λ setup. runs.source_run (offer p) setup es m) (same_setups p o tables)
 
-pub runs_alike : ObjectsRun
-runs_alike p o is es fit n = record {
-  same_core = is.runs.same_core es fit n ∙ ap (λ setup. (runs.source_run (offer p) setup es (marked o es n)).core) is.tables;
-  same_entries = is.runs.same_entries es fit n ∙ ap (λ setup. (runs.source_run (offer p) setup es (marked o es n)).entries) is.tables;
-  same_offers = λ none t. is.runs.all_offers es fit n none t
-      ∙ ap (λ setup. source_offers (offer p) (runs.source_run (offer p) setup es (marked o es n)) t) is.tables;
-}
+-- code that offers the program's very actions runs as it does
+module _ (p : PlainProg) (o : Object) (same : setup_of o ≡ program.setup_of p)
+    (is : IsFaithful (offer p) (engine o) (setup_of o) (length o.tasks) (total_rows o)) (es : List Entry) (fit : AreFitting (setup_of o) es) where
+  source_same : (m : ℕ) → runs.source_run (offer p) (setup_of o) es m ≡ source_run p es m
+  source_same m = ap (λ setup. runs.source_run (offer p) setup es m) same
 
-pub end_alike : ObjectsEndAlike
-end_alike p o is es fit n has_ended =
-    let alike = ends_alike (offer p) (engine o) (setup_of o) (length o.tasks) (total_rows o) is.runs es fit n has_ended in
-    record {
-      ended = subst (λ setup. source_next (offer p) (runs.source_run (offer p) setup es (marked o es n)) ≡ None) is.tables alike.ended;
-      same_told = alike.same_told
-          ∙ ap (λ setup. let s = runs.source_run (offer p) setup es (marked o es n) in told_at_end s.core (source_offers (offer p) s)) is.tables;
-    }
+  runs_alike : (n : ℕ) → RunsAlike p o es n
+  runs_alike n =
+      let source = source_same (marked o es n) in
+      let core : (machine_run o es n).core ≡ (source_run p es (marked o es n)).core = is.same_core es fit n ∙ ap (λ s. s.core) source in record {
+        same_core = ap without_formats core;
+        same_entries = is.same_entries es fit n ∙ ap (λ s. s.entries) source;
+        same_offers = λ t action offered.
+            ap (option_map (said (source_run p es (marked o es n)).core)) (sym (ap (λ s. source_offers (offer p) s t) source) ∙ is.same_offers es fit n t action offered)
+            ∙ ap (λ c. Some (said c action)) (sym core);
+        all_offers = λ settled t.
+            ap₂ (λ c o. option_map (said c) o) core (is.all_offers es fit n settled t ∙ ap (λ s. source_offers (offer p) s t) source);
+      }
+
+  makes : (m : ℕ) → Comes (offer p) (program.setup_of p) es m → Makes o es m
+  makes m comes =
+      let made = is.goes_on es fit m (subst (λ setup. Comes (offer p) setup es m) (sym same) comes) in
+      record { steps = made.0; within = made.1; made = made.2 }
 
 module _ (tables : AreTables) (stand : TasksStand) (offer_soon : TasksOfferSoon)
     (p : PlainProg) (o : Object) (sound : IsSound p) (generated : IsGenerated p o) (lawful : IsObject o) (valid : IsValid o) where
@@ -64,9 +76,24 @@ module _ (tables : AreTables) (stand : TasksStand) (offer_soon : TasksOfferSoon)
   comes_to_its_end es fit m comes none = subst (λ count. EndsSoon (engine o) (setup_of o) es m ((m + 1) * (count * total_rows o + 1))) count
       (ends_soon (offer p) (engine o) (Stands p o) (λ t frames. rows_left o frames) (setup_of o) (total_rows o) (tables o lawful).slots (tables o lawful).devices alone soon es fit m comes none)
 
+pub same_actions : AreTables → TasksStand → TasksOfferSoon → SameActions
+same_actions = runs_faithfully
+
 pub faithful_programs : AreTables → TasksStand → TasksOfferSoon → FaithfulPrograms
 faithful_programs tables stand soon p o sound generated lawful valid =
-    record { tables = same_setups p o generated.tables; runs = runs_faithfully tables stand soon p o sound generated lawful valid }
+    let same = same_setups p o generated.tables in
+    let is = runs_faithfully tables stand soon p o sound generated lawful valid in record {
+      lawful = lawful;
+      valid = valid;
+      tables = record {
+        tasks = generated.tables.tasks;
+        leaves = generated.tables.leaves;
+        semaphores = generated.tables.semaphores;
+        devices = generated.tables.devices;
+      };
+      runs = runs_alike p o same is;
+      goes_on = makes p o same is;
+    }
 
 pub objects_finish : AreTables → TasksStand → TasksOfferSoon → ObjectsFinish
 objects_finish tables stand soon p o sound generated lawful valid es fit =

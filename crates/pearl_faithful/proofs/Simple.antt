@@ -24,7 +24,7 @@ use Rattle.pearl_instructions.specs.declared.schedule.RepeatForm.{RepeatForm}
 use Rattle.pearl_instructions.specs.declared.instr.Instr.{Instr}
 use Rattle.pearl_instructions.specs.declared.instr.Instr.TheVariants as instr
 use Rattle.pearl_instructions.specs.declared.object.Code.{Code}
-use Rattle.pearl_instructions.specs.declared.object.Object.{Object}
+use Rattle.pearl_instructions.specs.declared.object.Parts.{Parts as Object}
 use Rattle.pearl_instructions.specs.Lawful.{IsInstr}
 use Rattle.pearl_instructions.specs.Objects.{result_of}
 use Rattle.pearl_instructions.specs.Valid.{targets}
@@ -148,7 +148,7 @@ module _ (o : Object) (r : ℕ) (code : Code) (setting : Setting) (around : Arou
     stores_sit [] kind from cell to typed bare is = nothing_sits o instrs leave from to bare is
     stores_sit (x ∷ xs) kind from cell to typed bare is =
         let one = ends from (from + 1) (from + 2) (instr.Store cell)
-        (then_piece from from (from + 1) (instr.Const is.0.0) (none_piece from from refl) refl is.0.2 (refl, subst IsValue (sym is.0.1) typed.0.is_value)) (omega arith) is.1 (tt, refl, refl) in
+        (then_piece from from (from + 1) (instr.Const x) (none_piece from from refl) refl is.0 (refl, typed.0.is_value)) (omega arith) is.1 (tt, refl, refl) in
         both_sit o instrs leave from (from + 2) to one (stores_sit xs kind (from + 2) (cell + 1) to typed.1 one.bare is.2)
 
     repeats_sit : (more from cell to : ℕ) → IsBare instrs o from → RepeatsAt setting instrs from cell more to → Sitting from to
@@ -226,13 +226,14 @@ module _ (o : Object) (r : ℕ) (code : Code) (setting : Setting) (around : Arou
     pub activate_sits : (task : ℕ) (start : Option PlainStart) (period : Option PlainPeriod) (priority : Option PlainExpr) (from to : ℕ) → IsActivate around task start period priority →
         ActivateAt setting code.instructions from task start period priority to → Sitting from to
     activate_sits task start period priority from to typed is =
-        ends from is.5 to (instr.Activate is.9)
+        ends from is.5 to (instr.Activate (record { task = task; start = is.0; repeat = is.1; priority = is.2 }))
         (both_piece from is.3 is.5 (when_piece start is.0 from is.3 typed.starts is.6)
         (both_piece is.3 is.4 is.5 (period_piece period is.1 is.3 is.4 typed.repeats is.7) (priority_piece priority is.2 is.4 is.5 typed.urgent is.8)))
-        is.12 is.11 (tt, refl, refl)
+        is.10 is.9 (tt, refl, refl)
 
     pub continue_sits : (task : ℕ) (once : Option PlainOnce) (from to : ℕ) → IsIf (IsOnce around) once → ContinueAt setting code.instructions from task once to → Sitting from to
-    continue_sits task once from to typed is = ends from is.1 to (instr.Continue is.3) (maybe_later_piece once is.0 from is.1 typed is.2) is.6 is.5 (tt, refl, refl)
+    continue_sits task once from to typed is =
+        ends from is.1 to (instr.Continue (record { task = task; once = is.0 })) (maybe_later_piece once is.0 from is.1 typed is.2) is.4 is.3 (tt, refl, refl)
 
     pub resume_sits : (once : PlainOnce) (from to : ℕ) → IsOnce around once → ResumeAt setting code.instructions from once to → Sitting from to
     resume_sits once from to typed is = ends from is.1 to (instr.Resume is.0) (later_piece once is.0 from is.1 typed is.2) is.4 is.3 (tt, refl, refl)

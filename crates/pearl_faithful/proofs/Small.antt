@@ -2,7 +2,7 @@
 use Rattle.std.specs.Prelude.{ℕ, ◌≤◌, max}
 use Rattle.std.proofs.Common.{arith}
 use Rattle.pearl_program.specs.Weights.{Sizes, calls, values, callees}
-use Rattle.pearl_instructions.specs.declared.object.Object.{Object}
+use Rattle.pearl_instructions.specs.declared.object.Parts.{Parts as Object}
 use Rattle.pearl_gen_expr.specs.Shapes.{depths}
 
 -- smaller procedures than this one are called, none of them states a greater depth than `most`, and there are at most so many values

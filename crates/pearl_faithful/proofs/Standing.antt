@@ -3,17 +3,16 @@ use Rattle.std.proofs.Common.{◌≡◌, ◌⊎◌, inl, inr, ℕ, ◌<◌, List
 use Rattle.std.proofs.lemmas.List.{length-map}
 use Rattle.std.proofs.lemmas.Option.{slice_get-get_or}
 use Rattle.pearl_rules.specs.declared.action.Action.{Action}
-use Rattle.pearl_rules.specs.declared.action.Action.TheVariants.{End}
 use Rattle.pearl_rules.specs.declared.action.Answer.{Answer}
 use Rattle.pearl_rules.specs.Runs as runs
 use Rattle.pearl_rules.specs.Slots as rules
 use Rattle.pearl_stack.specs.Frames.{Frame}
 use Rattle.pearl_program.specs.PlainPrograms.{PlainProg}
 use Rattle.pearl_program.specs.Sound.{IsSound}
-use Rattle.pearl_instructions.specs.declared.object.Object.{Object}
+use Rattle.pearl_instructions.specs.declared.object.Parts.{Parts as Object}
 use Rattle.pearl_instructions.specs.Lawful.{IsObject}
 use Rattle.pearl_instructions.specs.Rows.{row, after}
-use Rattle.pearl_instructions.specs.Steps.{Offers, Missing}
+use Rattle.pearl_instructions.specs.Steps.{Silent, Offers, Missing}
 use Rattle.pearl_instructions.specs.Valid.{IsValid}
 use Rattle.pearl_meaning.specs.Programs.{offer}
 use Rattle.pearl_meaning.specs.ProgramRuns as program
@@ -46,8 +45,13 @@ module _ (p : PlainProg) (o : Object) (sound : IsSound p) (generated : IsGenerat
   goes law t heard frames next stands e = record {
     own = law o t frames next valid lawful stands.own e;
     can = stands.can;
-    offers = λ more can. offers_next o frames next more (offer p t (heard ++ more)) (silent_is (row o frames) next e) (stands.offers more can);
+    offers = λ more can. by (heard ++ more) more (stands.offers more can) (silent_is (row o frames) next e);
   }
+    where
+      by : (all more : List Answer) → OffersAfter o frames more (offer p t all) → (row o frames ≡ Silent next) ⊎ ((row o frames ≡ Missing) × (next ≡ [])) →
+          OffersAfter o next more (offer p t all)
+      by all more comes (inl same) = offers_next o frames next more (offer p t all) same comes
+      by all more comes (inr none) = absurd (offers_somewhere o frames more (offer p t all) none.0 comes)
 
   -- the row at which an action is offered, which is what the task does next
   record Offering (t : ℕ) (heard : List Answer) (frames : List Frame) (action : Action) : Type 0 where
@@ -57,15 +61,11 @@ module _ (p : PlainProg) (o : Object) (sound : IsSound p) (generated : IsGenerat
 
   offering : (t : ℕ) (heard : List Answer) (frames : List Frame) (action : Action) → Stands p o t heard frames →
       (engine o).step t frames ≡ runs.Offers action → Offering t heard frames action
-  offering t heard frames action stands e = by (offers_is (row o frames) action e)
-    where
-      now : OffersAfter o frames [] (offer p t heard)
-      now = subst (λ answers. OffersAfter o frames [] (offer p t answers)) (append-nil heard)
-          (stands.offers [] (subst (λ answers. Heard p t answers) (sym (append-nil heard)) stands.can))
-
-      by : ((go : Answer → List Frame) × (row o frames ≡ Offers action go)) ⊎ ((row o frames ≡ Missing) × (action ≡ End)) → Offering t heard frames action
-      by (inl found) = record { go = found.0; here = found.1; meant = offers_now o frames action found.0 (offer p t heard) found.1 now }
-      by (inr missing) = absurd (offers_somewhere o frames [] (offer p t heard) missing.0 now)
+  offering t heard frames action stands e =
+      let found = offers_is (row o frames) action e in
+      let now : OffersAfter o frames [] (offer p t heard) = subst (λ answers. OffersAfter o frames [] (offer p t answers)) (append-nil heard)
+      (stands.offers [] (subst (λ answers. Heard p t answers) (sym (append-nil heard)) stands.can)) in
+      record { go = found.0; here = found.1; meant = offers_now o frames action found.0 (offer p t heard) found.1 now }
 
   answered : GoesOnAfter → OffersWhatIsThere → HearsWhatSuits → (t : ℕ) (heard : List Answer) (frames : List Frame) (action : Action) (answer : Answer) →
       Stands p o t heard frames → (engine o).step t frames ≡ runs.Offers action → rules.Suits (setup_of o) t action answer →

@@ -11,7 +11,7 @@ use Rattle.pearl_meaning.specs.Setting.{Setting}
 use Rattle.pearl_instructions.specs.declared.instr.Instr.{Instr}
 use Rattle.pearl_instructions.specs.declared.instr.Instr.TheVariants as instr
 use Rattle.pearl_instructions.specs.declared.object.Code.{Code}
-use Rattle.pearl_instructions.specs.declared.object.Object.{Object}
+use Rattle.pearl_instructions.specs.declared.object.Parts.{Parts as Object}
 use Rattle.pearl_instructions.specs.Valid.{is_semaphore_list}
 use Rattle.pearl_gen_expr.specs.Shapes.{Keeps}
 use Rattle.pearl_gen_expr.proofs.Offered.{both_keep, then_one, just_one}
@@ -83,7 +83,7 @@ module _ (o : Object) (r : ℕ) (code : Code) (setting : Setting) (below most ne
         both_keep o r code from (selected + 1) to [] [] [] test
         (both_keep o r code (selected + 1) end to [] [] [] (stmts_keep otherwise around stands leave (selected + 1) end typed.2 (second o below most need g h more) is.5)
         (both_keep o r code end (end + 1) to [] [] [] (jump_keeps o r code whole end to is.6 (omega (arith, room)))
-        (branches_keep alternatives around stands leave (end + 1) targets.value to typed.1 (first o below most need g h more) is.7)))
+        (branches_keep alternatives around stands leave (end + 1) targets to typed.1 (first o below most need g h more) is.7)))
     stmt_keeps (OfRepeat counter condition statements) around stands leave from to typed small is =
         let top = is.0 in let counted = is.1 in let begin = is.2 in let end = is.3 in
         let inner = within_loop o r code setting around below counter stands in
@@ -113,13 +113,11 @@ module _ (o : Object) (r : ℕ) (code : Code) (setting : Setting) (below most ne
         on_task_keeps instr.Prevent instr.PreventOwn around stands task from to typed (λ t there at. prevent_keeps o r code whole from t at there (omega (arith, room)))
         (λ at. prevent_own_keeps o r code whole from at (omega (arith, room))) is
     stmt_keeps (OfRequest semaphores) around stands leave from to typed small is =
-        alone from to is.2.1 (request_keeps o r code whole from is.0 is.2.0
-        (subst (λ ns. is_semaphore_list ns ≡ true) (sym is.1) (semaphore_list semaphores typed.some typed.few typed.distinct))
-        (subst (λ ns. AllByRecursion (λ n. n < length o.semaphores) ns) (sym is.1) (semaphores_there around stands semaphores typed.there)) (omega (arith, room)))
+        alone from to is.1 (request_keeps o r code whole from semaphores is.0 (semaphore_list semaphores typed.some typed.few typed.distinct)
+        (semaphores_there around stands semaphores typed.there) (omega (arith, room)))
     stmt_keeps (OfRelease semaphores) around stands leave from to typed small is =
-        alone from to is.2.1 (release_keeps o r code whole from is.0 is.2.0
-        (subst (λ ns. is_semaphore_list ns ≡ true) (sym is.1) (semaphore_list semaphores typed.some typed.few typed.distinct))
-        (subst (λ ns. AllByRecursion (λ n. n < length o.semaphores) ns) (sym is.1) (semaphores_there around stands semaphores typed.there)) (omega (arith, room)))
+        alone from to is.1 (release_keeps o r code whole from semaphores is.0 (semaphore_list semaphores typed.some typed.few typed.distinct)
+        (semaphores_there around stands semaphores typed.there) (omega (arith, room)))
     stmt_keeps (OfEnable interrupt) around stands leave from to typed small is =
         alone from to is.1 (enable_keeps o r code whole from interrupt is.0 (interrupt_there o r code setting below most need whole room around stands interrupt typed) (omega (arith, room)))
     stmt_keeps (OfDisable interrupt) around stands leave from to typed small is =

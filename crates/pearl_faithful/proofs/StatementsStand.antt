@@ -21,7 +21,7 @@ use Rattle.pearl_program.specs.Sound.{IsLeaf, IsCellKind}
 use Rattle.pearl_rules.specs.Tables.{output_kind}
 use Rattle.pearl_meaning.specs.Setting.{Setting, plain_kind, referred_kind, cell_kind, variable_kind, sent_kind}
 use Rattle.pearl_instructions.specs.declared.object.Code.{Code}
-use Rattle.pearl_instructions.specs.declared.object.Object.{Object}
+use Rattle.pearl_instructions.specs.declared.object.Parts.{Parts as Object}
 use Rattle.pearl_instructions.specs.Objects.{is_task, result_of}
 use Rattle.pearl_gen_expr.specs.Shapes.{IsPlaced}
 use Rattle.pearl_gen_expr.proofs.Offered.{each, first_is_plain, some_elements}

@@ -1,5 +1,5 @@
 -- No rule of the validator fails at the instructions of statements, where the operands have the kinds that are needed.
-use Rattle.std.proofs.Common.{◌≡◌, ℕ, zero, suc, ◌+◌, ◌<◌, ◌≤◌, Bool, true, false, List, [], ◌∷◌, ◌++◌, Option, Some, None, slice_get, length, replicate, refl, sym, ap, ◌∙◌, arith, le-leb, lt-ltb, eq-eqb, eqb-true, Box, Global}
+use Rattle.std.proofs.Common.{◌≡◌, ℕ, zero, suc, ◌+◌, ◌<◌, ◌≤◌, Bool, true, false, List, [], ◌∷◌, ◌++◌, Option, Some, None, slice_get, length, replicate, refl, sym, ap, ◌∙◌, arith, le-leb, lt-ltb, eq-eqb, eqb-true}
 use Rattle.std.specs.Prelude.{◌&&◌, ◌||◌, ◌==◌, not, nat_lt, nat_le, nat_eq, option_to_list, take, drop}
 use Rattle.std.specs.List.{AllByRecursion, IsDistinct, list_all}
 use Rattle.pearl_value.specs.declared.kind.Kind.{Kind}
@@ -12,7 +12,7 @@ use Rattle.pearl_value.specs.declared.device.Device.TheVariants.{Input, Output}
 use Rattle.pearl_instructions.specs.declared.instr.Instr.{Instr}
 use Rattle.pearl_instructions.specs.declared.instr.Instr.TheVariants as instr
 use Rattle.pearl_instructions.specs.declared.object.Code.{Code}
-use Rattle.pearl_instructions.specs.declared.object.Object.{Object}
+use Rattle.pearl_instructions.specs.declared.object.Parts.{Parts as Object}
 use Rattle.pearl_instructions.specs.Objects.{is_task, result_of}
 use Rattle.pearl_instructions.specs.Operands.{Shape, v2, result_asked, same_shape}
 use Rattle.pearl_instructions.specs.Named.{has_cells, cells_at, is_interrupt, is_input, is_output}
@@ -145,7 +145,7 @@ module _ (o : Object) (r : ℕ) (code : Code) (whole : IsWhole o code) (place : 
         twelve = refl;
       }) refl
 
-  pub case_keeps : (list : Box (Listing ℕ) Global) (len : ℕ) → Here (instr.Case list) → HasFor (Plain (kind_.Fixed len) ∷ []) → Passes (Plain (kind_.Fixed len) ∷ []) []
+  pub case_keeps : (list : List ℕ) (len : ℕ) → Here (instr.Case list) → HasFor (Plain (kind_.Fixed len) ∷ []) → Passes (Plain (kind_.Fixed len) ∷ []) []
   case_keeps list len is room = bare_keeps o r code whole place (instr.Case list) (Plain (kind_.Fixed len) ∷ []) is
       (record {
         one = each_inside o r code whole place (instr.Case list) is;
@@ -294,11 +294,11 @@ module _ (o : Object) (r : ℕ) (code : Code) (whole : IsWhole o code) (place : 
 
   -- SEMAPHORES
 
-  pub request_keeps : (list : Box (Listing ℕ) Global) → Here (instr.Request list) → is_semaphore_list list.value ≡ true → AllByRecursion (λ s. s < length o.semaphores) list.value → HasFor [] →
+  pub request_keeps : (list : List ℕ) → Here (instr.Request list) → is_semaphore_list list ≡ true → AllByRecursion (λ s. s < length o.semaphores) list → HasFor [] →
       Passes [] []
   request_keeps list is fine there room = bare_keeps o r code whole place (instr.Request list) [] is
       (record {
-        one = all_small list.value (length o.semaphores) there;
+        one = all_small list (length o.semaphores) there;
         two = refl;
         three = refl;
         four = refl;
@@ -309,11 +309,11 @@ module _ (o : Object) (r : ℕ) (code : Code) (whole : IsWhole o code) (place : 
         twelve = fine;
       }) refl
 
-  pub release_keeps : (list : Box (Listing ℕ) Global) → Here (instr.Release list) → is_semaphore_list list.value ≡ true → AllByRecursion (λ s. s < length o.semaphores) list.value → HasFor [] →
+  pub release_keeps : (list : List ℕ) → Here (instr.Release list) → is_semaphore_list list ≡ true → AllByRecursion (λ s. s < length o.semaphores) list → HasFor [] →
       Passes [] []
   release_keeps list is fine there room = bare_keeps o r code whole place (instr.Release list) [] is
       (record {
-        one = all_small list.value (length o.semaphores) there;
+        one = all_small list (length o.semaphores) there;
         two = refl;
         three = refl;
         four = refl;

@@ -21,7 +21,7 @@ use Rattle.pearl_instructions.specs.declared.object.Shape.{Shape as Stated}
 use Rattle.pearl_instructions.specs.declared.object.Code.{Code}
 use Rattle.pearl_instructions.specs.declared.object.Procedure.{Procedure}
 use Rattle.pearl_instructions.specs.declared.object.Task.{Task}
-use Rattle.pearl_instructions.specs.declared.object.Object.{Object}
+use Rattle.pearl_instructions.specs.declared.object.Parts.{Parts as Object}
 use Rattle.pearl_instructions.specs.Lawful.{IsCellKind, IsPlain, IsLeaf, IsInstr, AreRising, IsCode, IsProcedure, IsTask, IsObject}
 use Rattle.pearl_gen_expr.specs.Tables.{plain_leaf, Head, head_of, code_head, code_entry}
 use Rattle.pearl_gen_expr.proofs.Offered.{each}

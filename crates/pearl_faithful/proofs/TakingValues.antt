@@ -1,5 +1,5 @@
 -- No rule of the validator fails at instructions that take the values of a schedule or of a format.
-use Rattle.std.proofs.Common.{◌≡◌, ℕ, zero, suc, ◌+◌, ◌<◌, Bool, true, false, List, [], ◌∷◌, ◌++◌, Some, slice_get, length, replicate, map, refl, sym, ap, ◌∙◌, subst, arith, le-leb, lt-ltb, Box, Global}
+use Rattle.std.proofs.Common.{◌≡◌, ℕ, zero, suc, ◌+◌, ◌<◌, Bool, true, false, List, [], ◌∷◌, ◌++◌, Some, slice_get, length, replicate, map, refl, sym, ap, ◌∙◌, subst, arith, le-leb, lt-ltb}
 use Rattle.std.specs.Prelude.{◌&&◌, ◌||◌, not, nat_lt, nat_le, is_some, option_map, take, drop, reverse}
 use Rattle.std.specs.List.{list_all}
 use Rattle.std.proofs.lemmas.List.{drop_all, length-reverse, length-map, length-replicate, length-take, length-drop}
@@ -20,7 +20,7 @@ use Rattle.pearl_instructions.specs.declared.instr.Reading.{Reading}
 use Rattle.pearl_instructions.specs.declared.instr.Instr.{Instr}
 use Rattle.pearl_instructions.specs.declared.instr.Instr.TheVariants as instr
 use Rattle.pearl_instructions.specs.declared.object.Code.{Code}
-use Rattle.pearl_instructions.specs.declared.object.Object.{Object}
+use Rattle.pearl_instructions.specs.declared.object.Parts.{Parts as Object}
 use Rattle.pearl_instructions.specs.Objects.{items_at}
 use Rattle.pearl_instructions.specs.Offers.{as_start, start_or_free, start_kinds, repeat_kinds, takes_kind, item_suits, items_suit}
 use Rattle.pearl_instructions.specs.Opcodes.{Anything, Exactly, scheduled, priority_asked}
@@ -181,16 +181,16 @@ module _ (o : Object) (r : ℕ) (code : Code) (whole : IsWhole o code) (place : 
       or_is (nat_le (suc n) 0) (has_cells code c (suc n))
       (and_is (nat_lt 0 (suc n)) (nat_le (c + suc n) (length code.cells)) (lt-ltb 0 (suc n) (omega arith)) (le-leb (c + suc n) (length code.cells) (omega (arith, long, taken, dropped))))
 
-  pub get_keeps : (g : Box Reading Global) (items : List Item) (kinds : List Kind) → Here (instr.Get g) → gives_texts (slice_get o.devices g.value.device) ≡ true →
-      slice_get o.formats g.value.format ≡ Some items → FitsFormat items kinds → take (length kinds) (drop g.value.first code.cells) ≡ map Plain kinds → Room [] → Passes [] []
+  pub get_keeps : (g : Reading) (items : List Item) (kinds : List Kind) → Here (instr.Get g) → gives_texts (slice_get o.devices g.device) ≡ true →
+      slice_get o.formats g.format ≡ Some items → FitsFormat items kinds → take (length kinds) (drop g.first code.cells) ≡ map Plain kinds → Room [] → Passes [] []
   get_keeps g items kinds is texts there fits are room =
-      let c = g.value.first in
+      let c = g.first in
       let count : length kinds ≡ data_count items = suits-length items kinds fits.suits in
       let cells : take (data_count items) (drop c code.cells) ≡ map Plain kinds = subst (λ n. take n (drop c code.cells) ≡ map Plain kinds) count are in
       let long : length (take (data_count items) (drop c code.cells)) ≡ data_count items = ap length cells ∙ (length-map kinds Plain ∙ count) in
       bare_keeps o r code whole place (instr.Get g) [] is
       (record {
-        one = and_is (gives_texts (slice_get o.devices g.value.device)) _ texts (ap (λ found. has_read_cells code c found) there ∙ cells_for c (data_count items) long);
+        one = and_is (gives_texts (slice_get o.devices g.device)) _ texts (ap (λ found. has_read_cells code c found) there ∙ cells_for c (data_count items) long);
         two = refl;
         three = refl;
         four = refl;
@@ -202,15 +202,14 @@ module _ (o : Object) (r : ℕ) (code : Code) (whole : IsWhole o code) (place : 
             ∙ (ap (suits_format items) (all_plain kinds) ∙ fits_format items kinds fits));
       }) refl
 
-  pub activate_keeps : (a : Box Activation Global) (value : Activation) (len : ℕ) → Here (instr.Activate a) → a.value ≡ value → value.task < length o.tasks → names_interrupt o value.start ≡ true →
+  pub activate_keeps : (value : Activation) (len : ℕ) → Here (instr.Activate value) → value.task < length o.tasks → names_interrupt o value.start ≡ true →
       Room (urgent_shape value.priority len (handed (map Plain (activation_kinds value)) [])) → Passes (urgent_shape value.priority len (handed (map Plain (activation_kinds value)) [])) []
-  activate_keeps a value len is same task names room =
+  activate_keeps value len is task names room =
       let s = urgent_shape value.priority len (handed (map Plain (activation_kinds value)) []) in
-      bare_keeps o r code whole place (instr.Activate a) s is
+      bare_keeps o r code whole place (instr.Activate value) s is
       (record {
-        one = ap (λ (v : Activation). nat_lt v.task (length o.tasks) && names_interrupt o v.start) same
-            ∙ and_is (nat_lt value.task (length o.tasks)) (names_interrupt o value.start) (lt-ltb value.task (length o.tasks) task) names;
-        two = ap (λ (v : Activation). v2 (priority_asked v.priority ++ scheduled (activation_kinds v)) s) same ∙ urgent_asked value.priority len (activation_kinds value);
+        one = and_is (nat_lt value.task (length o.tasks)) (names_interrupt o value.start) (lt-ltb value.task (length o.tasks) task) names;
+        two = urgent_asked value.priority len (activation_kinds value);
         three = refl;
         four = refl;
         five = refl;
@@ -219,17 +218,16 @@ module _ (o : Object) (r : ℕ) (code : Code) (whole : IsWhole o code) (place : 
         eleven = deep s room;
         twelve = refl;
       })
-      (ap (λ (v : Activation). drop (length (priority_asked v.priority ++ scheduled (activation_kinds v))) s) same ∙ urgent_left value.priority len (activation_kinds value))
+      (urgent_left value.priority len (activation_kinds value))
 
-  pub continue_keeps : (c : Box Continuation Global) (value : Continuation) → Here (instr.Continue c) → c.value ≡ value → value.task < length o.tasks → names_interrupt o (start_or_free value.once) ≡ true →
+  pub continue_keeps : (value : Continuation) → Here (instr.Continue value) → value.task < length o.tasks → names_interrupt o (start_or_free value.once) ≡ true →
       Room (handed (map Plain (start_kinds (start_or_free value.once))) []) → Passes (handed (map Plain (start_kinds (start_or_free value.once))) []) []
-  continue_keeps c value is same task names room =
+  continue_keeps value is task names room =
       let s = handed (map Plain (start_kinds (start_or_free value.once))) [] in
-      bare_keeps o r code whole place (instr.Continue c) s is
+      bare_keeps o r code whole place (instr.Continue value) s is
       (record {
-        one = ap (λ (v : Continuation). nat_lt v.task (length o.tasks) && names_interrupt o (start_or_free v.once)) same
-            ∙ and_is (nat_lt value.task (length o.tasks)) (names_interrupt o (start_or_free value.once)) (lt-ltb value.task (length o.tasks) task) names;
-        two = ap (λ (v : Continuation). v2 (scheduled (start_kinds (start_or_free v.once))) s) same ∙ scheduled_on (start_kinds (start_or_free value.once)) [];
+        one = and_is (nat_lt value.task (length o.tasks)) (names_interrupt o (start_or_free value.once)) (lt-ltb value.task (length o.tasks) task) names;
+        two = scheduled_on (start_kinds (start_or_free value.once)) [];
         three = refl;
         four = refl;
         five = refl;
@@ -238,7 +236,7 @@ module _ (o : Object) (r : ℕ) (code : Code) (whole : IsWhole o code) (place : 
         eleven = deep s room;
         twelve = refl;
       })
-      (ap (λ (v : Continuation). drop (length (scheduled (start_kinds (start_or_free v.once)))) s) same ∙ nothing_left (start_kinds (start_or_free value.once)))
+      (nothing_left (start_kinds (start_or_free value.once)))
 
   pub resume_keeps : (form : OnceForm) → Here (instr.Resume form) → names_interrupt o (as_start form) ≡ true → Room (handed (map Plain (start_kinds (as_start form))) []) →
       Passes (handed (map Plain (start_kinds (as_start form))) []) []

@@ -1,10 +1,11 @@
 -- No rule of the validator fails in PUT and GET.
-use Rattle.std.proofs.Common.{◌≡◌, ℕ, suc, ◌+◌, ◌<◌, ◌≤◌, true, List, [], ◌∷◌, ◌++◌, Option, Some, None, slice_get, length, replicate, map, refl, sym, ap, ◌∙◌, subst, arith}
+use Rattle.std.proofs.Common.{◌≡◌, ℕ, suc, ◌+◌, ◌<◌, ◌≤◌, pos, true, List, [], ◌∷◌, ◌++◌, Option, Some, None, slice_get, length, replicate, map, refl, sym, ap, ◌∙◌, subst, arith}
 use Rattle.std.specs.Prelude.{option_map, take, drop}
 use Rattle.std.specs.List.{AllZip}
 use Rattle.std.proofs.lemmas.Option.{slice_get-map, same_Some}
 use Rattle.std.proofs.lemmas.List.{length-map}
 use Rattle.pearl_value.specs.declared.kind.Kind.{Kind}
+use Rattle.pearl_value.specs.declared.cell.Cell.TheVariants.{Fixed}
 use Rattle.pearl_value.specs.declared.kind.Kind.TheVariants as kind_
 use Rattle.pearl_value.specs.declared.kind.CellKind.{CellKind}
 use Rattle.pearl_value.specs.declared.kind.CellKind.TheVariants.{Plain, RefTo}
@@ -21,7 +22,7 @@ use Rattle.pearl_meaning.specs.Setting.{Setting}
 use Rattle.pearl_instructions.specs.declared.instr.Instr.{Instr}
 use Rattle.pearl_instructions.specs.declared.instr.Instr.TheVariants as instr
 use Rattle.pearl_instructions.specs.declared.object.Code.{Code}
-use Rattle.pearl_instructions.specs.declared.object.Object.{Object}
+use Rattle.pearl_instructions.specs.declared.object.Parts.{Parts as Object}
 use Rattle.pearl_instructions.specs.Operands.{Shape}
 use Rattle.pearl_gen_expr.specs.ExprCode.{Is, ExprAt}
 use Rattle.pearl_gen_expr.specs.Shapes.{Keeps, handed}
@@ -122,7 +123,7 @@ module _ (o : Object) (r : ℕ) (code : Code) (setting : Setting) (below most ne
       Goes from to [] (Plain (kind_.Fixed 31) ∷ [])
   found_keep (OfVariable target [] es) kind from to typed small is =
       just_one o r code from to [] (Plain (kind_.Fixed 31) ∷ []) is.1
-      (const_keeps o r code from (quiet_at o r code whole from (instr.Const is.0.0) is.0.2 refl) is.0.0 (kind_.Fixed 31) [] is.0.2 (ap cell_kind_of is.0.1) (omega (arith, room)))
+      (const_keeps o r code from (quiet_at o r code whole from (instr.Const (Fixed 31 (pos 0))) is.0 refl) (Fixed 31 (pos 0)) (kind_.Fixed 31) [] is.0 refl (omega (arith, room)))
   found_keep (OfVariable target (bound ∷ bounds) es) kind from to typed small is =
       let sizes = small.2 in
       (keeps o r code setting below most need whole room around stands).offset target (bound ∷ bounds) es kind from to [] typed small.0 small.1 (omega (arith, room, sizes))
@@ -230,10 +231,9 @@ module _ (o : Object) (r : ℕ) (code : Code) (setting : Setting) (below most ne
       sym (taken_less (drop cell code.cells) n (n + n) (omega arith)) ∙ (ap (take n) cells ∙ take_at (map Plain kinds) (replicate n (Plain (kind_.Fixed 31))) n mapped) in
       let reading : Reading = record { device = number; format = format; first = cell } in
       let read : Goes is.3 (is.3 + 1) [] [] =
-      get_keeps o r code whole is.3 is.6 found.0 kinds is.8
-      (subst (λ (g : Reading). gives_texts (slice_get o.devices g.device) ≡ true) (sym is.7) (ap gives_texts (devices_there o r code setting around below stands number) ∙ texts_given (slice_get around.devices number) typed.0))
-      (subst (λ (g : Reading). slice_get o.formats g.format ≡ Some found.0) (sym is.7) (format_there format found.0 found.1)) found.2
-      (subst (λ (g : Reading). take n (drop g.first code.cells) ≡ map Plain kinds) (sym is.7) values) (omega (arith, room)) in
+      get_keeps o r code whole is.3 reading found.0 kinds is.6
+      (ap gives_texts (devices_there o r code setting around below stands number) ∙ texts_given (slice_get around.devices number) typed.0)
+      (format_there format found.0 found.1) found.2 values (omega (arith, room)) in
       both_keep o r code from is.2 to [] [] [] (kept_keep targets kinds from (cell + length targets) is.2 typed.2 small offsets is.4)
       (both_keep o r code is.2 is.3 to [] [] [] (filled_keep kinds is.2 cell is.3 hold (subst (λ kinds. FilledAt setting instrs is.2 cell kinds is.3) same is.5))
-      (both_keep o r code is.3 (is.3 + 1) to [] [] [] read (written_keep targets kinds (is.3 + 1) cell (cell + length targets) to typed.2 offsets hold is.9)))
+      (both_keep o r code is.3 (is.3 + 1) to [] [] [] read (written_keep targets kinds (is.3 + 1) cell (cell + length targets) to typed.2 offsets hold is.7)))

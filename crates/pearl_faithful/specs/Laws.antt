@@ -2,13 +2,13 @@
 use Rattle.std.specs.Prelude.{◌≡◌, ℕ, List, length}
 use Rattle.pearl_rules.specs.declared.entry.Entry.{Entry}
 use Rattle.pearl_rules.specs.Entries.{AreFitting}
-use Rattle.pearl_rules.specs.Faithful.{Alone, Soon}
+use Rattle.pearl_rules.specs.Faithful.{IsFaithful, Alone, Soon}
 use Rattle.pearl_rules.specs.Laws.{HasEnded}
 use Rattle.pearl_rules.specs.Runs as runs
 use Rattle.pearl_rules.specs.Slots.{HasKinds}
 use Rattle.pearl_program.specs.PlainPrograms.{PlainProg}
 use Rattle.pearl_program.specs.Sound.{IsSound}
-use Rattle.pearl_instructions.specs.declared.object.Object.{Object}
+use Rattle.pearl_instructions.specs.declared.object.Parts.{Parts as Object}
 use Rattle.pearl_instructions.specs.Lawful.{IsObject}
 use Rattle.pearl_instructions.specs.Valid.{IsValid}
 use Rattle.pearl_meaning.specs.Programs.{offer}
@@ -19,7 +19,7 @@ use Rattle.pearl_instructions.specs.Engines.{engine, total_rows, machine_run}
 use Rattle.pearl_instructions.specs.Owners.{rows_left}
 use Rattle.pearl_gen_expr.specs.Tables.{HasTables}
 use Rattle.pearl_gen_stmt.specs.Generated.{IsGenerated}
-use Rattle.pearl_faithful.specs.Faithful.{IsFaithfulTo, RunsAlike, EndsAlike, Finishes}
+use Rattle.pearl_faithful.specs.Faithful.{IsFaithfulTo, TellsAlike, EndsAlike, Finishes}
 use Rattle.pearl_faithful.specs.Standing.{Stands}
 
 -- the tables from which the object's run starts are those from which the program's does
@@ -49,6 +49,10 @@ TasksOfferSoon = OfObjects (λ p o.
 abbrev pub FaithfulPrograms : Type 0
 FaithfulPrograms = OfObjects IsFaithfulTo
 
+-- and has the very actions and the very formats of the program
+abbrev pub SameActions : Type 0
+SameActions = OfObjects (λ p o. IsFaithful (offer p) (engine o) (setup_of o) (length o.tasks) (total_rows o))
+
 -- its run over any entries that fit comes to its end
 abbrev pub ObjectsFinish : Type 0
 ObjectsFinish = OfObjects (λ p o. (es : List Entry) → AreFitting (setup_of o) es → Finishes p o es)
@@ -57,10 +61,10 @@ ObjectsFinish = OfObjects (λ p o. (es : List Entry) → AreFitting (setup_of o)
 abbrev pub ObjectsKeepKinds : Type 0
 ObjectsKeepKinds = OfObjects (λ p o. (es : List Entry) → AreFitting (setup_of o) es → (n : ℕ) → HasKinds (setup_of o) (machine_run o es n).core)
 
--- an object that does what a program means runs as it does, over any entries that fit and for any number of steps
-abbrev pub ObjectsRun : Type 0
-ObjectsRun = (p : PlainProg) (o : Object) → IsFaithfulTo p o → (es : List Entry) → AreFitting (setup_of o) es → (n : ℕ) →
-    RunsAlike p o es n
+-- an object that does what a program means tells what the program does, over any entries that fit and for any number of steps
+abbrev pub ObjectsTell : Type 0
+ObjectsTell = (p : PlainProg) (o : Object) → IsFaithfulTo p o → (es : List Entry) → AreFitting (setup_of o) es → (n : ℕ) →
+    TellsAlike p o es n
 
 -- and ends as it does
 abbrev pub ObjectsEndAlike : Type 0

@@ -3,7 +3,7 @@ use Rattle.std.specs.Prelude.{ℕ, List, ◌++◌}
 use Rattle.pearl_rules.specs.declared.action.Answer.{Answer}
 use Rattle.pearl_stack.specs.Frames.{Frame}
 use Rattle.pearl_program.specs.PlainPrograms.{PlainProg}
-use Rattle.pearl_instructions.specs.declared.object.Object.{Object}
+use Rattle.pearl_instructions.specs.declared.object.Parts.{Parts as Object}
 use Rattle.pearl_meaning.specs.Programs.{offer}
 use Rattle.pearl_meaning.specs.Hearing.{Heard}
 use Rattle.pearl_instructions.specs.Owners.{StandsIn}

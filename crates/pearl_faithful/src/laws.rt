@@ -1,7 +1,7 @@
 // That the object of a program is valid and runs as the program means. Each function's contract is one theorem; none does anything.
 
 ghost use Rattle.pearl_faithful.specs.Generated.{GeneratedIsValid, GeneratedOffers, GeneratedArrives};
-ghost use Rattle.pearl_faithful.specs.Laws.{SameTables, SameRuns, TasksStand, TasksOfferSoon, FaithfulPrograms, ObjectsFinish, ObjectsKeepKinds, ObjectsRun, ObjectsEndAlike};
+ghost use Rattle.pearl_faithful.specs.Laws.{SameTables, SameRuns, TasksStand, TasksOfferSoon, FaithfulPrograms, SameActions, ObjectsFinish, ObjectsKeepKinds, ObjectsTell, ObjectsEndAlike};
 
 use pearl_gen_stmt::laws::{code_arrives, tasks_offer};
 use pearl_instructions::runs;
@@ -55,9 +55,10 @@ pub fn tasks_stand()
 }
 
 /// A valid object that a sound program becomes does what the program means: for any tasks, and any journal whose
-/// entries fit its tables.
+/// entries fit its tables. Its formats are numbered as the program's, so its actions are the same to their numbers.
 pub fn faithful_programs()
-    ensures { FaithfulPrograms }
+    ensures faithful { FaithfulPrograms }
+    ensures actions { SameActions }
 {
     runs::tables_are_lawful();
     tasks_stand();
@@ -80,9 +81,9 @@ pub fn objects_keep_kinds()
     tasks_stand();
 }
 
-/// An object that does what a program means runs as it does.
-pub fn objects_run_alike()
-    ensures { ObjectsRun }
+/// An object that does what a program means tells what it does, step by step.
+pub fn objects_tell_alike()
+    ensures { ObjectsTell }
 {}
 
 /// Where its run is at its end, so is the program's, and both tell the same.

@@ -13,7 +13,7 @@ use Rattle.pearl_instructions.specs.declared.instr.Instr.TheVariants.{End}
 use Rattle.pearl_instructions.specs.declared.object.Code.{Code}
 use Rattle.pearl_instructions.specs.declared.object.Procedure as code_procedure
 use Rattle.pearl_instructions.specs.declared.object.Task as code_task
-use Rattle.pearl_instructions.specs.declared.object.Object.{Object}
+use Rattle.pearl_instructions.specs.declared.object.Parts.{Parts as Object}
 use Rattle.pearl_instructions.specs.Objects.{routines, routine_at}
 use Rattle.pearl_gen_expr.specs.ExprCode.{Is, instructions_or_none, code_of}
 use Rattle.pearl_gen_expr.specs.Tables.{plain_leaf, head_of, code_head, code_entry}

@@ -1,24 +1,28 @@
-use Rattle.std.proofs.Common.{map, ap, sym, subst, ◌∙◌}
-use Rattle.std.specs.List.{AllZip}
-use Rattle.pearl_program.specs.PlainPrograms.{plain_prog, plain_leaf}
-use Rattle.pearl_program.specs.declared.program.Program.{Program}
-use Rattle.pearl_instructions.specs.declared.object.Object.{Object}
-use Rattle.pearl_gen_expr.specs.Tables.{plain_leaf as leaf_said}
+use Rattle.std.proofs.Common.{sym, subst}
+use Rattle.pearl_program.specs.PlainPrograms.{plain_prog}
+use Rattle.pearl_program.specs.Sound.{IsSound}
+use Rattle.pearl_instructions.specs.Valid.{IsValid}
 use Rattle.pearl_gen_stmt.specs.Generated.{IsGenerated}
-use Rattle.pearl_generate.specs.Routines.{IsProcedure, IsTask}
-use Rattle.pearl_generate.proofs.Whole.{generated}
+use Rattle.pearl_faithful.specs.Faithful.{IsFaithfulTo}
 use Rattle.pearl_generate.proofs.generate.Goals as goal
 
+pub new-requires : goal.new-requires
+new-requires c =
+    let sound = subst (λ parts. IsSound (plain_prog parts)) c.parts-sound.ensures.value c.parts-sound.ensures.sound in
+    (c.generated_is_valid.ensures (plain_prog c.args.program.now) c.in_ok-parts.parts sound c.in_ok-parts.ensures.generated c.in_ok-parts.ensures.few_formats).0
+
 pub returns-clause-generated : goal.returns-clause-generated
-returns-clause-generated c =
-    let parts = c.parts-parts.result.now in
-    let o : Object =
-    record { devices = c.new.result; semaphores = c.new-2.result; leaves = c.new-3.result; formats = c.new-4.result; procedures = c.new-5.result; tasks = c.new-6.result } in
-    subst (λ (program : Program). IsGenerated (plain_prog program) o) c.parts-parts.ensures.value
-    (generated parts o
-    (ap (map leaf_said) c.new-3.ensures ∙ (c.in_ok-leaves.ensures ∙ ap (map plain_leaf) c.as_slice-2.ensures))
-    (c.new-2.ensures ∙ (c.in_ok-semaphores.ensures.items ∙ c.as_slice-3.ensures))
-    (c.new.ensures ∙ (c.in_ok-devices.ensures ∙ c.as_slice-4.ensures))
-    (c.new-4.ensures ∙ (c.in_ok-formats.ensures ∙ c.as_slice.ensures))
-    (subst (λ list. AllZip (IsProcedure (plain_prog parts)) parts.procedures list) (sym c.new-5.ensures) c.in_ok-procedures.ensures)
-    (subst (λ list. AllZip (IsTask (plain_prog parts)) parts.tasks list) (sym c.new-6.ensures) c.in_ok-tasks.ensures))
+returns-clause-generated c = subst (IsGenerated (plain_prog c.args.program.now)) (sym c.new.ensures) c.in_ok-parts.ensures.generated
+
+pub returns-clause-valid : goal.returns-clause-valid
+returns-clause-valid c =
+    let sound = subst (λ parts. IsSound (plain_prog parts)) c.parts-sound.ensures.value c.parts-sound.ensures.sound in
+    subst IsValid (sym c.new.ensures)
+    (c.generated_is_valid.ensures (plain_prog c.args.program.now) c.in_ok-parts.parts sound c.in_ok-parts.ensures.generated c.in_ok-parts.ensures.few_formats).1
+
+pub returns-clause-faithful : goal.returns-clause-faithful
+returns-clause-faithful c =
+    let p = plain_prog c.args.program.now in let o = c.in_ok-parts.parts in
+    let sound = subst (λ parts. IsSound (plain_prog parts)) c.parts-sound.ensures.value c.parts-sound.ensures.sound in
+    let valid = c.generated_is_valid.ensures p o sound c.in_ok-parts.ensures.generated c.in_ok-parts.ensures.few_formats in
+    subst (IsFaithfulTo p) (sym c.new.ensures) (c.faithful_programs.ensures.faithful p o sound c.in_ok-parts.ensures.generated valid.0 valid.1)
