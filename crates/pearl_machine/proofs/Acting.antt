@@ -11,7 +11,7 @@ use Rattle.pearl_rules.specs.Effect.{Reply, Hears, Ends, effect}
 use Rattle.pearl_rules.specs.Runs.{Running, kept, kept_at, refreshed, dropped, answered, fresh}
 use Rattle.pearl_rules.proofs.Offered.{effect-length, effect-answers, effect-ends, picked, eligible_within, turned-is}
 use Rattle.pearl_stack.specs.Frames.{Frame}
-use Rattle.pearl_instructions.specs.declared.object.Object.{Object}
+use Rattle.pearl_instructions.specs.declared.object.Parts.{Parts as Object}
 use Rattle.pearl_instructions.specs.Lawful.{IsObject}
 use Rattle.pearl_instructions.specs.Valid.{IsValid}
 use Rattle.pearl_instructions.specs.Rows.{row}

@@ -14,7 +14,7 @@ use Rattle.pearl_rules.specs.Pick.{pick, turned, states, shown_of}
 use Rattle.pearl_rules.specs.Runs.{Turns, Tells, Passes, Arrives, machine_offers, machine_step, unsettled}
 use Rattle.pearl_rules.proofs.Offered.{states-offers, millisecond-length, arrived-length, millisecond-told_before}
 use Rattle.pearl_rules.proofs.Offered.{arrived-told_before}
-use Rattle.pearl_instructions.specs.declared.object.Object.{Object}
+use Rattle.pearl_instructions.specs.declared.object.Parts.{Parts as Object}
 use Rattle.pearl_instructions.specs.Engines.{engine}
 use Rattle.pearl_instructions.specs.Setups.{setup_of}
 use Rattle.pearl_script.specs.Lines.{event_line, state_line, report_line}
@@ -23,7 +23,7 @@ use Rattle.pearl_kernel.specs.Kept as kernel
 use Rattle.pearl_rules.specs.Laws.{passed}
 use Rattle.pearl_kernel.specs.Timing.{IsQuiet}
 use Rattle.pearl_kernel.proofs.Offered.{passed-quiet}
-use Rattle.pearl_kernel.specs.Kept.{Kept, IsLawful, AllSettled, IsFirst, offered}
+use Rattle.pearl_kernel.specs.Kept.{Kept, IsLawful, IsToldNext, AllSettled, IsFirst, offered, taken}
 use Rattle.pearl_machine.specs.Parts.{going_frames, is_going, start_of, running_of, StepsPart, SettlesPart}
 use Rattle.pearl_machine.specs.Ready.{IsReady, untold, seen_of}
 use Rattle.pearl_machine.specs.Seen.{Seen, SettlesFirst, ActsFirst, Makes, Skips, retold, picked}
@@ -38,6 +38,17 @@ use Rattle.pearl_machine.proofs.Making.{picked_here, tells_here, shows_here, tur
 use Rattle.pearl_machine.proofs.Acting.{turned_taken, acts_seen}
 use Rattle.pearl_machine.proofs.Entering.{steps_silent, steps_offers}
 use Rattle.pearl_machine.proofs.Passing.{makes_of, skips_here, ready_changed}
+
+-- where the next event was taken, what was told is that event and what is left
+pub taken_same : (k k2 : Kept) → k2 ≡ record k { core = taken k.core } →
+    k2 ≡ record k { core = record k.core { told = k2.core.told } }
+taken_same k k2 e = e ∙ ap (λ told. let n : Kept = record k { core = record k.core { told = told } } in n)
+    (sym (ap (λ (x : Kept). x.core.told) e))
+
+pub taken_next : (k k2 : Kept) (event : Event) → IsToldNext k.core event → k2 ≡ record k { core = taken k.core } →
+    k.core.told ≡ (k.core.moment, Happened event) ∷ k2.core.told
+taken_next k k2 event next e = next.1 ∙ ap (λ told. (k.core.moment, Happened event) ∷ told)
+    (sym (ap (λ (x : Kept). x.core.told) e ∙ ap (drop 1) next.1))
 
 -- a task that was found
 pub first_of : (k : Kept) (found : Option ℕ) (t : ℕ) → MatchOption found (AllSettled k) (IsFirst k) → found ≡ Some t → IsFirst k t

@@ -13,7 +13,7 @@ use Rattle.pearl_rules.specs.Runs.{Turns, Tells, Arrives, next_mark, machine_off
 use Rattle.pearl_io.specs.Outside.{Takes, TakesFront}
 use Rattle.pearl_io.proofs.Offered.{takes_more, takes_front_more}
 use Rattle.pearl_stack.specs.Frames.{Frame}
-use Rattle.pearl_instructions.specs.declared.object.Object.{Object}
+use Rattle.pearl_instructions.specs.declared.object.Parts.{Parts as Object}
 use Rattle.pearl_instructions.specs.Rows.{row}
 use Rattle.pearl_instructions.specs.Engines.{engine, stepped_by}
 use Rattle.pearl_instructions.specs.Setups.{setup_of}

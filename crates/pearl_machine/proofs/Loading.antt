@@ -7,7 +7,7 @@ use Rattle.pearl_rules.specs.declared.setup.Setup.{Setup}
 use Rattle.pearl_rules.specs.Core.{opening, first_row, is_active}
 use Rattle.pearl_rules.specs.Runs.{Machine, Running, kept, kept_at, refreshed, fresh, machine_start}
 use Rattle.pearl_stack.specs.Frames.{Frame}
-use Rattle.pearl_instructions.specs.declared.object.Object.{Object}
+use Rattle.pearl_instructions.specs.declared.object.Parts.{Parts as Object}
 use Rattle.pearl_instructions.specs.Lawful.{IsObject}
 use Rattle.pearl_instructions.specs.Valid.{IsValid}
 use Rattle.pearl_instructions.specs.Engines.{engine}

@@ -10,7 +10,7 @@ use Rattle.pearl_rules.specs.Runs.{Running, Machine, Acts, Turns, Tells, kept_at
 use Rattle.pearl_rules.proofs.Offered.{effect-length, pick-offers, states-offers, turned-is, effect-told_before}
 use Rattle.pearl_rules.proofs.Offered.{turned-told_before}
 use Rattle.pearl_stack.specs.Frames.{Frame}
-use Rattle.pearl_instructions.specs.declared.object.Object.{Object}
+use Rattle.pearl_instructions.specs.declared.object.Parts.{Parts as Object}
 use Rattle.pearl_instructions.specs.Engines.{engine}
 use Rattle.pearl_kernel.specs.Kept as kernel
 use Rattle.pearl_kernel.specs.Kept.{Kept, IsLawful, AllSettled, offered, is_silent, is_unsettled}

@@ -7,7 +7,7 @@ use Rattle.pearl_rules.specs.Core.{Core, is_active}
 use Rattle.pearl_rules.specs.Effect.{Reply, Hears, Ends}
 use Rattle.pearl_rules.specs.Runs.{Running, kept, kept_at, refreshed, dropped, answered, fresh}
 use Rattle.pearl_stack.specs.Frames.{Frame}
-use Rattle.pearl_instructions.specs.declared.object.Object.{Object}
+use Rattle.pearl_instructions.specs.declared.object.Parts.{Parts as Object}
 use Rattle.pearl_instructions.specs.Engines.{engine}
 use Rattle.pearl_machine.specs.Parts.{shown, start_of, frames_if, going_frames, stack_in, is_going, running_of, heard_part}
 use Rattle.pearl_machine.specs.declared.part.Part.{Part}

@@ -3,7 +3,7 @@ use Rattle.std.proofs.Common.{◌≡◌, ℕ, zero, suc, ◌+◌, ◌-◌, ◌<�
 use Rattle.std.specs.Prelude.{◌==◌, nat_lt, nat_le, if◌then◌else◌, option_map}
 use Rattle.std.specs.List.{AllByRecursion, list_all}
 use Rattle.std.proofs.lemmas.Bool.{eqb-false, cases_lt}
-use Rattle.std.proofs.lemmas.Option.{none-some, same_Some, slice_get-map, slice_get_past, slice_get_cases, slice_get-get_or}
+use Rattle.std.proofs.lemmas.Option.{none-some, same_Some, slice_get-map, slice_get_past, slice_get-get_or}
 use Rattle.pearl_rules.specs.declared.action.Action.{Action}
 use Rattle.pearl_rules.specs.declared.action.Action.TheVariants as action
 use Rattle.pearl_rules.specs.declared.action.Answer.{Answer}
@@ -13,7 +13,7 @@ use Rattle.pearl_stack.specs.Frames.{Frame}
 use Rattle.pearl_instructions.specs.declared.object.Code.{Code}
 use Rattle.pearl_instructions.specs.declared.object.Procedure.{Procedure}
 use Rattle.pearl_instructions.specs.declared.object.Task.{Task}
-use Rattle.pearl_instructions.specs.declared.object.Object.{Object}
+use Rattle.pearl_instructions.specs.declared.object.Parts.{Parts as Object}
 use Rattle.pearl_instructions.specs.Lawful.{IsObject}
 use Rattle.pearl_instructions.specs.Objects.{routine_at}
 use Rattle.pearl_instructions.specs.Rows.{row, lowest}
@@ -27,7 +27,7 @@ use Rattle.pearl_instructions.proofs.Offered.{offers_is}
 use Rattle.pearl_solo.specs.Answered.{CanHear}
 use Rattle.pearl_machine.specs.declared.part.Part.{Part}
 use Rattle.pearl_machine.specs.Known.{Known}
-use Rattle.pearl_machine.specs.Parts.{HasMemory, HasMemories, HasStack, IsShallow, first_part, is_going, stack_in, stack_or_none, start_of}
+use Rattle.pearl_machine.specs.Parts.{HasMemory, HasMemories, IsShallow, first_part, is_going, start_of}
 use Rattle.pearl_machine.proofs.Listed.{get_here, get_elsewhere}
 
 -- MEMORY
@@ -104,12 +104,7 @@ first_memories o parts most same is t part e =
     by_task (Some task) some =
         let here : first_part most task ≡ part = same_Some (first_part most task) part (ap (option_map (first_part most)) (sym some) ∙ at) in
         let depth = depth_is o t task some in
-        subst (λ p. HasMemory o t p) here (record {
-          stack = record { frames = []; room = task.code.depth; most = most };
-          has = refl;
-          room_is = omega arith;
-          most = omega arith;
-        })
+        subst (λ p. HasMemory o t p) here (record { room_is = omega arith; most = omega arith })
 
 pub first_still : (tasks : List Task) (parts : List Part) (most : ℕ) → parts ≡ map (first_part most) tasks → (t : ℕ) → is_going (slice_get parts t) ≡ false
 first_still tasks parts most is t = ap (λ ps. is_going (slice_get ps t)) is ∙ (ap is_going (slice_get-map (first_part most) tasks t) ∙ by_task (slice_get tasks t))
@@ -150,35 +145,12 @@ fits_here o t frames a known valid object own e = known.fits o t frames a valid 
 -- an answer that suits it can be heard
 pub hears_here : (o : Object) (t : ℕ) (frames : List Frame) (a : Action) (answer : Answer) → Known → IsValid o → IsObject o → IsStackOf o t frames →
     (engine o).step t frames ≡ Offers a → Suits (setup_of o) t a answer → CanHear o t (row o frames) answer
-hears_here o t frames a answer known valid object own e suits = by_row (offers_is (row o frames) a e)
-  where
-    by_row : ((go : Answer → List Frame) × (row o frames ≡ steps.Offers a go)) ⊎ ((row o frames ≡ steps.Missing) × (a ≡ action.End)) →
-        CanHear o t (row o frames) answer
-    by_row (inl offers) =
-        subst (λ s. CanHear o t s answer) (sym offers.1)
-        (known.suits o t a answer object (known.there o t frames a valid object (inl own) e) suits)
-    by_row (inr missing) = absurd (subst (λ b. Suits (setup_of o) t b answer) missing.1 suits)
+hears_here o t frames a answer known valid object own e suits =
+    let offers = offers_is (row o frames) a e in
+    subst (λ s. CanHear o t s answer) (sym offers.1)
+    (known.suits o t a answer object (known.there o t frames a valid object (inl own) e) suits)
 
 -- THE STACK IN A PART
-
-pub has_stack : {o : Object} {t : ℕ} {part : Part} → HasMemory o t part → HasStack part
-has_stack m = (m.stack, m.has)
-
--- the memory of the stack that lies in a part
-pub memory_in : (o : Object) (parts : List Part) (t : ℕ) → HasMemories o parts → t < length parts →
-    (room o (start_of o t) ≤ (stack_in (slice_get parts t)).room) × (length o.procedures + 1 ≤ (stack_in (slice_get parts t)).most)
-memory_in o parts t all there = by_get (slice_get parts t) refl
-  where
-    by_get : (x : Option Part) → slice_get parts t ≡ x → (room o (start_of o t) ≤ (stack_in x).room) × (length o.procedures + 1 ≤ (stack_in x).most)
-    by_get None e = by_cases (slice_get_cases parts t).1
-      where
-        by_cases : ((x : Part) × (t < length parts) × (slice_get parts t ≡ Some x) × (get_or parts t x ≡ x)) ⊎ ((length parts ≤ t) × (slice_get parts t ≡ None)) →
-            (room o (start_of o t) ≤ 0) × (length o.procedures + 1 ≤ 0)
-        by_cases (inl found) = absurd (none-some found.0 (sym e ∙ found.2))
-        by_cases (inr past) = let less = past.0 in let no : ⊥ = omega arith in absurd no
-    by_get (Some part) e =
-        let m = all t part e in
-        subst (λ s. (room o (start_of o t) ≤ (stack_or_none s).room) × (length o.procedures + 1 ≤ (stack_or_none s).most)) (sym m.has) (m.room_is, m.most)
 
 -- the part that lies at a place
 pub part_is : (parts : List Part) (t : ℕ) (part : Part) → t < length parts → part ≡ get_or parts t part → slice_get parts t ≡ Some part

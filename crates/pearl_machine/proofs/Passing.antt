@@ -8,7 +8,7 @@ use Rattle.pearl_rules.specs.Plans.{millisecond}
 use Rattle.pearl_rules.specs.Runs.{Running, Machine, Mark, Passes, kept, kept_at, refreshed, fresh, machine_mark, machine_settled}
 use Rattle.pearl_rules.proofs.Offered.{millisecond-told_before}
 use Rattle.pearl_stack.specs.Frames.{Frame}
-use Rattle.pearl_instructions.specs.declared.object.Object.{Object}
+use Rattle.pearl_instructions.specs.declared.object.Parts.{Parts as Object}
 use Rattle.pearl_instructions.specs.Engines.{engine}
 use Rattle.pearl_instructions.specs.Setups.{setup_of}
 use Rattle.pearl_kernel.specs.Kept.{Kept, IsLawful, AllSettled, offered}

@@ -6,7 +6,7 @@ use Rattle.pearl_rules.specs.declared.action.Action.{Action}
 use Rattle.pearl_rules.specs.Core.{Core, is_active, is_active_row}
 use Rattle.pearl_rules.specs.Runs.{Running, kept, kept_at, refreshed, fresh, offer_of, unsettled_from}
 use Rattle.pearl_stack.specs.Frames.{Frame, Stack}
-use Rattle.pearl_instructions.specs.declared.object.Object.{Object}
+use Rattle.pearl_instructions.specs.declared.object.Parts.{Parts as Object}
 use Rattle.pearl_instructions.specs.Engines.{engine}
 use Rattle.pearl_machine.specs.Parts.{shown, start_of, going_frames, running_of}
 use Rattle.pearl_machine.specs.Seen.{IsUnsettled}
@@ -75,28 +75,28 @@ module _ (o : Object) (core : Core) (offers : List (Option Action)) (parts : Lis
 
   -- a task has offered its action
   pub offers_here : (t : ℕ) (after : Stack) (action : Action) → is_active core t ≡ true → t < length offers → t < length parts →
-      running_of o core (slice_set offers t (Some action)) (slice_set parts t (record { stack = Some after; going = false }))
+      running_of o core (slice_set offers t (Some action)) (slice_set parts t (record { stack = after; going = false }))
       ≡ slice_set (running_of o core offers parts) t (Some (record { stack = after.frames; offer = Some action }))
   offers_here t after action active within there =
       table_written (length core.tasks) (λ i. shown (is_active core i) (start_of o i) (kept_at offers i) (slice_get parts i))
       (λ i. shown (is_active core i) (start_of o i) (kept_at (slice_set offers t (Some action)) i)
-      (slice_get (slice_set parts t (record { stack = Some after; going = false })) i))
+      (slice_get (slice_set parts t (record { stack = after; going = false })) i))
       t (Some (record { stack = after.frames; offer = Some action }))
-      (rw (active, kept_here offers t (Some action) within, get_here parts t (record { stack = Some after; going = false }) there) refl)
+      (rw (active, kept_here offers t (Some action) within, get_here parts t (record { stack = after; going = false }) there) refl)
       (λ i other. ap₂ (λ x p. shown (is_active core i) (start_of o i) x p) (kept_elsewhere offers t i (Some action) other)
-      (get_elsewhere parts t i (record { stack = Some after; going = false }) other))
+      (get_elsewhere parts t i (record { stack = after; going = false }) other))
 
   -- a task has made an instruction
   pub goes_here : (t : ℕ) (after : Stack) → is_active core t ≡ true → kept_at offers t ≡ None → t < length parts →
-      running_of o core offers (slice_set parts t (record { stack = Some after; going = true }))
+      running_of o core offers (slice_set parts t (record { stack = after; going = true }))
       ≡ slice_set (running_of o core offers parts) t (Some (record { stack = after.frames; offer = None }))
   goes_here t after active silent there =
       table_written (length core.tasks) (λ i. shown (is_active core i) (start_of o i) (kept_at offers i) (slice_get parts i))
-      (λ i. shown (is_active core i) (start_of o i) (kept_at offers i) (slice_get (slice_set parts t (record { stack = Some after; going = true })) i))
+      (λ i. shown (is_active core i) (start_of o i) (kept_at offers i) (slice_get (slice_set parts t (record { stack = after; going = true })) i))
       t (Some (record { stack = after.frames; offer = None }))
-      (rw (active, silent, get_here parts t (record { stack = Some after; going = true }) there) refl)
+      (rw (active, silent, get_here parts t (record { stack = after; going = true }) there) refl)
       (λ i other. ap (λ p. shown (is_active core i) (start_of o i) (kept_at offers i) p)
-      (get_elsewhere parts t i (record { stack = Some after; going = true }) other))
+      (get_elsewhere parts t i (record { stack = after; going = true }) other))
 
   -- where the tasks stand as before nothing begins afresh
   pub stays_here : (tasks : List _) → tasks ≡ core.tasks → refreshed (fresh (engine o)) 0 tasks (running_of o core offers parts) ≡ running_of o core offers parts

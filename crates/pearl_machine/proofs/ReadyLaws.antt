@@ -9,7 +9,7 @@ use Rattle.pearl_rules.specs.Core.{is_active}
 use Rattle.pearl_rules.specs.Pick.{states}
 use Rattle.pearl_rules.specs.Runs.{Running, Offers, kept_at, unsettled}
 use Rattle.pearl_stack.specs.Frames.{Frame, Stack}
-use Rattle.pearl_instructions.specs.declared.object.Object.{Object}
+use Rattle.pearl_instructions.specs.declared.object.Parts.{Parts as Object}
 use Rattle.pearl_instructions.specs.Engines.{engine}
 use Rattle.pearl_instructions.specs.Owners.{IsStackOf}
 use Rattle.pearl_instructions.specs.Setups.{setup_of, entry_of}
@@ -89,7 +89,7 @@ all_still k parts going all i = by_going (is_going (slice_get parts i)) refl
     by_going false e = e
     by_going true e = absurd (true≢false (sym (going i e) ∙ all i))
 
--- a task whose stack was put back, not under way, isn't under way
+-- a task whose part is written, not under way, isn't under way
 put_back : (parts : List Part) (t : ℕ) (p : Part) → p.going ≡ false → (i : ℕ) → is_going (slice_get (slice_set parts t p) i) ≡ true →
     (t ≢ i) × (is_going (slice_get parts i) ≡ true)
 put_back parts t p still i e = by_place (nat_eq t i) refl
@@ -166,7 +166,7 @@ module _ (o : Object) (setup : Setup) (k : Kept) (parts : List Part) (due : ℕ)
         }))
 
     -- and the machine is as it is to be
-    pub ready_offers : (k2 : Kept) (parts2 : List Part) (a : Action) (after : Stack) → parts2 ≡ slice_set parts t (record { stack = Some after; going = false }) →
+    pub ready_offers : (k2 : Kept) (parts2 : List Part) (a : Action) (after : Stack) → parts2 ≡ slice_set parts t (record { stack = after; going = false }) →
         IsStackOf o t after.frames → (engine o).step t after.frames ≡ Offers a → HasMemories o parts2 → k2 ≡ with_offer a → IsLawful (setup_of o) k2 →
         IsReady o setup k2 parts2 due
     ready_offers k2 parts2 a after same_parts own offers memory same lawful =
@@ -178,7 +178,7 @@ module _ (o : Object) (setup : Setup) (k : Kept) (parts : List Part) (due : ℕ)
           each = ap length same_parts ∙ (length-set parts t _ ∙ r.each);
           memory = memory;
           going = λ i e.
-              let p = put_back parts t (record { stack = Some after; going = false }) refl i (ap (λ ps. is_going (slice_get ps i)) (sym same_parts) ∙ e) in
+              let p = put_back parts t (record { stack = after; going = false }) refl i (ap (λ ps. is_going (slice_get ps i)) (sym same_parts) ∙ e) in
               ap (λ x. is_active k.core i && is_silent x) (kept_elsewhere k.offers t i (Some a) p.0) ∙ r.going i p.1;
           stand = subst (λ xs. AllStand o xs)
               (sym (ap (λ ps. running_of o k.core (slice_set k.offers t (Some a)) ps) same_parts
@@ -191,7 +191,7 @@ module _ (o : Object) (setup : Setup) (k : Kept) (parts : List Part) (due : ℕ)
         })
 
     -- it made an instruction
-    pub ready_goes : (parts2 : List Part) (after : Stack) → parts2 ≡ slice_set parts t (record { stack = Some after; going = true }) →
+    pub ready_goes : (parts2 : List Part) (after : Stack) → parts2 ≡ slice_set parts t (record { stack = after; going = true }) →
         IsStackOf o t after.frames → HasMemories o parts2 → IsReady o setup k parts2 due
     ready_goes parts2 after same_parts own memory = record {
       valid = r.valid;
@@ -211,7 +211,7 @@ module _ (o : Object) (setup : Setup) (k : Kept) (parts : List Part) (due : ℕ)
       owes = r.owes;
     }
       where
-        by_place : (i : ℕ) → is_going (slice_get (slice_set parts t (record { stack = Some after; going = true })) i) ≡ true → (b : Bool) → nat_eq t i ≡ b →
+        by_place : (i : ℕ) → is_going (slice_get (slice_set parts t (record { stack = after; going = true })) i) ≡ true → (b : Bool) → nat_eq t i ≡ b →
             is_unsettled k i ≡ true
         by_place i e true is = ap (is_unsettled k) (sym (eqb-true t i is)) ∙ first.unsettled
         by_place i e false differ = r.going i (ap is_going (sym (get_elsewhere parts t i _ (eqb-false t i differ))) ∙ e)

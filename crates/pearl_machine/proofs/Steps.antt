@@ -4,7 +4,7 @@ use Rattle.std.proofs.lemmas.Option.{none-some}
 use Rattle.pearl_rules.specs.declared.action.Action.{Action}
 use Rattle.pearl_rules.specs.Runs.{Engine, Running, Machine, Coming, stepped, kept_at, unsettled, unsettled_from, unsettled_here, machine_next, machine_mark_by, machine_step, machine_step_by, machine_after}
 use Rattle.pearl_stack.specs.Frames.{Frame}
-use Rattle.pearl_instructions.specs.declared.object.Object.{Object}
+use Rattle.pearl_instructions.specs.declared.object.Parts.{Parts as Object}
 use Rattle.pearl_instructions.specs.Rows.{row}
 use Rattle.pearl_instructions.specs.Engines.{engine, stepped_by}
 use Rattle.pearl_silent.specs.Settling.{Silently}

@@ -5,7 +5,7 @@ use Rattle.pearl_rules.specs.declared.action.Answer.{Answer}
 use Rattle.pearl_rules.specs.Core.{Core, is_active}
 use Rattle.pearl_rules.specs.Runs.{Running, Silent, Offers, kept_at}
 use Rattle.pearl_stack.specs.Frames.{Frame, Stack}
-use Rattle.pearl_instructions.specs.declared.object.Object.{Object}
+use Rattle.pearl_instructions.specs.declared.object.Parts.{Parts as Object}
 use Rattle.pearl_instructions.specs.declared.object.Task.{Task}
 use Rattle.pearl_instructions.specs.Rows.{begun}
 use Rattle.pearl_instructions.specs.Stacks.{room}
@@ -25,14 +25,10 @@ table (suc n) f = f 0 ∷ table n (λ i. f (suc i))
 
 -- A TASK'S STACK
 
-abbrev pub stack_or_none : Option Stack → Stack
-stack_or_none None = record { frames = []; room = 0; most = 0 }
-stack_or_none (Some stack) = stack
-
 -- the stack in a part
 abbrev pub stack_in : Option Part → Stack
-stack_in None = stack_or_none None
-stack_in (Some part) = stack_or_none part.stack
+stack_in None = record { frames = []; room = 0; most = 0 }
+stack_in (Some part) = part.stack
 
 -- where the code of task t begins
 abbrev pub start_of : Object → ℕ → List Frame
@@ -66,23 +62,17 @@ running_of o core offers parts =
 
 -- MEMORY
 
--- the stack lies in its place
-abbrev pub HasStack : Part → Type 0
-HasStack part = (stack : Stack) × (part.stack ≡ Some stack)
-
--- the part of task t has its stack, with memory for all that comes on it
+-- the stack of task t has memory for all that comes on it
 pub record HasMemory (o : Object) (t : ℕ) (part : Part) : Type 0 where
-  pub stack : Stack
-  pub has : part.stack ≡ Some stack
-  pub room_is : room o (start_of o t) ≤ stack.room
-  pub most : length o.procedures + 1 ≤ stack.most
+  pub room_is : room o (start_of o t) ≤ part.stack.room
+  pub most : length o.procedures + 1 ≤ part.stack.most
 
 abbrev pub HasMemories : Object → List Part → Type 0
 HasMemories o parts = (t : ℕ) (part : Part) → slice_get parts t ≡ Some part → HasMemory o t part
 
 -- a task has memory for its stack, and hasn't begun
 abbrev pub first_part : ℕ → Task → Part
-first_part most task = record { stack = Some (record { frames = []; room = task.code.depth; most = most }); going = false }
+first_part most task = record { stack = record { frames = []; room = task.code.depth; most = most }; going = false }
 
 abbrev pub IsShallow : Task → Type 0
 IsShallow task = task.code.depth ≤ 4096
@@ -103,22 +93,24 @@ abbrev pub Does : Object → ℕ → List Frame → List Frame → Option Action
 Does o t before after None = (engine o).step t before ≡ Silent after
 Does o t before after (Some action) = ((engine o).step t before ≡ Offers action) × (after ≡ before)
 
--- one instruction of a task that had offered nothing; its stack is back in its place, and no other stack changed
+-- one instruction of a task that had offered nothing; no other stack changed
 pub record StepsPart (o : Object) (old : List Part) (t : ℕ) (new : List Part) (offer : Option Action) : Type 0 where
   pub after : Stack
   pub does : Does o t (going_frames (start_of o t) (slice_get old t)) after.frames offer
   pub own : IsStackOf o t after.frames
-  pub same : new ≡ slice_set old t (record { stack = Some after; going = is_none_offered offer })
+  pub same : new ≡ slice_set old t (record { stack = after; going = is_none_offered offer })
 
 -- likewise all instructions up to its next action
 pub record SettlesPart (o : Object) (old : List Part) (t : ℕ) (new : List Part) (action : Action) : Type 0 where
   pub after : Stack
   pub settles : Settles o (going_frames (start_of o t) (slice_get old t)) after.frames action
   pub own : IsStackOf o t after.frames
-  pub same : new ≡ slice_set old t (record { stack = Some after; going = false })
+  pub same : new ≡ slice_set old t (record { stack = after; going = false })
 
--- the task's part after an answer to the action that it has offered
+-- a task's part after an answer to the action that it has offered, where this was its stack
+abbrev pub heard_by : Object → ℕ → Stack → Answer → Part
+heard_by o t stack answer =
+    record { stack = record stack { frames = (engine o).answer t stack.frames answer }; going = true }
+
 abbrev pub heard_part : Object → List Part → ℕ → Answer → Part
-heard_part o parts t answer =
-    let stack = stack_in (slice_get parts t) in
-    record { stack = Some (record stack { frames = (engine o).answer t stack.frames answer }); going = true }
+heard_part o parts t answer = heard_by o t (stack_in (slice_get parts t)) answer

@@ -7,7 +7,7 @@ use Rattle.pearl_rules.specs.Core.{Report}
 use Rattle.pearl_rules.specs.Pick.{pick}
 use Rattle.pearl_rules.specs.Runs.{Running, Machine, Mark, Acts, Passes, kept_at, machine_offers, machine_mark, machine_after, next_mark, unsettled}
 use Rattle.pearl_stack.specs.Frames.{Frame}
-use Rattle.pearl_instructions.specs.declared.object.Object.{Object}
+use Rattle.pearl_instructions.specs.declared.object.Parts.{Parts as Object}
 use Rattle.pearl_instructions.specs.Engines.{engine}
 use Rattle.pearl_solo.specs.Settling.{Settles}
 use Rattle.pearl_script.specs.Lines.{report_line}

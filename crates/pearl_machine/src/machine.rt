@@ -465,10 +465,10 @@ impl Machine {
         ensures same { self.new ≡ retold self.old self.new.state.core.told }
         ensures next { TakesNext self.old self.new into.new.items result }
     {
-        let moment = self.kernel.now();
-        match self.kernel.next_event() {
+        match self.kernel.event() {
             Some(event) => {
-                event_line(moment, &event, &self.setup, into);
+                event_line(self.kernel.now(), event, &self.setup, into);
+                self.kernel.drop_event();
                 true
             }
             None => {

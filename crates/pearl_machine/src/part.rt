@@ -13,8 +13,7 @@ ghost use Rattle.pearl_exchange.specs.Heard.{answer_of};
 ghost use Rattle.pearl_exchange.specs.Offers.{action_of};
 ghost use Rattle.pearl_solo.specs.Answered.{CanHear};
 ghost use Rattle.pearl_solo.specs.Settling.{Settles};
-ghost use Rattle.pearl_machine.specs.declared.part.Part as Parting;
-ghost use Rattle.pearl_machine.specs.Parts.{HasMemories, HasStack, IsShallow, Does, StepsPart, SettlesPart, is_none_offered, offered_by, is_going, going_frames, stack_in, start_of, first_part as first_part_of, heard_part};
+ghost use Rattle.pearl_machine.specs.Parts.{HasMemory, HasMemories, IsShallow, Does, StepsPart, SettlesPart, is_none_offered, offered_by, is_going, going_frames, stack_in, start_of, first_part as first_part_of, heard_by, heard_part};
 
 use crate::known::laws_hold;
 use pearl_exchange::heard::{Beside, Heard};
@@ -29,53 +28,23 @@ use pearl_solo::stepped::Gave;
 use pearl_stack::stack::{Loaded, Parked};
 use std::alloc::{AllocError as NoMemory, Global};
 
-/// A task's stack, which is away only while the task executes, and whether the task is under way to its next action.
+/// A task's stack, and whether the task is under way to its next action.
 #[derive(Drop)]
 pub struct Part {
-    pub stack: Option<Parked>,
+    pub stack: Loaded,
     pub going: bool,
 }
 
-// Takes a task's stack out of the row.
-fn take(parts: &mut Vec<Part>, task: u32) -> Loaded
-    requires there { task < length parts.old.items }
-    requires has { (part : Parting.Part) → slice_get parts.old.items task ≡ Some part → HasStack part }
-    ensures stack { result ≡ stack_in (slice_get parts.old.items task) }
-    ensures rest { (going : Bool)
-        × (parts.new.items ≡ slice_set parts.old.items task (record { stack = None; going = going })) }
-{
-    let parked = parts[task as usize].stack.take().unwrap();
-    parked.load()
-}
-
-// Takes the stack of a task that has offered nothing. One that isn't under way to its action begins afresh.
-fn take_going(code: &Valid, parts: &mut Vec<Part>, task: u32) -> Loaded
+// Lets a task that has offered nothing go on. One that isn't under way to its action begins afresh.
+fn go(code: &Valid, task: u32, part: &mut Part)
     requires there { task < length code.now.tasks }
-    requires same { length parts.old.items ≡ length code.now.tasks }
-    requires memory { HasMemories code.now parts.old.items }
-    ensures frames { result.frames ≡ going_frames (start_of code.now task) (slice_get parts.old.items task) }
-    ensures room { room_of code.now (start_of code.now task) ≤ result.room }
-    ensures most { length code.now.procedures + 1 ≤ result.most }
-    ensures rest { (going : Bool)
-        × (parts.new.items ≡ slice_set parts.old.items task (record { stack = None; going = going })) }
+    requires memory { HasMemory code.now task part.old }
+    ensures frames { part.new.stack.frames ≡ going_frames (start_of code.now task) (Some part.old) }
+    ensures memory { HasMemory code.now task part.new }
 {
-    let going = parts[task as usize].going;
-    let mut stack = take(parts, task);
-    if !going {
-        begin(code, task, &mut stack);
+    if !part.going {
+        begin(code, task, &mut part.stack);
     }
-    stack
-}
-
-// Puts a task's stack back.
-fn put(parts: &mut Vec<Part>, task: u32, stack: Loaded, going: bool)
-    requires there { task < length parts.old.items }
-    ensures { parts.new.items ≡ slice_set parts.old.items task (record { stack = Some stack; going = going }) }
-{
-    parts[task as usize] = Part {
-        stack: Some(stack.park()),
-        going,
-    };
 }
 
 // Whether an instruction offered nothing.
@@ -117,6 +86,23 @@ fn settle_stack(code: &Valid, task: u32, stack: &mut Loaded, into: &mut Offer)
     settle(code, stack, into);
 }
 
+// One instruction of a task that has offered nothing.
+fn step_here(code: &Valid, task: u32, part: &mut Part, into: &mut Offer) -> Gave
+    requires there { task < length code.now.tasks }
+    requires memory { HasMemory code.now task part.old }
+    requires own { IsStackOf code.now task (going_frames (start_of code.now task) (Some part.old)) }
+    ensures does { Does code.now task (going_frames (start_of code.now task) (Some part.old)) part.new.stack.frames (offered_by result into.new) }
+    ensures going { part.new.going ≡ is_none_offered (offered_by result into.new) }
+    ensures own { IsStackOf code.now task part.new.stack.frames }
+    ensures memory { HasMemory code.now task part.new }
+    ensures fits { IfSome (offered_by result into.new) (Fits (setup_of code.now)) }
+{
+    go(code, task, part);
+    let gave = step_stack(code, task, &mut part.stack, into);
+    part.going = is_silent(gave);
+    gave
+}
+
 /// One instruction of a task that has offered nothing.
 pub fn step_part(code: &Valid, parts: &mut Vec<Part>, task: u32, into: &mut Offer) -> Gave
     requires there { task < length code.now.tasks }
@@ -127,11 +113,23 @@ pub fn step_part(code: &Valid, parts: &mut Vec<Part>, task: u32, into: &mut Offe
     ensures memory { HasMemories code.now parts.new.items }
     ensures fits { IfSome (offered_by result into.new) (Fits (setup_of code.now)) }
 {
-    let mut stack = take_going(code, parts, task);
-    let gave = step_stack(code, task, &mut stack, into);
-    let going = is_silent(gave);
-    put(parts, task, stack, going);
-    gave
+    step_here(code, task, &mut parts[task as usize], into)
+}
+
+// A task that has offered nothing goes on to its next action.
+fn settle_here(code: &Valid, task: u32, part: &mut Part, into: &mut Offer)
+    requires there { task < length code.now.tasks }
+    requires memory { HasMemory code.now task part.old }
+    requires own { IsStackOf code.now task (going_frames (start_of code.now task) (Some part.old)) }
+    ensures settles { Settles code.now (going_frames (start_of code.now task) (Some part.old)) part.new.stack.frames (action_of into.new) }
+    ensures still { part.new.going ≡ false }
+    ensures own { IsStackOf code.now task part.new.stack.frames }
+    ensures memory { HasMemory code.now task part.new }
+    ensures fits { Fits (setup_of code.now) (action_of into.new) }
+{
+    go(code, task, part);
+    settle_stack(code, task, &mut part.stack, into);
+    part.going = false;
 }
 
 /// A task that has offered nothing goes on to its next action.
@@ -144,9 +142,20 @@ pub fn settle_part(code: &Valid, parts: &mut Vec<Part>, task: u32, into: &mut Of
     ensures memory { HasMemories code.now parts.new.items }
     ensures fits { Fits (setup_of code.now) (action_of into.new) }
 {
-    let mut stack = take_going(code, parts, task);
-    settle_stack(code, task, &mut stack, into);
-    put(parts, task, stack, false);
+    settle_here(code, task, &mut parts[task as usize], into);
+}
+
+// A task hears what came of the action that it has offered.
+fn answer_here(code: &Valid, task: u32, part: &mut Part, heard: Heard, beside: &Beside)
+    requires memory { HasMemory code.now task part.old }
+    requires own { IsStackOf code.now task part.old.stack.frames }
+    requires suits { CanHear code.now task (row code.now part.old.stack.frames) (answer_of heard beside.now) }
+    ensures heard { part.new ≡ heard_by code.now task part.old.stack (answer_of heard beside.now) }
+    ensures own { IsStackOf code.now task part.new.stack.frames }
+    ensures memory { HasMemory code.now task part.new }
+{
+    answer(code, &mut part.stack, heard, beside);
+    part.going = true;
 }
 
 /// A task hears what came of the action that it has offered.
@@ -161,9 +170,7 @@ pub fn answer_part(code: &Valid, parts: &mut Vec<Part>, task: u32, heard: Heard,
         ((engine code.now).answer task (stack_in (slice_get parts.old.items task)).frames (answer_of heard beside.now)) }
     ensures memory { HasMemories code.now parts.new.items }
 {
-    let mut stack = take(parts, task);
-    answer(code, &mut stack, heard, beside);
-    put(parts, task, stack, true);
+    answer_here(code, task, &mut parts[task as usize], heard, beside);
 }
 
 // Memory for the stacks of these tasks.
@@ -174,9 +181,9 @@ fn first_parts(alloc: Global, tasks: &[Task], frames: usize) -> Result<Vec<Part>
 {
     let mut parts = Vec::with_capacity(alloc, tasks.len())?;
     for task in tasks {
-        let stack = Parked::new(alloc, task.code.depth as usize, frames)?;
+        let stack = Parked::new(alloc, task.code.depth as usize, frames)?.load();
         parts.push(Part {
-            stack: Some(stack),
+            stack,
             going: false,
         })?;
     }

@@ -7,7 +7,7 @@ ghost use Rattle.pearl_instructions.specs.Lawful.{IsLeaf, IsObject};
 ghost use Rattle.pearl_instructions.specs.Setups.{entry_of, first_cells, setup_of};
 
 use pearl_format::item::Item;
-use pearl_instructions::object::{Leaf, Object, Task};
+use pearl_instructions::object::{Leaf, Parts, Task};
 use pearl_rules::setup::{Setup, TaskEntry};
 use pearl_value::cell::{Cell, copy_of};
 use pearl_value::conversion::blank;
@@ -15,7 +15,7 @@ use pearl_value::listing::Listing;
 use std::alloc::{AllocError as NoMemory, Global};
 
 /// The tables of an object.
-pub fn tables(alloc: Global, object: &Object) -> Result<Setup, NoMemory>
+pub fn tables(alloc: Global, object: &Parts) -> Result<Setup, NoMemory>
     requires { IsObject object.now }
     ensures { IfOk result (λ setup. setup ≡ setup_of object.now) }
 {

@@ -1,5 +1,5 @@
 use Rattle.std.proofs.Common.{◌+◌, map, ap, ◌∙◌, length}
-use Rattle.pearl_instructions.specs.declared.object.Object.{Object}
+use Rattle.pearl_instructions.specs.declared.object.Parts.{Parts as Object}
 use Rattle.pearl_machine.specs.Parts.{first_part}
 use Rattle.pearl_machine.proofs.Owned.{all_shallow, first_memories, first_still}
 use Rattle.pearl_machine.proofs.part.new_parts.Goals as goal

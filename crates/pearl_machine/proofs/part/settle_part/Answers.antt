@@ -1,29 +1,37 @@
-use Rattle.std.proofs.Common.{subst, sym, refl, arith, List}
+use Rattle.std.proofs.Common.{arith, sym, ap, subst, slice_set, Bool, Option}
 use Rattle.pearl_exchange.specs.Offers.{action_of}
-use Rattle.pearl_stack.specs.Frames.{Frame}
+use Rattle.pearl_instructions.specs.Owners.{IsStackOf}
 use Rattle.pearl_solo.specs.Settling.{Settles}
-use Rattle.pearl_machine.specs.Parts.{HasMemories}
-use Rattle.pearl_machine.proofs.Listed.{set_again}
-use Rattle.pearl_machine.proofs.Owned.{memory_back}
+use Rattle.pearl_machine.specs.declared.part.Part.{Part}
+use Rattle.pearl_machine.specs.Parts.{going_frames, start_of}
+use Rattle.pearl_machine.proofs.Owned.{memory_back, part_is}
 use Rattle.pearl_machine.proofs.part.settle_part.Goals as goal
+
+pub settle_here-requires-clause-memory : goal.settle_here-requires-clause-memory
+settle_here-requires-clause-memory c =
+    c.requires.memory c.args.task c.index_mut.result.now (part_is c.args.parts.now.items c.args.task c.index_mut.result.now
+    (omega (arith, c.requires.same, c.requires.there)) c.index_mut.ensures.value)
+
+pub settle_here-requires-clause-own : goal.settle_here-requires-clause-own
+settle_here-requires-clause-own c =
+    subst (λ (x : Option Part). IsStackOf c.args.code.now c.args.task
+    (going_frames (start_of c.args.code.now c.args.task) x)) (part_is c.args.parts.now.items c.args.task c.index_mut.result.now
+    (omega (arith, c.requires.same, c.requires.there)) c.index_mut.ensures.value) c.requires.own
 
 pub returns-clause-settles : goal.returns-clause-settles
 returns-clause-settles c = record {
-  after = c.settle_stack.new.stack;
-  settles = subst (λ (frames : List Frame). Settles c.args.code.now frames c.settle_stack.new.stack.frames (action_of c.settle_stack.new.into)) c.take_going-stack.ensures.frames
-      c.settle_stack.ensures.settles;
-  own = c.settle_stack.ensures.own;
-  same = set_again c.args.parts.now.items c.take_going-stack.new.parts.items c.put.new.parts.items c.args.task _ _ c.take_going-stack.ensures.rest.1
-      c.put.ensures;
+  after = c.settle_here.new.part.stack;
+  settles = subst (λ (x : Option Part). Settles c.args.code.now (going_frames (start_of c.args.code.now c.args.task) x)
+      c.settle_here.new.part.stack.frames (action_of c.settle_here.new.into))
+      (sym (part_is c.args.parts.now.items c.args.task c.index_mut.result.now
+      (omega (arith, c.requires.same, c.requires.there)) c.index_mut.ensures.value))
+      c.settle_here.ensures.settles;
+  own = c.settle_here.ensures.own;
+  same = ap (λ (going : Bool). slice_set c.args.parts.now.items c.args.task
+      (record { stack = c.settle_here.new.part.stack; going = going })) c.settle_here.ensures.still;
 }
 
 pub returns-clause-memory : goal.returns-clause-memory
 returns-clause-memory c =
-    let same = set_again c.args.parts.now.items c.take_going-stack.new.parts.items c.put.new.parts.items c.args.task _ _ c.take_going-stack.ensures.rest.1 c.put.ensures in
-    subst (λ parts. HasMemories c.args.code.now parts) (sym same)
-    (memory_back c.args.code.now c.args.parts.now.items c.args.task _ c.requires.memory (record {
-      stack = c.settle_stack.new.stack;
-      has = refl;
-      room_is = omega (arith, c.take_going-stack.ensures.room, c.settle_stack.ensures.memory.0);
-      most = omega (arith, c.take_going-stack.ensures.most, c.settle_stack.ensures.memory.1);
-    }))
+    memory_back c.args.code.now c.args.parts.now.items c.args.task c.settle_here.new.part c.requires.memory
+    c.settle_here.ensures.memory
