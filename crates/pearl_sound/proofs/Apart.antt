@@ -5,7 +5,7 @@ use Rattle.std.proofs.Common.{refl, ap, ◌∙◌, sym, subst, arith}
 use Rattle.std.proofs.lemmas.List.Sums.{sum_by-cons}
 use Rattle.std.proofs.lemmas.Option.{none-some}
 use Rattle.pearl_names.specs.declared.scope.SortedName.{SortedName}
-use Rattle.pearl_names.specs.Tables.{Sense, Variable, Control, OwnParameter, NewType, Semaphore, Interrupt, AlphicDation, BasicDation, Task, Procedure}
+use Rattle.pearl_names.specs.Tables.{Sense, Variable, Semaphore, Task, Procedure}
 use Rattle.pearl_system.specs.declared.device.SpecifiedDevice.{SpecifiedDevice}
 use Rattle.pearl_resolve.specs.Numbers.{Before, behind, module_number, module_numbers}
 use Rattle.pearl_check.specs.Sizes.{procedure_count}
@@ -22,18 +22,8 @@ itself : (before : Before) → IsBehind before before
 itself before = record { leaves = omega arith; semaphores = omega arith; tasks = omega arith; procedures = omega arith }
 
 steps : (before : Before) (sense : Sense) → IsBehind before (behind before sense)
-steps before (Variable form inv) =
-    record { leaves = omega arith; semaphores = omega arith; tasks = omega arith; procedures = omega arith }
 steps before Semaphore = record { leaves = omega arith; semaphores = omega arith; tasks = omega arith; procedures = omega arith }
-steps before Task = record { leaves = omega arith; semaphores = omega arith; tasks = omega arith; procedures = omega arith }
-steps before (Procedure parameters result) =
-    record { leaves = omega arith; semaphores = omega arith; tasks = omega arith; procedures = omega arith }
-steps before (Control kind) = itself before
-steps before (OwnParameter parameter) = itself before
-steps before NewType = itself before
-steps before Interrupt = itself before
-steps before (AlphicDation direction) = itself before
-steps before (BasicDation direction kind) = itself before
+steps before sense = record { leaves = omega arith; semaphores = omega arith; tasks = omega arith; procedures = omega arith }
 
 follows : {a b c : Before} → IsBehind a b → IsBehind b c → IsBehind a c
 follows one two = record {
@@ -51,15 +41,7 @@ one_more before head rest j = by head (sum_by-cons procedure_count head (take j 
     by : (sense : Sense) → sum_by procedure_count (sense ∷ take j rest) ≡ procedure_count sense + sum_by procedure_count (take j rest) →
         procedures_before (behind before sense) rest j ≡ procedures_before before (sense ∷ rest) (suc j)
     by (Procedure parameters result) sum = omega (arith, sum)
-    by (Variable form inv) sum = omega (arith, sum)
-    by (Control kind) sum = omega (arith, sum)
-    by (OwnParameter parameter) sum = omega (arith, sum)
-    by NewType sum = omega (arith, sum)
-    by Semaphore sum = omega (arith, sum)
-    by Interrupt sum = omega (arith, sum)
-    by (AlphicDation direction) sum = omega (arith, sum)
-    by (BasicDation direction kind) sum = omega (arith, sum)
-    by Task sum = omega (arith, sum)
+    by sense sum = omega (arith, sum)
 
 module _ (devices : List SpecifiedDevice) (numbers : List ℕ) where
   -- what stood before a name

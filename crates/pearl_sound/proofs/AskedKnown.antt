@@ -8,7 +8,7 @@ use Rattle.pearl_tree.specs.Faults.{fault_if}
 use Rattle.pearl_tree.specs.Names.{name_text}
 use Rattle.pearl_tree.specs.ShownExpressions.{ShownExprs, OfSubscripts}
 use Rattle.pearl_names.specs.declared.scope.View.TheVariants.{Within, WhileOf}
-use Rattle.pearl_names.specs.Tables.{Sense, Variable, Control, OwnParameter, NewType, Semaphore, Interrupt, AlphicDation, BasicDation, Task, Procedure, Table, sense_from}
+use Rattle.pearl_names.specs.Tables.{Sense, BasicDation, Table, sense_from}
 use Rattle.pearl_check_expr.specs.Judged.{judged_all}
 use Rattle.pearl_check_expr.specs.Senses.{Callee, callee_of}
 use Rattle.pearl_check_expr.specs.Standings.{faults_of}
@@ -23,15 +23,7 @@ use Rattle.pearl_sound.proofs.SoundParts.{some_one, callee_is}
 
 sense_known : (sense : Sense) → IsComplete sense → IsKnownSense sense
 sense_known (BasicDation direction kind) complete = complete
-sense_known (Variable form inv) complete = tt
-sense_known (Control kind) complete = tt
-sense_known (OwnParameter parameter) complete = tt
-sense_known NewType complete = tt
-sense_known Semaphore complete = tt
-sense_known Interrupt complete = tt
-sense_known (AlphicDation direction) complete = tt
-sense_known Task complete = tt
-sense_known (Procedure parameters result) complete = tt
+sense_known sense complete = tt
 
 module _ (table : Table) (scope : ℕ) where
   -- a name that stands for no procedure breaks a rule

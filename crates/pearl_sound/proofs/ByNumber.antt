@@ -47,7 +47,7 @@ not_same x y other = by (nat_eq x y) refl
     by true is = absurd (true≢false (sym (eq-eqb y x (sym (eqb-true x y is))) ∙ other))
     by false is = refl
 
-first_at : (numbers : List ℕ) (k x : ℕ) → slice_get numbers k ≡ Some x → IsDistinct nat_eq numbers → position_or_len (nat_eq x) numbers ≡ k
+pub first_at : (numbers : List ℕ) (k x : ℕ) → slice_get numbers k ≡ Some x → IsDistinct nat_eq numbers → position_or_len (nat_eq x) numbers ≡ k
 unfolding IsDistinct
 first_at [] k x is distinct = absurd (none-some x is)
 first_at (first ∷ rest) zero x is distinct =
@@ -57,20 +57,20 @@ first_at (first ∷ rest) (suc k) x is distinct =
     let more = first_at rest k x is distinct.1 in
     ap (λ b. if not b then 1 + position_or_len (nat_eq x) rest else 0) other ∙ omega (arith, more)
 
-position_is : (numbers : List ℕ) (k x : ℕ) → slice_get numbers k ≡ Some x → IsDistinct nat_eq numbers → position (nat_eq x) numbers ≡ Some k
+pub position_is : (numbers : List ℕ) (k x : ℕ) → slice_get numbers k ≡ Some x → IsDistinct nat_eq numbers → position (nat_eq x) numbers ≡ Some k
 position_is numbers k x is distinct =
     let first = first_at numbers k x is distinct in
     ap (λ n. if nat_lt n (length numbers) then Some n else None) first ∙
     ap (λ b. if b then Some k else None) (lt-ltb k (length numbers) (slice_get_within numbers k x is))
 
 -- an element that passes a test
-record Passes (p : ℕ → Bool) (numbers : List ℕ) : Type 0 where
+pub record Passes (p : ℕ → Bool) (numbers : List ℕ) : Type 0 where
   pub index : ℕ
   pub number : ℕ
   pub there : slice_get numbers index ≡ Some number
   pub passes : p number ≡ true
 
-any_passes : (p : ℕ → Bool) (numbers : List ℕ) → list_any p numbers ≡ true → Passes p numbers
+pub any_passes : (p : ℕ → Bool) (numbers : List ℕ) → list_any p numbers ≡ true → Passes p numbers
 any_passes p [] any = absurd (true≢false (sym any))
 any_passes p (first ∷ rest) any = by (p first) refl any (λ more. any_passes p rest more)
   where
@@ -84,7 +84,7 @@ none_passes p [] none = tt
 none_passes p (first ∷ rest) none = let parts = neither (p first) (list_any p rest) none in (parts.0, none_passes p rest parts.1)
 
 -- each number below the count is given
-given : (numbers : List ℕ) (x : ℕ) → AllByRecursion (λ number. number < length numbers) numbers → IsDistinct nat_eq numbers → x < length numbers →
+pub given : (numbers : List ℕ) (x : ℕ) → AllByRecursion (λ number. number < length numbers) numbers → IsDistinct nat_eq numbers → x < length numbers →
     Passes (nat_eq x) numbers
 unfolding IsDistinct
 given numbers x below distinct less = by (list_any (nat_eq x) numbers) refl

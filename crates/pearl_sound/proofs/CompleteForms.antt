@@ -85,14 +85,7 @@ meant_known : (shapes : List (Option Shape)) (types : ℕ) (found : Option NameS
 meant_known shapes types None all enough there before = absurd (true≢false there)
 meant_known shapes types (Some (sort.NewType number)) all enough there before =
     let less = leb-false types number before in type_known shapes number all (omega (arith, less, enough))
-meant_known shapes types (Some sort.Variable) all enough there before = absurd (true≢false before)
-meant_known shapes types (Some sort.Control) all enough there before = absurd (true≢false before)
-meant_known shapes types (Some sort.Parameter) all enough there before = absurd (true≢false before)
-meant_known shapes types (Some sort.Semaphore) all enough there before = absurd (true≢false before)
-meant_known shapes types (Some sort.Interrupt) all enough there before = absurd (true≢false before)
-meant_known shapes types (Some sort.Dation) all enough there before = absurd (true≢false before)
-meant_known shapes types (Some sort.Task) all enough there before = absurd (true≢false before)
-meant_known shapes types (Some sort.Procedure) all enough there before = absurd (true≢false before)
+meant_known shapes types other all enough there before = absurd (true≢false before)
 
 none_twice : (before names : List Name) → repeats rule.S6 before names ≡ [] → has_repeats before names ≡ false
 none_twice before [] none = refl

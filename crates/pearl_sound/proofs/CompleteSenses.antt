@@ -275,11 +275,7 @@ shapes_grow names lengths shapes (decl ∷ rest) =
 
 one_shape : (known : Known) (shapes : List (Option Shape)) (decl : ShownDecl) → length (decl_shapes (seen_with known shapes 0) decl) ≡ types_in decl
 one_shape known shapes (OfType name part place) = refl
-one_shape known shapes (OfLength of number place) = refl
-one_shape known shapes (OfDeclare parts place) = refl
-one_shape known shapes (OfSpecify specs place) = refl
-one_shape known shapes (OfTask name head body place) = refl
-one_shape known shapes (OfProc name params returns body place) = refl
+one_shape known shapes decl = refl
 
 so_many : (known : Known) (shapes : List (Option Shape)) (types : ℕ) (decl : ShownDecl) → length shapes ≡ types →
     length (shapes ++ decl_shapes (seen_with known shapes 0) decl) ≡ types + types_in decl
@@ -310,11 +306,7 @@ decl_there : (known : Known) (shapes : List (Option Shape)) (types next : ℕ) (
     AreUnbroken known (decl_parts types next decl) → AllThere (decl_shapes (seen_with known shapes 0) decl)
 decl_there known shapes types next (OfType name part place) all same kept =
     (shape_known known shapes 0 types all (omega (arith, same)) part kept, tt)
-decl_there known shapes types next (OfLength of number place) all same kept = tt
-decl_there known shapes types next (OfDeclare parts place) all same kept = tt
-decl_there known shapes types next (OfSpecify specs place) all same kept = tt
-decl_there known shapes types next (OfTask name head body place) all same kept = tt
-decl_there known shapes types next (OfProc name params returns body place) all same kept = tt
+decl_there known shapes types next decl all same kept = tt
 
 shapes_there : (known : Known) (shapes : List (Option Shape)) (types next : ℕ) (decls : List ShownDecl) → AllThere shapes → length shapes ≡ types →
     AreUnbroken known (decls_parts types next decls) → AllThere (shapes_after known.scopes known.lengths shapes decls)

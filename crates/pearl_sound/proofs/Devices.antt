@@ -7,7 +7,7 @@ use Rattle.std.proofs.lemmas.Option.{none-some}
 use Rattle.std.proofs.lemmas.Slice.Eq.{bytes_eq-Decides}
 use Rattle.pearl_tree.specs.Names.{name_text}
 use Rattle.pearl_names.specs.declared.scope.SortedName.{SortedName}
-use Rattle.pearl_names.specs.Tables.{Sense, Variable, Control, OwnParameter, NewType, Semaphore, Interrupt, AlphicDation, BasicDation, Task, Procedure}
+use Rattle.pearl_names.specs.Tables.{Sense, Interrupt, AlphicDation, BasicDation}
 use Rattle.pearl_system.specs.declared.device.SpecifiedDevice.{SpecifiedDevice}
 use Rattle.pearl_resolve.specs.Numbers.{Before, behind, device_number, module_number, module_numbers}
 use Rattle.pearl_sound.specs.Laws.{IsOfDevice, has_text}
@@ -77,13 +77,7 @@ module _ (devices : List SpecifiedDevice) (numbers : List ℕ) where
   same_number at entry Interrupt number of is = is
   same_number at entry (AlphicDation direction) number of is = is
   same_number at entry (BasicDation direction kind) number of is = is
-  same_number at entry (Variable form inv) number of is = absurd of
-  same_number at entry (Control kind) number of is = absurd of
-  same_number at entry (OwnParameter parameter) number of is = absurd of
-  same_number at entry NewType number of is = absurd of
-  same_number at entry Semaphore number of is = absurd of
-  same_number at entry Task number of is = absurd of
-  same_number at entry (Procedure parameters result) number of is = absurd of
+  same_number at entry sense number of is = absurd of
 
   pub names_devices : (before : Before) (entries : List SortedName) (senses : List Sense) (i number : ℕ) (entry : SortedName) (sense : Sense) →
       slice_get entries i ≡ Some entry → slice_get senses i ≡ Some sense → IsOfDevice sense →

@@ -1,36 +1,80 @@
 -- The cells, hidden cells and numbers of a routine are those of its stretches.
 use Rattle.std.specs.Prelude.{◌≡◌, ℕ, ◌+◌, ◌*◌, Bool, true, false, if◌then◌else◌, List, [], ◌∷◌, ◌++◌, length, map, Option, Some, None, option_map}
 use Rattle.std.proofs.Common.{refl, ap, ◌∙◌, sym, subst, arith}
-use Rattle.std.proofs.lemmas.List.{append-nil, length-map}
+use Rattle.std.proofs.lemmas.List.{append-nil, append_assoc, length-map}
 use Rattle.std.proofs.lemmas.List.Concat.{flat_map-append}
 use Rattle.pearl_value.specs.declared.kind.CellKind.{CellKind}
+use Rattle.pearl_tree.specs.declared.name.Name.{Name}
 use Rattle.pearl_tree.specs.declared.statement.TaskWord.{TaskWord}
-use Rattle.pearl_tree.specs.declared.statement.TaskWord.TheVariants.{Suspend, Terminate, Prevent}
+use Rattle.pearl_tree.specs.declared.statement.TaskWord.TheVariants.{Suspend}
 use Rattle.pearl_tree.specs.declared.statement.SemaWord.{SemaWord}
 use Rattle.pearl_tree.specs.declared.statement.SemaWord.TheVariants.{Request, Release}
 use Rattle.pearl_tree.specs.declared.statement.InterruptWord.{InterruptWord}
-use Rattle.pearl_tree.specs.declared.statement.InterruptWord.TheVariants.{Enable, Disable, Trigger}
+use Rattle.pearl_tree.specs.declared.statement.InterruptWord.TheVariants.{Enable}
 use Rattle.pearl_tree.specs.declared.typing.Sort.TheVariants as sort
+use Rattle.pearl_tree.specs.Names.{names_of}
+use Rattle.pearl_tree.specs.ShownLiterals.{ShownConst}
 use Rattle.pearl_tree.specs.ShownExpressions.{ShownRef}
+use Rattle.pearl_tree.specs.ShownDeclarations.{ShownItem}
 use Rattle.pearl_tree.specs.ShownStatements as shown
-use Rattle.pearl_tree.specs.ShownStatements.{ShownStmt, ShownStmts, ShownBranches, ShownOtherwise}
+use Rattle.pearl_tree.specs.ShownStatements.{ShownBodyDecl, ShownStmt, ShownStmts, ShownBranches, ShownOtherwise}
 use Rattle.pearl_tree.specs.ShownModules.{ShownBody}
 use Rattle.pearl_names.specs.declared.scope.View.TheVariants.{Within}
 use Rattle.pearl_names.specs.Lengths.{length_at}
 use Rattle.pearl_names.specs.Scopes.{as_stmts}
 use Rattle.pearl_names.specs.Tables.{Table}
 use Rattle.pearl_program.specs.PlainExpressions.{PlainExpr}
-use Rattle.pearl_program.specs.PlainStatements.{PlainStmts}
+use Rattle.pearl_program.specs.PlainStatements.{PlainStmts, NoStmts, MoreStmts}
+use Rattle.pearl_program.specs.PlainPrograms.{PlainLeaf}
 use Rattle.pearl_program.specs.HiddenCells as hiding
 use Rattle.pearl_program.specs.HiddenCells.{run, hidden_in_all, hidden_in_branches}
+use Rattle.pearl_resolve.specs.Laying.{leaves_of_sense, left_behind, filled_leaves}
 use Rattle.pearl_resolve.specs.Numbers.{At, counts, loop_cells, entered, scope_numbers, after, after_all, after_branches, after_otherwise, numbers_in, numbers_in_all, numbers_in_branches, numbers_in_otherwise, routine_start, in_body, after_body, body_numbers}
-use Rattle.pearl_resolve.specs.Expressions.{Numbered, number_of, resolve_variable}
+use Rattle.pearl_resolve.specs.Expressions.{Numbered, Meant, meant, number_of, resolve_variable}
 use Rattle.pearl_resolve.specs.Cells.{scope_cells, counter_cells, get_cells, cells_in, cells_in_all, cells_in_branches, cells_in_otherwise, routine_cells}
-use Rattle.pearl_resolve.specs.Statements.{value_in, on_task, on_semaphores, on_interrupt, counter_in, joined, declared_renewals, alone, resolve_stmt, resolve_all, resolve_branches, resolve_otherwise}
+use Rattle.pearl_resolve.specs.Statements.{value_in, on_task, on_semaphores, on_interrupt, counter_in, renewals, joined, variable_renewals, slots_of_meant, names_renewals, items_renewals, declared_renewals, alone, resolve_stmt, resolve_all, resolve_branches, resolve_otherwise}
 use Rattle.pearl_resolve.specs.Resolve.{resolve_routine}
 use Rattle.pearl_sound.specs.Stretches.{Stretch, OfTargets, loop_stretch, scope_stretch, stretches_in, stretches_in_all, stretches_in_branches, stretches_in_otherwise, routine_stretches, hidden_in, rows_in, AreInARow, IsDivided}
 use Rattle.pearl_sound.proofs.Going.{scope_length, get_length}
-use Rattle.pearl_sound.proofs.HiddenRising.{joined_hidden, behind_none, declared_none}
+
+-- first values hide nothing
+joined_hidden : (x y : PlainStmts) → hidden_in_all (joined x y) ≡ hidden_in_all x ++ hidden_in_all y
+joined_hidden NoStmts y = refl
+joined_hidden (MoreStmts s rest) y =
+    ap (λ more. hiding.hidden_in s ++ more) (joined_hidden rest y) ∙
+    sym (append_assoc (hiding.hidden_in s) (hidden_in_all rest) (hidden_in_all y))
+
+behind_none : (x y : PlainStmts) → hidden_in_all x ≡ [] → hidden_in_all (joined x y) ≡ hidden_in_all y
+behind_none x y none = joined_hidden x y ∙ ap (λ cells. cells ++ hidden_in_all y) none
+
+renewals_none : (cell : ℕ) (leaves : List PlainLeaf) → hidden_in_all (renewals cell leaves) ≡ []
+renewals_none cell [] = refl
+renewals_none cell (leaf ∷ rest) = renewals_none (cell + leaf.values.count) rest
+
+variable_none : (constants : List ShownConst) (thing : Option Meant) → hidden_in_all (variable_renewals constants thing) ≡ []
+variable_none constants None = refl
+variable_none constants (Some thing) = renewals_none thing.number (filled_leaves [] constants (leaves_of_sense thing.sense))
+
+names_none : (numbered : Numbered) (scope : ℕ) (constants : List ShownConst) (names : List Name) →
+    hidden_in_all (names_renewals numbered scope constants names) ≡ []
+names_none numbered scope constants [] = refl
+names_none numbered scope constants (name ∷ rest) =
+    let left = left_behind (slots_of_meant (meant numbered (Within scope) name)) constants in
+    behind_none (variable_renewals constants (meant numbered (Within scope) name)) (names_renewals numbered scope left rest)
+    (variable_none constants (meant numbered (Within scope) name)) ∙ names_none numbered scope left rest
+
+items_none : (numbered : Numbered) (scope : ℕ) (items : List ShownItem) → hidden_in_all (items_renewals numbered scope items) ≡ []
+items_none numbered scope [] = refl
+items_none numbered scope (item ∷ rest) =
+    behind_none (names_renewals numbered scope item.init (names_of item.names)) (items_renewals numbered scope rest)
+    (names_none numbered scope item.init (names_of item.names)) ∙ items_none numbered scope rest
+
+declared_none : (numbered : Numbered) (scope : ℕ) (declarations : List ShownBodyDecl) →
+    hidden_in_all (declared_renewals numbered scope declarations) ≡ []
+declared_none numbered scope [] = refl
+declared_none numbered scope (declaration ∷ rest) =
+    behind_none (items_renewals numbered scope declaration.items) (declared_renewals numbered scope rest)
+    (items_none numbered scope declaration.items) ∙ declared_none numbered scope rest
 
 row_joins : (table : Table) (next cell : ℕ) (one two : List Stretch) (middle at end to : ℕ) →
     AreInARow table next cell one middle at → AreInARow table middle at two end to → AreInARow table next cell (one ++ two) end to
@@ -102,8 +146,7 @@ targets_divide numbered scope at to targets next cell =
 
 task_hides : (word : TaskWord) (task : Option ℕ) → [] ≡ hidden_in_all (alone (on_task word task))
 task_hides Suspend task = refl
-task_hides Terminate task = refl
-task_hides Prevent task = refl
+task_hides other task = refl
 
 semaphores_hide : (word : SemaWord) (semaphores : List ℕ) → [] ≡ hidden_in_all (alone (on_semaphores word semaphores))
 semaphores_hide Request semaphores = refl
@@ -111,11 +154,10 @@ semaphores_hide Release semaphores = refl
 
 interrupt_hides : (word : InterruptWord) (interrupt : ℕ) → [] ≡ hidden_in_all (alone (on_interrupt word interrupt))
 interrupt_hides Enable interrupt = refl
-interrupt_hides Disable interrupt = refl
-interrupt_hides Trigger interrupt = refl
+interrupt_hides other interrupt = refl
 
 -- what a scope's text is divided into, first values and all
-body_divides : (numbered : Numbered) (from at to : At) (hidden : ℕ) (declarations : List shown.ShownBodyDecl) (body : PlainStmts)
+body_divides : (numbered : Numbered) (from at to : At) (hidden : ℕ) (declarations : List ShownBodyDecl) (body : PlainStmts)
     {inner : List Stretch} {cells : List CellKind} {numbers : List (List ℕ)} → at.next ≡ from.next → at.cell + hidden ≡ from.cell →
     IsDivided numbered.table (entered numbered.table hidden at) to inner cells (hidden_in_all body) numbers →
     IsDivided numbered.table from to (scope_stretch numbered.table hidden at ∷ inner) (scope_cells numbered.table at.next ++ cells)
@@ -154,14 +196,6 @@ mutual
   stmt_divides numbered scope at (shown.OfGet targets dation formats place) =
       targets_divide numbered scope at (record at { cell = at.cell + 2 * length targets; format = at.format + 1 }) targets refl refl
   stmt_divides numbered scope at (shown.OfPut values dation formats place) = stays numbered.table at (record at { format = at.format + 1 }) refl refl
-  stmt_divides numbered scope at (shown.OfEmpty place) = stays_here numbered.table at
-  stmt_divides numbered scope at (shown.OfAssign target value place) = stays_here numbered.table at
-  stmt_divides numbered scope at (shown.OfCall call name arguments place) = stays_here numbered.table at
-  stmt_divides numbered scope at (shown.OfExit place) = stays_here numbered.table at
-  stmt_divides numbered scope at (shown.OfReturn value place) = stays_here numbered.table at
-  stmt_divides numbered scope at (shown.OfActivate start task priority place) = stays_here numbered.table at
-  stmt_divides numbered scope at (shown.OfContinue once task place) = stays_here numbered.table at
-  stmt_divides numbered scope at (shown.OfResume once place) = stays_here numbered.table at
   stmt_divides numbered scope at (shown.OfOnTask word task place) =
       let given = option_map (number_of numbered (Within scope)) task in
       hide_same [] (hidden_in_all (alone (on_task word given))) (task_hides word given) (stays_here numbered.table at)
@@ -171,8 +205,7 @@ mutual
   stmt_divides numbered scope at (shown.OfOnInterrupt word name place) =
       let given = number_of numbered (Within scope) name in
       hide_same [] (hidden_in_all (alone (on_interrupt word given))) (interrupt_hides word given) (stays_here numbered.table at)
-  stmt_divides numbered scope at (shown.OfSend value dation place) = stays_here numbered.table at
-  stmt_divides numbered scope at (shown.OfTake target dation place) = stays_here numbered.table at
+  stmt_divides numbered scope at statement = stays_here numbered.table at
 
   all_divide : (numbered : Numbered) (scope : ℕ) (at : At) (statements : ShownStmts) →
       IsDivided numbered.table at (after_all numbered.table at statements) (stretches_in_all numbered scope at statements)

@@ -61,28 +61,14 @@ item_taken (Wide word width place) kind kinds is has = absurd (true≢false (sym
 
 data_item : (of : ItemCode) (width : ℕ) (kind : Kind) (kinds : List Kind) (rest : List Kind → Type 0) → TakesKind of width kind → rest kinds →
     SuitsItem of width (kind ∷ kinds) rest
-data_item code.A width kind kinds rest takes more = (takes, more)
-data_item code.B1 width kind kinds rest takes more = (takes, more)
-data_item code.B2 width kind kinds rest takes more = (takes, more)
-data_item code.B3 width kind kinds rest takes more = (takes, more)
-data_item code.B4 width kind kinds rest takes more = (takes, more)
-data_item code.F width kind kinds rest takes more = (takes, more)
-data_item code.T width kind kinds rest takes more = (takes, more)
-data_item code.D width kind kinds rest takes more = (takes, more)
 data_item code.X width kind kinds rest takes more = absurd takes
 data_item code.Skip width kind kinds rest takes more = absurd takes
+data_item other width kind kinds rest takes more = (takes, more)
 
 one_here : (of : ItemCode) (width : ℕ) (kind : Kind) → TakesKind of width kind → data_here of ≡ 1
-one_here code.A width kind takes = refl
-one_here code.B1 width kind takes = refl
-one_here code.B2 width kind takes = refl
-one_here code.B3 width kind takes = refl
-one_here code.B4 width kind takes = refl
-one_here code.F width kind takes = refl
-one_here code.T width kind takes = refl
-one_here code.D width kind takes = refl
 one_here code.X width kind takes = absurd takes
 one_here code.Skip width kind takes = absurd takes
+one_here other width kind takes = refl
 
 -- the items suit these kinds, and their widths are those that are counted
 record AreTaken (items : List Fmt) (kinds : List Kind) : Type 0 where

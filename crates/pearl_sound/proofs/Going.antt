@@ -10,22 +10,23 @@ use Rattle.pearl_value.specs.declared.kind.CellKind.TheVariants.{Plain}
 use Rattle.pearl_format.specs.declared.item.Item.{Item}
 use Rattle.pearl_tree.specs.declared.typing.Sort.TheVariants as sort
 use Rattle.pearl_tree.specs.ShownExpressions.{ShownRef}
-use Rattle.pearl_tree.specs.ShownStatements.{ShownStmt, OfEmpty, OfAssign, OfCall, OfIf, OfCase, OfRepeat, OfExit, OfBegin, OfReturn, OfActivate, OfContinue, OfResume, OfOnTask, OfOnSemas, OfOnInterrupt, OfPut, OfGet, OfSend, OfTake, ShownStmts, NoStmts, MoreStmts, ShownBranches, NoBranches, MoreBranches, ShownOtherwise, NoOtherwise, OfOtherwise}
+use Rattle.pearl_tree.specs.ShownStatements.{ShownStmt, OfIf, OfCase, OfRepeat, OfBegin, OfPut, OfGet, ShownStmts}
 use Rattle.pearl_tree.specs.ShownModules.{ShownBody}
 use Rattle.pearl_names.specs.Lengths.{length_at}
 use Rattle.pearl_names.specs.Layout.{Leaf, elements, leaf_slots, slots_of}
-use Rattle.pearl_names.specs.Scopes.{as_stmts, scopes_in, scopes_in_all, scopes_in_branches, scopes_in_otherwise}
-use Rattle.pearl_names.specs.Tables.{Sense, Variable, Control, OwnParameter, NewType, Semaphore, Interrupt, AlphicDation, BasicDation, Task, Procedure, Table}
+use Rattle.pearl_names.specs.Scopes.{as_stmts, scopes_in_all}
+use Rattle.pearl_names.specs.Tables.{Sense, Variable, Table}
 use Rattle.pearl_resolve.specs.Laying.{leaves_of_sense, slots, cells_of_sense}
-use Rattle.pearl_resolve.specs.Numbers.{At, counts, loop_cells, entered, scope_numbers, after, after_all, after_branches, after_otherwise, numbers_in, numbers_in_all, numbers_in_branches, numbers_in_otherwise, senses_at, routine_start, in_body, after_body}
+use Rattle.pearl_resolve.specs.Numbers.{At, counts, loop_cells, entered, scope_numbers, after_all, numbers_in_all, senses_at, routine_start, in_body, after_body}
 use Rattle.pearl_names.specs.declared.scope.View.TheVariants.{Within}
 use Rattle.pearl_value.specs.declared.kind.Kind.TheVariants.{Fixed}
 use Rattle.pearl_resolve.specs.Expressions.{Numbered, target_kind}
-use Rattle.pearl_resolve.specs.Cells.{sense_cells, scope_cells, counter_cells, get_cells, cells_in, cells_in_all, cells_in_branches, cells_in_otherwise, routine_cells}
-use Rattle.pearl_resolve.specs.Resolve.{formats_in, formats_in_all, formats_in_branches, formats_in_otherwise}
+use Rattle.pearl_resolve.specs.Cells.{sense_cells, scope_cells, counter_cells, get_cells, cells_in_all, routine_cells}
+use Rattle.pearl_resolve.specs.Resolve.{formats_in_all}
 use Rattle.pearl_sound.specs.Laws.{GoesPast}
+use Rattle.pearl_sound.proofs.Walk.{Passage, One, Each, Branches, Otherwise, PartsKeep, walk, Pieces, in_turn, pieces, summed}
 
-same_sums : {X : Type 0} (f g : X → ℕ) → ((x : X) → f x ≡ g x) → (xs : List X) → sum_by f xs ≡ sum_by g xs
+pub same_sums : {X : Type 0} (f g : X → ℕ) → ((x : X) → f x ≡ g x) → (xs : List X) → sum_by f xs ≡ sum_by g xs
 same_sums f g same [] = refl
 same_sums f g same (x ∷ xs) = rw (sum_by-cons f x xs, sum_by-cons g x xs, same x, same_sums f g same xs) refl
 
@@ -41,15 +42,7 @@ variable_length leaves = length-map (slots_of leaves) (λ kind. Plain kind) ∙ 
 
 pub sense_length : (sense : Sense) → length (sense_cells sense) ≡ cells_of_sense sense
 sense_length (Variable form inv) = variable_length (leaves_of_sense (Variable form inv))
-sense_length (OwnParameter parameter) = refl
-sense_length (Control kind) = refl
-sense_length NewType = refl
-sense_length Semaphore = refl
-sense_length Interrupt = refl
-sense_length (AlphicDation direction) = refl
-sense_length (BasicDation direction kind) = refl
-sense_length Task = refl
-sense_length (Procedure parameters result) = refl
+sense_length sense = refl
 
 pub scope_length : (table : Table) (scope : ℕ) → length (scope_cells table scope) ≡ sum_by cells_of_sense (senses_at table scope)
 scope_length table scope =
@@ -102,82 +95,51 @@ get_length numbered scope targets =
     let c = length-replicate (length targets) (Plain (Fixed 31)) in
     omega (arith, a, b, c)
 
-mutual
-  pub stmt_goes : (numbered : Numbered) (scope : ℕ) (at : At) (s : ShownStmt) →
-      GoesPast at (after numbered.table at s) (scopes_in s) (numbers_in numbered.table at s) (cells_in numbered scope at s) (formats_in s)
-  stmt_goes numbered scope at (OfIf condition statements otherwise place) =
-      joins (scopes_in_all statements) (scopes_in_otherwise otherwise) (numbers_in_all numbered.table at statements)
-      (numbers_in_otherwise numbered.table (after_all numbered.table at statements) otherwise)
-      (cells_in_all numbered scope at statements) (cells_in_otherwise numbered scope (after_all numbered.table at statements) otherwise)
-      (formats_in_all statements) (formats_in_otherwise otherwise)
-      (all_go numbered scope at statements) (otherwise_goes numbered scope (after_all numbered.table at statements) otherwise)
-  stmt_goes numbered scope at (OfCase selector alternatives otherwise place) =
-      joins (scopes_in_branches alternatives) (scopes_in_otherwise otherwise) (numbers_in_branches numbered.table at alternatives)
-      (numbers_in_otherwise numbered.table (after_branches numbered.table at alternatives) otherwise)
-      (cells_in_branches numbered scope at alternatives)
-      (cells_in_otherwise numbered scope (after_branches numbered.table at alternatives) otherwise)
-      (formats_in_branches alternatives) (formats_in_otherwise otherwise)
-      (branches_go numbered scope at alternatives)
-      (otherwise_goes numbered scope (after_branches numbered.table at alternatives) otherwise)
-  stmt_goes numbered scope at (OfRepeat control begin step end condition declarations statements body_place place) =
+-- a passage goes past what it brings
+abbrev pub Goes : Pieces → Type 0
+Goes piece =
+    (scope : ℕ) (at : At) → GoesPast at (piece.after at) piece.scopes (piece.numbers at) (piece.cells scope at) piece.formats
+
+both_go : (one two : Pieces) → Goes one → Goes two → Goes (in_turn one two)
+both_go one two first second scope at =
+    joins one.scopes two.scopes (one.numbers at) (two.numbers (one.after at)) (one.cells scope at) (two.cells scope (one.after at)) one.formats
+    two.formats (first scope at) (second scope (one.after at))
+
+module _ (numbered : Numbered) where
+  stmt_goes : (s : ShownStmt) → PartsKeep (λ passage. Goes (pieces numbered passage)) s → Goes (pieces numbered (One s))
+  stmt_goes (OfIf condition statements otherwise place) parts =
+      both_go (pieces numbered (Each statements)) (pieces numbered (Otherwise otherwise)) parts.0 parts.1
+  stmt_goes (OfCase selector alternatives otherwise place) parts =
+      both_go (pieces numbered (Branches alternatives)) (pieces numbered (Otherwise otherwise)) parts.0 parts.1
+  stmt_goes (OfRepeat control begin step end condition declarations statements body_place place) parts = λ scope at.
       let inner = entered numbered.table (loop_cells control begin step end) at in
       let hidden = counter_cells (counts control begin step end) (length_at numbered.table.lengths sort.Fixed place) in
+      let row = scope_numbers numbered.table (loop_cells control begin step end) at in
       past_scope hidden (scope_cells numbered.table at.next) (cells_in_all numbered at.next inner statements)
-      (joins 1 (scopes_in_all statements) (scope_numbers numbered.table (loop_cells control begin step end) at ∷ [])
-      (numbers_in_all numbered.table inner statements) (hidden ++ scope_cells numbered.table at.next)
+      (joins 1 (scopes_in_all statements) (row ∷ []) (numbers_in_all numbered.table inner statements) (hidden ++ scope_cells numbered.table at.next)
       (cells_in_all numbered at.next inner statements) [] (formats_in_all statements)
-      (enters_loop numbered.table at (counts control begin step end) (length_at numbered.table.lengths sort.Fixed place)
-      (scope_numbers numbered.table (loop_cells control begin step end) at))
-      (all_go numbered at.next inner statements))
-  stmt_goes numbered scope at (OfBegin declarations statements body_place place) =
-      joins 1 (scopes_in_all statements) (scope_numbers numbered.table 0 at ∷ [])
-      (numbers_in_all numbered.table (entered numbered.table 0 at) statements) (scope_cells numbered.table at.next)
-      (cells_in_all numbered at.next (entered numbered.table 0 at) statements) [] (formats_in_all statements)
-      (enters numbered.table at [] (scope_numbers numbered.table 0 at))
-      (all_go numbered at.next (entered numbered.table 0 at) statements)
-  stmt_goes numbered scope at (OfPut values dation formats place) =
+      (enters_loop numbered.table at (counts control begin step end) (length_at numbered.table.lengths sort.Fixed place) row)
+      (parts at.next inner))
+  stmt_goes (OfBegin declarations statements body_place place) parts = λ scope at.
+      let inner = entered numbered.table 0 at in
+      let row = scope_numbers numbered.table 0 at in
+      joins 1 (scopes_in_all statements) (row ∷ []) (numbers_in_all numbered.table inner statements) (scope_cells numbered.table at.next)
+      (cells_in_all numbered at.next inner statements) [] (formats_in_all statements) (enters numbered.table at [] row) (parts at.next inner)
+  stmt_goes (OfPut values dation formats place) parts = λ scope at.
       record { each = refl; next = omega arith; cell = omega arith; format = refl }
-  stmt_goes numbered scope at (OfGet targets dation formats place) =
+  stmt_goes (OfGet targets dation formats place) parts = λ scope at.
       record { each = refl; next = omega arith; cell = let a = get_length numbered scope targets in omega (arith, a); format = refl }
-  stmt_goes numbered scope at (OfEmpty place) = stays at
-  stmt_goes numbered scope at (OfAssign target value place) = stays at
-  stmt_goes numbered scope at (OfCall call name arguments place) = stays at
-  stmt_goes numbered scope at (OfExit place) = stays at
-  stmt_goes numbered scope at (OfReturn value place) = stays at
-  stmt_goes numbered scope at (OfActivate start task priority place) = stays at
-  stmt_goes numbered scope at (OfContinue once task place) = stays at
-  stmt_goes numbered scope at (OfResume once place) = stays at
-  stmt_goes numbered scope at (OfOnTask word task place) = stays at
-  stmt_goes numbered scope at (OfOnSemas word names place) = stays at
-  stmt_goes numbered scope at (OfOnInterrupt word name place) = stays at
-  stmt_goes numbered scope at (OfSend value dation place) = stays at
-  stmt_goes numbered scope at (OfTake target dation place) = stays at
+  stmt_goes statement parts = λ scope at. stays at
 
-  pub all_go : (numbered : Numbered) (scope : ℕ) (at : At) (statements : ShownStmts) →
-      GoesPast at (after_all numbered.table at statements) (scopes_in_all statements)
-      (numbers_in_all numbered.table at statements) (cells_in_all numbered scope at statements) (formats_in_all statements)
-  all_go numbered scope at NoStmts = stays at
-  all_go numbered scope at (MoreStmts s rest) =
-      joins (scopes_in s) (scopes_in_all rest) (numbers_in numbered.table at s)
-      (numbers_in_all numbered.table (after numbered.table at s) rest) (cells_in numbered scope at s)
-      (cells_in_all numbered scope (after numbered.table at s) rest) (formats_in s) (formats_in_all rest)
-      (stmt_goes numbered scope at s) (all_go numbered scope (after numbered.table at s) rest)
+  pub goes : (passage : Passage) → Goes (pieces numbered passage)
+  goes passage =
+      walk (λ passage. Goes (pieces numbered passage))
+      (summed numbered Goes (λ scope at. stays at) (λ one two. both_go (pieces numbered one) (pieces numbered two)) stmt_goes) passage
 
-  pub branches_go : (numbered : Numbered) (scope : ℕ) (at : At) (branches : ShownBranches) →
-      GoesPast at (after_branches numbered.table at branches) (scopes_in_branches branches)
-      (numbers_in_branches numbered.table at branches) (cells_in_branches numbered scope at branches) (formats_in_branches branches)
-  branches_go numbered scope at NoBranches = stays at
-  branches_go numbered scope at (MoreBranches statements place rest) =
-      joins (scopes_in_all statements) (scopes_in_branches rest) (numbers_in_all numbered.table at statements)
-      (numbers_in_branches numbered.table (after_all numbered.table at statements) rest) (cells_in_all numbered scope at statements)
-      (cells_in_branches numbered scope (after_all numbered.table at statements) rest) (formats_in_all statements) (formats_in_branches rest)
-      (all_go numbered scope at statements) (branches_go numbered scope (after_all numbered.table at statements) rest)
-
-  otherwise_goes : (numbered : Numbered) (scope : ℕ) (at : At) (otherwise : ShownOtherwise) →
-      GoesPast at (after_otherwise numbered.table at otherwise) (scopes_in_otherwise otherwise)
-      (numbers_in_otherwise numbered.table at otherwise) (cells_in_otherwise numbered scope at otherwise) (formats_in_otherwise otherwise)
-  otherwise_goes numbered scope at NoOtherwise = stays at
-  otherwise_goes numbered scope at (OfOtherwise statements place) = all_go numbered scope at statements
+  pub all_go : (scope : ℕ) (at : At) (statements : ShownStmts) →
+      GoesPast at (after_all numbered.table at statements) (scopes_in_all statements) (numbers_in_all numbered.table at statements)
+      (cells_in_all numbered scope at statements) (formats_in_all statements)
+  all_go scope at statements = goes (Each statements) scope at
 
 pub routine_cells_there : (numbered : Numbered) (at : At) (body : ShownBody) →
     (after_body numbered.table at body).cell ≡ length (routine_cells numbered at body)

@@ -3,8 +3,8 @@ use Rattle.std.specs.Prelude.{◌≡◌, ℕ, ◌+◌, false, List, [], ◌∷�
 use Rattle.std.specs.List.{AllByRecursion, flat_map}
 use Rattle.std.proofs.Common.{sym, subst}
 use Rattle.pearl_tree.specs.declared.fault.RuleFault.{RuleFault}
-use Rattle.pearl_tree.specs.ShownModules.{ShownBody, ShownDecl, OfLength, OfType, OfDeclare, OfSpecify, OfTask, OfProc, ShownTree}
-use Rattle.pearl_names.specs.Known.{known_of}
+use Rattle.pearl_tree.specs.ShownModules.{ShownBody, ShownDecl, OfTask, OfProc, ShownTree}
+use Rattle.pearl_names.specs.Known.{Known, known_of}
 use Rattle.pearl_names.specs.Scopes.{as_stmts, scopes_in_decl, types_in}
 use Rattle.pearl_names.specs.Tables.{Table, table_of}
 use Rattle.pearl_scope.specs.Parts.{basic_parts, body_decl_parts, param_parts, parts_if, all_parts, body_parts, decl_parts, decls_parts, parts_of}
@@ -23,7 +23,7 @@ use Rattle.pearl_sound.proofs.SimpleStatements.{left_none, right_none, split_all
 use Rattle.pearl_sound.proofs.SoundForms.{all_append}
 
 -- none in a list of lists
-each_none : {X : Type 0} (f : X → List RuleFault) (xs : List X) → flat_map f xs ≡ [] → AllByRecursion (λ x. f x ≡ []) xs
+pub each_none : {X : Type 0} (f : X → List RuleFault) (xs : List X) → flat_map f xs ≡ [] → AllByRecursion (λ x. f x ≡ []) xs
 each_none f [] none = tt
 each_none f (x ∷ xs) none = (left_none (f x) (flat_map f xs) none, each_none f xs (right_none (f x) (flat_map f xs) none))
 
@@ -43,47 +43,41 @@ routines_kept table (routine ∷ rest) none =
       routines_kept table rest (right_none (routine_faults table routine) (flat_map (routine_faults table) rest) none),
     )
 
-module _ (tree : ShownTree) (none : names.broken tree ≡ []) where
-  abbrev AreNamed : Placed → Type 0
-  AreNamed place = AllByRecursion (HasItsNames (table_of tree)) (asked_at place)
+-- what holds of a statement whose parts break no rule on names holds of those of all tasks and procedures
+module _ (known : Known) (P : Placed → Type 0) (each : (types : ℕ) (place : Placed) → AreUnbroken known (parts_at types place) → P place) where
+  abbrev HoldsOfAll : Routine → Type 0
+  HoldsOfAll routine = AllByRecursion P (statements_of routine)
 
-  abbrev HasKnownNames : Routine → Type 0
-  HasKnownNames routine = AllByRecursion AreNamed (statements_of routine)
+  places_hold : (types : ℕ) (places : List Placed) → AreUnbroken known (flat_map (parts_at types) places) → AllByRecursion P places
+  places_hold types [] kept = tt
+  places_hold types (place ∷ rest) kept =
+      let split = split_all (IsUnbroken known) (parts_at types place) (flat_map (parts_at types) rest) kept in
+      (each types place split.0, places_hold types rest split.1)
 
-  places_named : (types : ℕ) (places : List Placed) → AreUnbroken (known_of tree) (flat_map (parts_at types) places) → AllByRecursion AreNamed places
-  places_named types [] kept = tt
-  places_named types (place ∷ rest) kept =
-      let split = split_all (IsUnbroken (known_of tree)) (parts_at types place) (flat_map (parts_at types) rest) kept in
-      (asked_named tree none types place split.0, places_named types rest split.1)
-
-  body_named : (types scope : ℕ) (body : ShownBody) → AreUnbroken (known_of tree) (body_parts types scope body) →
-      AllByRecursion AreNamed (placed_body scope (as_stmts body.statements))
-  body_named types scope body kept =
+  body_holds : (types scope : ℕ) (body : ShownBody) → AreUnbroken known (body_parts types scope body) →
+      AllByRecursion P (placed_body scope (as_stmts body.statements))
+  body_holds types scope body kept =
       let statements = as_stmts body.statements in
-      let split = split_all (IsUnbroken (known_of tree)) (flat_map (body_decl_parts scope types) body.declarations) (all_parts types scope (scope + 1) statements) kept in
-      places_named types (placed_body scope statements)
-      (subst (AreUnbroken (known_of tree)) (sym (all_placed types (record { scope = scope; in_loop = false }) (scope + 1) statements)) split.1)
+      let split = split_all (IsUnbroken known) (flat_map (body_decl_parts scope types) body.declarations) (all_parts types scope (scope + 1) statements) kept in
+      places_hold types (placed_body scope statements)
+      (subst (AreUnbroken known) (sym (all_placed types (record { scope = scope; in_loop = false }) (scope + 1) statements)) split.1)
 
-  decl_named : (types next : ℕ) (decl : ShownDecl) → AreUnbroken (known_of tree) (decl_parts types next decl) →
-      AllByRecursion HasKnownNames (decl_routines next decl)
-  decl_named types next (OfTask name head body place) kept = (body_named types next body kept, tt)
-  decl_named types next (OfProc name params returns body place) kept =
-      let outer = split_all (IsUnbroken (known_of tree)) (flat_map param_parts params) (parts_if basic_parts returns ++ body_parts types next body) kept in
-      let inner = split_all (IsUnbroken (known_of tree)) (parts_if basic_parts returns) (body_parts types next body) outer.1 in
-      (body_named types next body inner.1, tt)
-  decl_named types next (OfLength of number place) kept = tt
-  decl_named types next (OfType name part place) kept = tt
-  decl_named types next (OfDeclare parts place) kept = tt
-  decl_named types next (OfSpecify specs place) kept = tt
+  decl_holds : (types next : ℕ) (decl : ShownDecl) → AreUnbroken known (decl_parts types next decl) → AllByRecursion HoldsOfAll (decl_routines next decl)
+  decl_holds types next (OfTask name head body place) kept = (body_holds types next body kept, tt)
+  decl_holds types next (OfProc name params returns body place) kept =
+      let outer = split_all (IsUnbroken known) (flat_map param_parts params) (parts_if basic_parts returns ++ body_parts types next body) kept in
+      let inner = split_all (IsUnbroken known) (parts_if basic_parts returns) (body_parts types next body) outer.1 in
+      (body_holds types next body inner.1, tt)
+  decl_holds types next decl kept = tt
 
-  decls_named : (types next : ℕ) (decls : List ShownDecl) → AreUnbroken (known_of tree) (decls_parts types next decls) →
-      AllByRecursion HasKnownNames (decls_routines next decls)
-  decls_named types next [] kept = tt
-  decls_named types next (decl ∷ rest) kept =
+  pub decls_hold : (types next : ℕ) (decls : List ShownDecl) → AreUnbroken known (decls_parts types next decls) →
+      AllByRecursion HoldsOfAll (decls_routines next decls)
+  decls_hold types next [] kept = tt
+  decls_hold types next (decl ∷ rest) kept =
       let past = next + scopes_in_decl decl in
       let more = types + types_in decl in
-      let split = split_all (IsUnbroken (known_of tree)) (decl_parts types next decl) (decls_parts more past rest) kept in
-      all_append HasKnownNames (decl_routines next decl) (decls_routines past rest) (decl_named types next decl split.0) (decls_named more past rest split.1)
+      let split = split_all (IsUnbroken known) (decl_parts types next decl) (decls_parts more past rest) kept in
+      all_append HoldsOfAll (decl_routines next decl) (decls_routines past rest) (decl_holds types next decl split.0) (decls_hold more past rest split.1)
 
 pub statements_kept : (tree : ShownTree) → all_broken tree ≡ [] →
     AllByRecursion (λ (routine : Routine).
@@ -97,4 +91,4 @@ statements_kept tree none =
     let kept = all_unbroken (known_of tree) (parts_of tree) (right_none (flat_map s1 (known_of tree).scopes) (faults_in (known_of tree) (parts_of tree)) first) in
     both_all (HasNoFault table) (λ routine. AllByRecursion (λ place. AllByRecursion (HasItsNames table) (asked_at place)) (statements_of routine)) (routines_of tree)
     (routines_kept table (routines_of tree) (left_none (statements_broken table tree) (whole_broken tree) behind))
-    (decls_named tree first 0 1 tree.declarations kept)
+    (decls_hold (known_of tree) (λ place. AllByRecursion (HasItsNames table) (asked_at place)) (asked_named tree first) 0 1 tree.declarations kept)

@@ -1,5 +1,5 @@
 -- Where no rule is broken in an expression and all its names are known, so is its kind.
-use Rattle.std.specs.Prelude.{◌≡◌, ℕ, zero, suc, ◌==◌, Bool, true, false, ◌&&◌, ◌||◌, not, nat_le, if◌then◌else◌, List, [], ◌∷◌, ◌++◌, length, Option, Some, None, is_some, is_none}
+use Rattle.std.specs.Prelude.{◌≡◌, ℕ, zero, ◌==◌, Bool, true, false, ◌&&◌, ◌||◌, not, nat_le, if◌then◌else◌, List, [], ◌∷◌, ◌++◌, length, Option, Some, None, is_some, is_none}
 use Rattle.std.specs.Option.{option_and_then}
 use Rattle.std.specs.List.{AllByRecursion}
 use Rattle.std.proofs.Common.{refl, ap, ◌∙◌, sym, subst, arith, true≢false}
@@ -19,7 +19,7 @@ use Rattle.pearl_tree.specs.ShownExpressions.{ShownExpr, OfOperand, OfDyadic, Sh
 use Rattle.pearl_names.specs.declared.scope.View.{View}
 use Rattle.pearl_names.specs.Shapes.{Shape, OfKind, OfFields}
 use Rattle.pearl_names.specs.Forms.{Component, component}
-use Rattle.pearl_names.specs.Tables.{Parameter, Sense, Variable, Control, OwnParameter, NewType, Semaphore, Interrupt, AlphicDation, BasicDation, Task, Procedure, Table, sense_from}
+use Rattle.pearl_names.specs.Tables.{Parameter, Sense, Variable, Control, OwnParameter, Table, sense_from}
 use Rattle.pearl_check_expr.specs.Senses.{Callee, callee_of, is_fixed, is_semaphore}
 use Rattle.pearl_check_expr.specs.Standings.{Judged, faulty, Standing, Broken, Open, Walked, standing_of, start_at, variable_start, stopped, walked_on, behind, element_standing, element_of, all_fixed, all_known, faults_of, to_field, selected, value_of, as_value}
 use Rattle.pearl_check_expr.specs.Judged.{result_of, monadic_result, with_monadics, dyadic_result, with_dyadic, try_judged, dimension_of, limit_of, limit_judged, misfits, differs, Argument, value_argument, no_variable, variable_argument, named_argument, ident_argument, plain_name, expr_place, fitted, argument_of, all_well, argument_faults, called_with, is_last, if_well, call_value, called_or, judged, judged_primary, along, step, judged_all, applied, first_applied, beyond, arguments, judged_variable}
@@ -81,13 +81,7 @@ start_open name (OwnParameter parameter) complete none = by parameter.kind compl
     by : (given : Option Kind) → IsThereIn given → IsOpen (start_at name (standing_of (OwnParameter (record { kind = given; ident = parameter.ident })))).standing
     by None there = absurd (none-some there.0 there.1)
     by (Some of) there = tt
-start_open name NewType complete none = one_fault _ [] none
-start_open name Semaphore complete none = one_fault _ [] none
-start_open name Interrupt complete none = one_fault _ [] none
-start_open name (AlphicDation direction) complete none = one_fault _ [] none
-start_open name (BasicDation direction of) complete none = one_fault _ [] none
-start_open name Task complete none = one_fault _ [] none
-start_open name (Procedure parameters result) complete none = one_fault _ [] none
+start_open name sense complete none = one_fault _ [] none
 
 element_open : (name : Name) (dimensions : ℕ) (shape : Shape) (parts : List Judged) → all_known parts ≡ true →
     (element_of name (Open dimensions shape) parts).faults ≡ [] → IsOpen (element_of name (Open dimensions shape) parts).standing
@@ -105,15 +99,13 @@ field_open name (Some field) none = tt
 component_open : (name field : Name) (standing : Standing) → IsOpen standing → (selected name standing field).faults ≡ [] →
     IsOpen (selected name standing field).standing
 component_open name field Broken opened none = absurd opened
-component_open name field (Open zero (OfKind of)) opened none = one_fault _ [] none
 component_open name field (Open zero (OfFields fields)) opened none = field_open field (component 0 0 fields (name_text field)) none
-component_open name field (Open (suc n) shape) opened none = one_fault _ [] none
+component_open name field other opened none = one_fault _ [] none
 
 value_known : (name : Name) (standing : Standing) → IsOpen standing → (value_of name standing).faults ≡ [] → IsThereIn (value_of name standing).kind
 value_known name Broken opened none = absurd opened
 value_known name (Open zero (OfKind of)) opened none = (of, refl)
-value_known name (Open zero (OfFields fields)) opened none = one_fault _ [] none
-value_known name (Open (suc n) shape) opened none = one_fault _ [] none
+value_known name other opened none = one_fault _ [] none
 
 limit_known : (name : Name) (dimension : ℕ) (standing : Standing) → IsOpen standing → (limit_of name dimension standing).faults ≡ [] →
     IsThereIn (limit_of name dimension standing).kind

@@ -61,10 +61,9 @@ module _ (declarations : List ShownDecl) where
     primary_literals depth (primary.Literal part) h = literals declarations part h
     primary_literals depth (primary.Ref' name _ selectors place) h = selectors_literals depth _ selectors h.1
     primary_literals depth (primary.Group' _ inner place) h = expr_literals (depth - 1) inner h.1.0
-    primary_literals depth (primary.Now place) h = tt
-    primary_literals depth (primary.Try name place) h = tt
     primary_literals depth (primary.Limit' dimension side _ name _ selectors ref_place place) h =
         selectors_literals depth _ selectors h.1.1
+    primary_literals depth other h = tt
 
     selectors_literals : (depth : ℕ) (n : _) (row : Row_of-Selector n) → AreLawfulSelectors depth row →
         SelectorsHaveLiterals lengths (shown_selectors row)
@@ -280,12 +279,9 @@ module _ (declarations : List ShownDecl) where
   body_literals next body h = own_literals (record { scope = next; in_loop = false }) (next + 1) body.statements.items.items h.1
 
   decl_literals : (next : ℕ) (part : Decl) → IsLawfulDecl part → AllByRecursion HasValues (decl_routines next (shown_decl part))
-  decl_literals next (decl.Length sort number place) h = tt
-  decl_literals next (decl.Type name part place) h = tt
-  decl_literals next (decl.Declare parts place) h = tt
-  decl_literals next (decl.Specify specs place) h = tt
   decl_literals next (decl.Task name head body place) h = (body_literals next body h.2, tt)
   decl_literals next (decl.Proc name params returns body place) h = (body_literals next body h.3, tt)
+  decl_literals next part h = tt
 
   decls_literals : (next : ℕ) (parts : List Decl) → All IsLawfulDecl parts →
       AllByRecursion HasValues (decls_routines next (map shown_decl parts))

@@ -67,18 +67,10 @@ closed is = absurd (true≢false (sym (ap is_open is)))
 variable_thing : (around : Around) (name : Name) (scope number dimensions : ℕ) (shape : Shape) (here : Option Sense) →
     IsIf (Leads around) (option_map (λ s. thing_of s scope number) here) → (variable_start name here).standing ≡ Open dimensions shape →
     Reaches around (is_control here) (walk_from (option_map (λ s. thing_of s scope number) here))
-variable_thing around name scope number dimensions shape None leads is = closed is
-variable_thing around name scope number dimensions shape (Some (Variable None inv)) leads is = closed is
 variable_thing around name scope number dimensions shape (Some (Variable (Some form) inv)) leads is = leads
 variable_thing around name scope number dimensions shape (Some (Control kind)) leads is = leads
 variable_thing around name scope number dimensions shape (Some (OwnParameter parameter)) leads is = leads
-variable_thing around name scope number dimensions shape (Some NewType) leads is = closed is
-variable_thing around name scope number dimensions shape (Some Semaphore) leads is = closed is
-variable_thing around name scope number dimensions shape (Some Interrupt) leads is = closed is
-variable_thing around name scope number dimensions shape (Some (AlphicDation direction)) leads is = closed is
-variable_thing around name scope number dimensions shape (Some (BasicDation direction kind)) leads is = closed is
-variable_thing around name scope number dimensions shape (Some Task) leads is = closed is
-variable_thing around name scope number dimensions shape (Some (Procedure parameters result)) leads is = closed is
+variable_thing around name scope number dimensions shape other leads is = closed is
 
 variable_found : (numbered : Numbered) (around : Around) (name : Name) (dimensions : ℕ) (shape : Shape) (found : Option Found) →
     IsIf (Leads around) (option_and_then (meant_at numbered) found) →

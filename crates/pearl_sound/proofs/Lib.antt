@@ -1,3 +1,4 @@
+mod Walk
 mod Going
 mod Shapes
 mod Subscripting
@@ -17,6 +18,7 @@ mod RoutineNames
 mod SoundForms
 mod Reaching
 mod ModuleEntries
+mod Counting
 mod ModuleLeaves
 mod ModuleCounts
 mod ScopesThere
@@ -36,6 +38,7 @@ mod CompleteSenses
 mod NamesKnown
 mod AskedKnown
 mod SemaphoreLists
+mod InnerScopes
 mod SemaphoresApart
 mod FormatsFit
 mod TextTransfers

@@ -16,7 +16,7 @@ use Rattle.pearl_tree.specs.declared.literal.Literal.TheVariants as literal
 use Rattle.pearl_tree.specs.Durations.{milliseconds_of}
 use Rattle.pearl_tree.specs.Lawful.{IsLawfulLiteral}
 use Rattle.pearl_tree.specs.ShownLiterals.{shown_literal, OfDuration}
-use Rattle.pearl_tree.specs.ShownModules.{ShownDecl, OfLength, OfType, OfDeclare, OfSpecify, OfTask, OfProc}
+use Rattle.pearl_tree.specs.ShownModules.{ShownDecl, OfLength}
 use Rattle.pearl_names.specs.declared.length.DefaultLength.{DefaultLength}
 use Rattle.pearl_names.specs.Durations.{is_too_long}
 use Rattle.pearl_names.specs.Lengths.{is_length, is_same_sort, length_set, lengths_set, holds_at, last_length, length_at}
@@ -63,11 +63,7 @@ decl_set (OfLength sort number place) = by (is_length sort number.value) refl
         AllByRecursion IsSet (if test then record { place = place; sort = sort; len = number.value } ∷ [] else [])
     by true e = (e, tt)
     by false e = tt
-decl_set (OfType name part place) = tt
-decl_set (OfDeclare declared place) = tt
-decl_set (OfSpecify specs place) = tt
-decl_set (OfTask name head body place) = tt
-decl_set (OfProc name params returns body place) = tt
+decl_set decl = tt
 
 pub all_set : (declarations : List ShownDecl) → AllByRecursion IsSet (lengths_set declarations)
 all_set [] = tt
@@ -88,10 +84,6 @@ literals declarations (literal.Number number) lawful of is =
     subst (λ k. IsValueOf k (literal_cell (lengths_set declarations) (shown_literal (literal.Number number)))) (some_one is)
     (number_gives (length_at (lengths_set declarations) Fixed number.place) number.value
     (last_fixed (lengths_set declarations) 31 number.place (all_set declarations) (omega arith, omega arith)) lawful)
-literals declarations (literal.Bits len value place) lawful of is =
-    record { is_value = ((omega (arith, lawful), lawful.1), lawful.2); same_kind = some_one is }
-literals declarations (literal.Text text place) lawful of is =
-    record { is_value = ((omega (arith, lawful), lawful.1), lawful.2); same_kind = some_one is }
 literals declarations (literal.Clock milliseconds place) lawful of is = record { is_value = lawful; same_kind = some_one is }
 literals declarations (literal.Duration duration) lawful of is = by (is_too_long duration.value) refl is
   where
@@ -101,3 +93,5 @@ literals declarations (literal.Duration duration) lawful of is = by (is_too_long
     by false e is =
         let most = ltb-false (2 ^ 40) (milliseconds_of duration.value) e in
         record { is_value = record { low = omega (arith, ints); high = omega (arith, ints, most) }; same_kind = some_one is }
+literals declarations other lawful of is =
+    record { is_value = ((omega (arith, lawful), lawful.1), lawful.2); same_kind = some_one is }

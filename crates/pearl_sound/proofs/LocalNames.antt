@@ -11,7 +11,7 @@ use Rattle.pearl_value.specs.declared.kind.CellKind.TheVariants.{Plain, RefTo}
 use Rattle.pearl_tree.specs.declared.name.Name.{Name}
 use Rattle.pearl_names.specs.Shapes.{Shape, OfKind, OfFields}
 use Rattle.pearl_names.specs.Layout.{leaves_of, slots_of}
-use Rattle.pearl_names.specs.Tables.{Form, Sense, Variable, Control, OwnParameter, NewType, Semaphore, Interrupt, AlphicDation, BasicDation, Task, Procedure}
+use Rattle.pearl_names.specs.Tables.{Form, Sense, Variable, Control, OwnParameter, NewType, BasicDation, Procedure}
 use Rattle.pearl_program.specs.declared.expression.Target.{Target}
 use Rattle.pearl_program.specs.declared.expression.Target.TheVariants as target
 use Rattle.pearl_program.specs.declared.expression.Bound.{Bound}
@@ -90,14 +90,10 @@ leads_sense around counter (Control kind) scope number leads =
 leads_sense around counter (OwnParameter parameter) scope number leads =
     λ path. follows_within around counter false path (walk_of (thing_of (OwnParameter parameter) scope number)) (leads path)
 leads_sense around counter NewType scope number leads = tt
-leads_sense around counter Semaphore scope number leads = leads
-leads_sense around counter Interrupt scope number leads = leads
-leads_sense around counter (AlphicDation direction) scope number leads = leads
 leads_sense around counter (BasicDation direction None) scope number leads = tt
-leads_sense around counter (BasicDation direction (Some kind)) scope number leads = leads
-leads_sense around counter Task scope number leads = leads
 leads_sense around counter (Procedure parameters result) scope number leads =
     record { signature = leads.signature; there = leads.there; params = leads.params; gives = leads.gives }
+leads_sense around counter sense scope number leads = leads
 
 pub leads_within : (around : Around) (counter : Option PlainCounter) (thing : Meant) → Leads around thing → Leads (within around counter) thing
 leads_within around counter thing leads = leads_sense around counter thing.sense thing.scope thing.number leads
@@ -148,13 +144,7 @@ local_leads around control (Control kind) scope number inner local sound loop ha
     reaches around true (target.Own number) [] kind (record { sound = tt; end = (omega arith, loop kind local refl) })
 local_leads around control (OwnParameter parameter) scope number inner local sound loop has =
     parameter_leads around number parameter.ident parameter.kind (has tt)
-local_leads around control NewType scope number inner local sound loop has = absurd local
-local_leads around control Semaphore scope number inner local sound loop has = absurd local
-local_leads around control Interrupt scope number inner local sound loop has = absurd local
-local_leads around control (AlphicDation direction) scope number inner local sound loop has = absurd local
-local_leads around control (BasicDation direction kind) scope number inner local sound loop has = absurd local
-local_leads around control Task scope number inner local sound loop has = absurd local
-local_leads around control (Procedure parameters result) scope number inner local sound loop has = absurd local
+local_leads around control sense scope number inner local sound loop has = absurd local
 
 -- each name of a row has a number, and a control variable has its loop's
 pub record HasNumber (row : List ℕ) (i : ℕ) : Type 0 where

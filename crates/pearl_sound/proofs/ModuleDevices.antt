@@ -19,7 +19,7 @@ use Rattle.pearl_tree.specs.declared.fault.RuleFault.{RuleFault}
 use Rattle.pearl_tree.specs.declared.rule.TheConstants as rule
 use Rattle.pearl_tree.specs.Names.{name_text, names_of}
 use Rattle.pearl_tree.specs.ShownDeclarations.{ShownDeclared, OfItem, OfSema, ShownSpec, OfInterrupt, OfDation}
-use Rattle.pearl_tree.specs.ShownModules.{ShownDecl, OfLength, OfType, OfDeclare, OfSpecify, OfTask, OfProc, ShownTree}
+use Rattle.pearl_tree.specs.ShownModules.{ShownDecl, OfDeclare, OfSpecify, ShownTree}
 use Rattle.pearl_names.specs.declared.length.DefaultLength.{DefaultLength}
 use Rattle.pearl_names.specs.declared.scope.SortedName.{SortedName}
 use Rattle.pearl_names.specs.FirstNames.{first_index, repeated}
@@ -28,7 +28,7 @@ use Rattle.pearl_names.specs.Known.{Known, known_of}
 use Rattle.pearl_names.specs.Scopes.{Meaning, Entry, entries_as, declared_entries, spec_entries, decl_entries, decls_entries, types_in}
 use Rattle.pearl_names.specs.Scopes as scopes
 use Rattle.pearl_names.specs.Sorts.{sorted_names, names_of_scopes}
-use Rattle.pearl_names.specs.Tables.{Sense, Variable, Control, OwnParameter, NewType, Semaphore, Interrupt, AlphicDation, BasicDation, Task, Procedure, sense_of, table_of}
+use Rattle.pearl_names.specs.Tables.{Sense, Interrupt, AlphicDation, BasicDation, sense_of, table_of}
 use Rattle.pearl_system.specs.declared.device.DeviceSort.{DeviceSort}
 use Rattle.pearl_system.specs.declared.device.DeviceSort.TheVariants as sort
 use Rattle.pearl_system.specs.declared.device.Role.{Role}
@@ -106,12 +106,9 @@ declared_specified types (OfSema sema ∷ rest) =
     (none_specified scopes.Semaphore (names_of sema.names) refl) (declared_specified types rest)
 
 decl_specified : (types : ℕ) (decl : ShownDecl) → specs_of (decl_entries types decl) ≡ specified_in decl
-decl_specified types (OfLength sort number place) = refl
-decl_specified types (OfType name part place) = refl
 decl_specified types (OfDeclare parts place) = declared_specified types parts
 decl_specified types (OfSpecify specs place) = specs_specified specs
-decl_specified types (OfTask name head body place) = refl
-decl_specified types (OfProc name params returns body place) = refl
+decl_specified types decl = refl
 
 decls_specified : (types : ℕ) (decls : List ShownDecl) → specs_of (decls_entries types decls) ≡ flat_map specified_in decls
 decls_specified types [] = refl
@@ -272,13 +269,7 @@ has_form known (scopes.Dation direction (class.Alphic place)) of =
     record { given = form.Dation direction (class.Alphic place); is = refl; fits = (place, refl) }
 has_form known (scopes.Dation direction (class.Basic basic place)) of =
     record { given = form.Dation direction (class.Basic basic place); is = refl; fits = (basic, place, refl, refl) }
-has_form known (scopes.Variable item types) of = absurd of
-has_form known (scopes.Control loop) of = absurd of
-has_form known (scopes.Parameter basic ident) of = absurd of
-has_form known (scopes.NewType number) of = absurd of
-has_form known scopes.Semaphore of = absurd of
-has_form known scopes.Task of = absurd of
-has_form known (scopes.Procedure params returns) of = absurd of
+has_form known meaning of = absurd of
 
 -- parts of forms
 abbrev is_dation : Form → Bool
@@ -447,13 +438,7 @@ module _ (tree : ShownTree) (devices : List SpecifiedDevice) (procedures : List 
   number_of_name name Interrupt number is of = (entered_at tree devices procedures name Interrupt number is).numbered
   number_of_name name (AlphicDation direction) number is of = (entered_at tree devices procedures name (AlphicDation direction) number is).numbered
   number_of_name name (BasicDation direction kind) number is of = (entered_at tree devices procedures name (BasicDation direction kind) number is).numbered
-  number_of_name name (Variable form inv) number is of = absurd of
-  number_of_name name (Control kind) number is of = absurd of
-  number_of_name name (OwnParameter parameter) number is of = absurd of
-  number_of_name name NewType number is of = absurd of
-  number_of_name name Semaphore number is of = absurd of
-  number_of_name name Task number is of = absurd of
-  number_of_name name (Procedure parameters result) number is of = absurd of
+  number_of_name name sense number is of = absurd of
 
   device_at : (name : SortedName) (sense : Sense) (number : ℕ) → IsModuleName tree devices procedures name sense number → (of : IsOfDevice sense) →
       (fit : IsFit name sense) →

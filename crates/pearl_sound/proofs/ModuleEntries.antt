@@ -20,13 +20,13 @@ use Rattle.pearl_names.specs.Found.{found_in}
 use Rattle.pearl_names.specs.Known.{Known, known_of}
 use Rattle.pearl_names.specs.Scopes.{Entry, decls_entries}
 use Rattle.pearl_names.specs.Sorts.{sorted_name, sorted_names, names_of_scopes}
-use Rattle.pearl_names.specs.Tables.{Sense, Variable, Control, OwnParameter, NewType, Semaphore, Interrupt, AlphicDation, BasicDation, Task, Procedure, sense_of, senses_of, table_of}
+use Rattle.pearl_names.specs.Tables.{Sense, Variable, Semaphore, Task, Procedure, sense_of, senses_of, table_of}
 use Rattle.pearl_names.proofs.Offered.{bytes_symm, sorted_names-append, sorted_names-cons}
 use Rattle.pearl_system.specs.declared.device.SpecifiedDevice.{SpecifiedDevice}
 use Rattle.pearl_resolve.specs.Laying.{leaves_of_sense}
 use Rattle.pearl_resolve.specs.Numbers.{Before, behind, module_number, module_numbers}
 use Rattle.pearl_resolve.specs.Expressions.{Numbered, meant, meant_at}
-use Rattle.pearl_check.specs.Sizes.{procedure_count}
+use Rattle.pearl_check.specs.Sizes.{task_count, procedure_count, semaphore_count}
 
 -- a list without faults
 pub no_fault : (broken : Bool) (place of : ℕ) (rest : List RuleFault) → fault_if broken place of ++ rest ≡ [] → (broken ≡ false) × (rest ≡ [])
@@ -129,14 +129,6 @@ entry_number devices numbers known from [] entry after = refl
 entry_number devices numbers known from (first ∷ before) entry after =
     entry_number devices numbers known (behind from (sense_of known 0 first.meaning)) before entry after
 
-abbrev pub semaphore_count : Sense → ℕ
-semaphore_count Semaphore = 1
-semaphore_count sense = 0
-
-abbrev pub task_count : Sense → ℕ
-task_count Task = 1
-task_count sense = 0
-
 -- how many things of each sort have gone by
 pub record HasGone (from : Before) (senses : List Sense) (to : Before) : Type 0 where
   pub leaves : to.leaves ≡ from.leaves + length (flat_map leaves_of_sense senses)
@@ -155,12 +147,7 @@ steps from (Variable form inv) = record { leaves = refl; semaphores = omega arit
 steps from Semaphore = record { leaves = omega arith; semaphores = refl; tasks = omega arith; procedures = omega arith }
 steps from Task = record { leaves = omega arith; semaphores = omega arith; tasks = refl; procedures = omega arith }
 steps from (Procedure parameters result) = record { leaves = omega arith; semaphores = omega arith; tasks = omega arith; procedures = refl }
-steps from (Control kind) = record { leaves = omega arith; semaphores = omega arith; tasks = omega arith; procedures = omega arith }
-steps from (OwnParameter parameter) = record { leaves = omega arith; semaphores = omega arith; tasks = omega arith; procedures = omega arith }
-steps from NewType = record { leaves = omega arith; semaphores = omega arith; tasks = omega arith; procedures = omega arith }
-steps from Interrupt = record { leaves = omega arith; semaphores = omega arith; tasks = omega arith; procedures = omega arith }
-steps from (AlphicDation direction) = record { leaves = omega arith; semaphores = omega arith; tasks = omega arith; procedures = omega arith }
-steps from (BasicDation direction kind) = record { leaves = omega arith; semaphores = omega arith; tasks = omega arith; procedures = omega arith }
+steps from sense = record { leaves = omega arith; semaphores = omega arith; tasks = omega arith; procedures = omega arith }
 
 pub has_gone : (from : Before) (senses : List Sense) → HasGone from senses (gone from senses)
 has_gone from [] = record { leaves = omega arith; semaphores = omega arith; tasks = omega arith; procedures = omega arith }

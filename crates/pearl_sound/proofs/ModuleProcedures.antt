@@ -22,7 +22,7 @@ use Rattle.pearl_names.specs.Lengths.{kind_of_basic}
 use Rattle.pearl_names.specs.Known.{Known, known_of}
 use Rattle.pearl_names.specs.Scopes.{Meaning, Entry, Scope, scopes_of, as_stmts, entries_as, param_entries, body_entries, declared_entries, spec_entries, decl_entries, decls_entries, types_in, all_scopes, decl_scopes, decls_scopes, scopes_in_decl}
 use Rattle.pearl_names.specs.Scopes as scopes
-use Rattle.pearl_names.specs.Tables.{Parameter, Sense, Variable, Control, OwnParameter, NewType, Semaphore, Interrupt, AlphicDation, BasicDation, Task, Procedure, parameters_of, sense_of, senses_of, table_of}
+use Rattle.pearl_names.specs.Tables.{Parameter, Sense, Procedure, parameters_of, sense_of, senses_of, table_of}
 use Rattle.pearl_system.specs.declared.device.SpecifiedDevice.{SpecifiedDevice}
 use Rattle.pearl_program.specs.PlainPrograms.{PlainProcedure}
 use Rattle.pearl_program.specs.Typing.{Around}
@@ -37,7 +37,8 @@ use Rattle.pearl_sound.specs.ModuleNames.{IsModuleName, AreProcedureNumbers}
 use Rattle.pearl_sound.specs.SoundNames.{param_cells, IsCallee}
 use Rattle.pearl_sound.proofs.ByNumber.{something, stands_at}
 use Rattle.pearl_sound.proofs.ModuleEntries.{senses_append, gone, has_gone}
-use Rattle.pearl_sound.proofs.ModuleCounts.{counted, entered_at}
+use Rattle.pearl_sound.proofs.Counting.{counted}
+use Rattle.pearl_sound.proofs.ModuleCounts.{entered_at}
 use Rattle.pearl_sound.proofs.ScopesThere.{head_there, left_lies, scope_senses, decls_lie}
 use Rattle.pearl_sound.proofs.Stretched.{Lies}
 
@@ -61,15 +62,7 @@ take_both : (sense : Sense) (one two : List PlainProcedure) (P Q : List PlainPro
     ((behind : List PlainProcedure) → P behind → Q (behind ++ two)) → Takes sense one P → Takes sense (one ++ two) Q
 take_both (Procedure parameters result) one two P Q more takes =
     (takes.0, takes.1 ++ two, ap (λ procedures. procedures ++ two) takes.2, takes.3, more takes.1 takes.4)
-take_both (Variable form inv) one two P Q more takes = more one takes
-take_both (Control kind) one two P Q more takes = more one takes
-take_both (OwnParameter parameter) one two P Q more takes = more one takes
-take_both NewType one two P Q more takes = more one takes
-take_both Semaphore one two P Q more takes = more one takes
-take_both Interrupt one two P Q more takes = more one takes
-take_both (AlphicDation direction) one two P Q more takes = more one takes
-take_both (BasicDation direction kind) one two P Q more takes = more one takes
-take_both Task one two P Q more takes = more one takes
+take_both sense one two P Q more takes = more one takes
 
 both_callees : (known : Known) (one two : List Entry) (a b : List PlainProcedure) → AreCallees known one a → AreCallees known two b →
     AreCallees known (one ++ two) (a ++ b)
@@ -230,15 +223,7 @@ take_first (Procedure others gives) procedures P n parameters result more takes 
       there = ap (λ i. slice_get procedures i) (sym next) ∙ ap (λ all. slice_get all (suc n)) takes.2 ∙ found.there;
       is = found.is;
     }
-take_first (Variable form inv) procedures P n parameters result more takes = same_place n procedures parameters result (more procedures takes)
-take_first (Control kind) procedures P n parameters result more takes = same_place n procedures parameters result (more procedures takes)
-take_first (OwnParameter parameter) procedures P n parameters result more takes = same_place n procedures parameters result (more procedures takes)
-take_first NewType procedures P n parameters result more takes = same_place n procedures parameters result (more procedures takes)
-take_first Semaphore procedures P n parameters result more takes = same_place n procedures parameters result (more procedures takes)
-take_first Interrupt procedures P n parameters result more takes = same_place n procedures parameters result (more procedures takes)
-take_first (AlphicDation direction) procedures P n parameters result more takes = same_place n procedures parameters result (more procedures takes)
-take_first (BasicDation direction kind) procedures P n parameters result more takes = same_place n procedures parameters result (more procedures takes)
-take_first Task procedures P n parameters result more takes = same_place n procedures parameters result (more procedures takes)
+take_first sense procedures P n parameters result more takes = same_place n procedures parameters result (more procedures takes)
 
 find_procedure : (known : Known) (before : List Entry) (entry : Entry) (after : List Entry) (procedures : List PlainProcedure)
     (parameters : List Parameter) (result : Option (Option Kind)) → AreCallees known (before ++ entry ∷ after) procedures →

@@ -9,7 +9,7 @@ use Rattle.pearl_tree.specs.declared.name.Name.{Name}
 use Rattle.pearl_tree.specs.declared.declaration.Class.TheVariants as class
 use Rattle.pearl_tree.specs.Names.{name_text, names_of}
 use Rattle.pearl_tree.specs.ShownDeclarations.{ShownDeclared, OfItem, OfSema, ShownSpec, OfInterrupt, OfDation, ShownParam}
-use Rattle.pearl_tree.specs.ShownModules.{ShownBody, ShownDecl, OfLength, OfType, OfDeclare, OfSpecify, OfTask, OfProc, ShownTree}
+use Rattle.pearl_tree.specs.ShownModules.{ShownBody, ShownDecl, OfLength, OfDeclare, OfSpecify, OfTask, OfProc, ShownTree}
 use Rattle.pearl_names.specs.declared.scope.SortedName.{SortedName}
 use Rattle.pearl_names.specs.Found.{names_in, outer_of}
 use Rattle.pearl_names.specs.Known.{Known, known_of}
@@ -17,7 +17,7 @@ use Rattle.pearl_names.specs.Layout.{leaves_of}
 use Rattle.pearl_names.specs.Scopes.{Meaning, Entry, Scope, scopes_of, as_stmts, entries_as, param_entries, body_entries, declared_entries, spec_entries, decl_entries, decls_entries, types_in, scopes_in_decl, all_scopes, routine_scopes, decl_scopes, decls_scopes}
 use Rattle.pearl_names.specs.Scopes as scopes
 use Rattle.pearl_names.specs.Sorts.{sorted_name, sorted_names, names_of_scopes}
-use Rattle.pearl_names.specs.Tables.{Form, Sense, Variable, Control, OwnParameter, NewType, Semaphore, Interrupt, AlphicDation, BasicDation, Task, Procedure, sense_of, senses_of, table_of}
+use Rattle.pearl_names.specs.Tables.{Form, Sense, Variable, Control, OwnParameter, Semaphore, Interrupt, AlphicDation, BasicDation, Task, Procedure, sense_of, senses_of, table_of}
 use Rattle.pearl_system.specs.declared.device.SpecifiedDevice.{SpecifiedDevice}
 use Rattle.pearl_program.specs.declared.expression.Target.TheVariants as target
 use Rattle.pearl_program.specs.PlainExpressions as plain
@@ -25,7 +25,7 @@ use Rattle.pearl_program.specs.PlainPrograms.{PlainProg}
 use Rattle.pearl_program.specs.Typing.{Around}
 use Rattle.pearl_program.specs.SoundStatements.{IsIf, IsInterruptDevice}
 use Rattle.pearl_program.specs.Sound.{signature_of, around_of}
-use Rattle.pearl_resolve.specs.Numbers.{At, Before, module_number, module_numbers, nothing_before, senses_at, routine_start, in_body, scope_numbers, numbers_in_all, body_numbers, decl_numbers, decls_numbers, after_decl, first}
+use Rattle.pearl_resolve.specs.Numbers.{At, module_number, module_numbers, nothing_before, senses_at, routine_start, in_body, scope_numbers, numbers_in_all, body_numbers, decl_numbers, decls_numbers, after_decl, first}
 use Rattle.pearl_resolve.specs.Numbers as numbering
 use Rattle.pearl_resolve.specs.Laying.{filled_leaves}
 use Rattle.pearl_resolve.specs.Expressions.{Numbered, number_at}
@@ -90,11 +90,9 @@ declared_of_module known types (OfSema sema ∷ rest) =
 
 decl_of_module : (known : Known) (types : ℕ) (decl : ShownDecl) → AreOfModule known (decl_entries types decl)
 decl_of_module known types (OfLength sort number place) = tt
-decl_of_module known types (OfType name part place) = (tt, tt)
 decl_of_module known types (OfDeclare parts place) = declared_of_module known types parts
 decl_of_module known types (OfSpecify specs place) = specs_of_module known specs
-decl_of_module known types (OfTask name head body place) = (tt, tt)
-decl_of_module known types (OfProc name params returns body place) = (tt, tt)
+decl_of_module known types decl = (tt, tt)
 
 decls_of_module : (known : Known) (types : ℕ) (decls : List ShownDecl) → AreOfModule known (decls_entries types decls)
 decls_of_module known types [] = tt
@@ -156,24 +154,22 @@ module _ (tree : ShownTree) (devices : List SpecifiedDevice) (procedures : List 
 
   sense_leads : (around : Around) → IsOfProgram around → (name : SortedName) (sense : Sense) (number : ℕ) →
       IsModuleName tree devices procedures name sense number → IsOfModule sense → IsSoundSense sense → Leads around (thing_of sense 0 number)
-  sense_leads around of name (Variable None inv) number is own sound = tt
   sense_leads around of name (Variable (Some form) inv) number is own sound = form_leads around of name form inv number is sound
   sense_leads around of name (Control kind) number is own sound = absurd own
   sense_leads around of name (OwnParameter parameter) number is own sound = absurd own
-  sense_leads around of name NewType number is own sound = tt
   sense_leads around of name Semaphore number is own sound =
       let less = semaphore_there tree devices procedures name number is in let same = of.semaphores in omega (arith, less, same)
   sense_leads around of name Interrupt number is own sound =
       subst (λ all. IsInterruptDevice (slice_get all number)) (sym of.peripherals) (there.interrupts name number is)
   sense_leads around of name (AlphicDation direction) number is own sound =
       subst (λ all. IsTerminal direction (slice_get all number)) (sym of.peripherals) (there.terminals name direction number is)
-  sense_leads around of name (BasicDation direction None) number is own sound = tt
   sense_leads around of name (BasicDation direction (Some kind)) number is own sound =
       subst (λ all. IsChannel direction kind (slice_get all number)) (sym of.peripherals) (there.channels name direction kind number is)
   sense_leads around of name Task number is own sound =
       let less = task_there tree devices procedures name number is in let same = of.tasks in omega (arith, less, same)
   sense_leads around of name (Procedure parameters result) number is own sound =
       callee_there tree devices procedures given around of.callees name parameters result number is
+  sense_leads around of name sense number is own sound = tt
 
   module_leads : (around : Around) → IsOfProgram around → ScopeLeads tree rows around 0
   unfolding names_of_scopes sorted_names
@@ -255,13 +251,10 @@ module _ (tree : ShownTree) (devices : List SpecifiedDevice) (procedures : List 
 
   decl_sighted : (types : ℕ) (at : At) (decl : ShownDecl) → 0 < at.next → Lies rows (decl_numbers numbered.table at decl) at.next →
       Lies (scopes_of tree) (decl_scopes types at.next decl) at.next → AllByRecursion IsSighted (decl_sights numbered program at decl)
-  decl_sighted types at (OfLength sort number place) some lies scoped = tt
-  decl_sighted types at (OfType name part place) some lies scoped = tt
-  decl_sighted types at (OfDeclare parts place) some lies scoped = tt
-  decl_sighted types at (OfSpecify specs place) some lies scoped = tt
   decl_sighted types at (OfTask name head body place) some lies scoped = routine_sighted types at [] body None some lies scoped
   decl_sighted types at (OfProc name params returns body place) some lies scoped =
       routine_sighted types at params body (Some (result_kind numbered.table.lengths returns)) some lies scoped
+  decl_sighted types at decl some lies scoped = tt
 
   decls_sighted : (types : ℕ) (at : At) (decls : List ShownDecl) → 0 < at.next → Lies rows (decls_numbers numbered.table at decls) at.next →
       Lies (scopes_of tree) (decls_scopes types at.next decls) at.next → AllByRecursion IsSighted (decls_sights numbered program at decls)

@@ -6,7 +6,7 @@ use Rattle.pearl_tree.specs.declared.word_code.TheConstants as w
 use Rattle.pearl_tree.specs.declared.name.Name.{Name}
 use Rattle.pearl_tree.specs.declared.limit.TheConstants as limit
 use Rattle.pearl_tree.specs.declared.token.Token.{Token}
-use Rattle.pearl_tree.specs.declared.statement.Stmt.{Stmt, Empty, Assign, Call, If', Case', Repeat', Exit, Begin', Return, Activate, Continue, Resume, OnTask, OnSemas, OnInterrupt, Put, Get, Send, Take, Row_of-Stmt, end_of-Stmt, more_of-Stmt}
+use Rattle.pearl_tree.specs.declared.statement.Stmt.{Stmt, If', Case', Repeat', Begin', OnSemas, Row_of-Stmt, end_of-Stmt, more_of-Stmt}
 use Rattle.pearl_tree.specs.declared.statement.If as if_
 use Rattle.pearl_tree.specs.declared.statement.If.{Held-Case-otherwise, None', Some'}
 use Rattle.pearl_tree.specs.declared.statement.Case as case_
@@ -60,20 +60,7 @@ module _ (tokens : List Token) where
     stmt_named depth from spot next (Begin' _ declarations _ statements body_place place) to h =
         (tt, stmts_named (depth - 1) h.4.0 (record { scope = next; in_loop = spot.in_loop }) (next + 1) _ statements h.0 h.4.3)
     stmt_named depth from spot next (OnSemas part) to h = (some_name (from + 1) part.value.names.items.items h.0 h.3, tt)
-    stmt_named depth from spot next (Empty place) to h = (tt, tt)
-    stmt_named depth from spot next (Assign part) to h = (tt, tt)
-    stmt_named depth from spot next (Call part) to h = (tt, tt)
-    stmt_named depth from spot next (Exit place) to h = (tt, tt)
-    stmt_named depth from spot next (Return part) to h = (tt, tt)
-    stmt_named depth from spot next (Activate part) to h = (tt, tt)
-    stmt_named depth from spot next (Continue part) to h = (tt, tt)
-    stmt_named depth from spot next (Resume part) to h = (tt, tt)
-    stmt_named depth from spot next (OnTask part) to h = (tt, tt)
-    stmt_named depth from spot next (OnInterrupt part) to h = (tt, tt)
-    stmt_named depth from spot next (Put part) to h = (tt, tt)
-    stmt_named depth from spot next (Get part) to h = (tt, tt)
-    stmt_named depth from spot next (Send part) to h = (tt, tt)
-    stmt_named depth from spot next (Take part) to h = (tt, tt)
+    stmt_named depth from spot next other to h = (tt, tt)
 
     stmts_named : (depth from : ℕ) (spot : Spot) (next : ℕ) (n : _) (row : Row_of-Stmt n) (to : ℕ) → SpellsStmts tokens depth from row to →
         AreNamed (placed_all spot next (shown_stmts row))
@@ -123,12 +110,9 @@ module _ (tokens : List Token) where
 
   decl_named : (from next : ℕ) (part : Decl) (to : ℕ) → SpellsDecl tokens from part to →
       AllByRecursion HasNamed (decl_routines next (shown_decl part))
-  decl_named from next (decl.Length sort number place) to h = tt
-  decl_named from next (decl.Type name part place) to h = tt
-  decl_named from next (decl.Declare parts place) to h = tt
-  decl_named from next (decl.Specify specs place) to h = tt
   decl_named from next (decl.Task name head body place) to h = (block_named h.0 next body to h.6, tt)
   decl_named from next (decl.Proc name params returns body place) to h = (block_named h.1 next body to h.8, tt)
+  decl_named from next part to h = tt
 
   decls_named : (from next : ℕ) (parts : List Decl) (to : ℕ) → SpellsEach (SpellsDecl tokens) from parts to →
       AllByRecursion HasNamed (decls_routines next (map shown_decl parts))

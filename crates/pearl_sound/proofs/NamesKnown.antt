@@ -9,7 +9,7 @@ use Rattle.pearl_tree.specs.declared.rule.TheConstants as rule
 use Rattle.pearl_tree.specs.declared.name.Name.{Name}
 use Rattle.pearl_tree.specs.Names.{name_text}
 use Rattle.pearl_tree.specs.Durations.{place_of_duration}
-use Rattle.pearl_tree.specs.ShownLiterals.{ShownLiteral, OfNumber, OfBits, OfText, OfClock, OfDuration}
+use Rattle.pearl_tree.specs.ShownLiterals.{ShownLiteral, OfDuration}
 use Rattle.pearl_tree.specs.ShownExpressions.{ShownExpr, OfOperand, OfDyadic, ShownPrimary, OfLiteral, OfRef, OfGroup, OfNow, OfTry, OfLimit, ShownSelectors, NoSelectors, MoreSelectors, ShownSelector, OfSubscripts, OfComponent, ShownExprs, NoExprs, MoreExprs, ShownRef}
 use Rattle.pearl_tree.specs.ShownStatements as shown
 use Rattle.pearl_tree.specs.ShownStatements.{ShownPeriodEnd, ShownPeriod, ShownStart, ShownOnce, ShownStmt}
@@ -97,14 +97,11 @@ module _ (tree : ShownTree) (none : broken tree ≡ []) where
           )
 
   literal_known : (part : ShownLiteral) → AreUnbroken known (literal_parts part) → IsThereIn (literal_kind table.lengths part)
-  literal_known (OfNumber number) kept = (_, refl)
-  literal_known (OfBits len value place) kept = (_, refl)
-  literal_known (OfText text place) kept = (_, refl)
-  literal_known (OfClock milliseconds place) kept = (_, refl)
   literal_known (OfDuration duration) kept = (
     kind.Span,
     ap (λ test. if test then None else Some kind.Span) (first_kept (is_too_long duration) (place_of_duration duration) rule.S4 [] kept.0),
   )
+  literal_known other kept = (_, refl)
 
   module _ (view : View) where
     mutual

@@ -6,7 +6,7 @@ use Rattle.std.proofs.Math.Seq.{drop-append-add}
 use Rattle.std.proofs.lemmas.List.Sums.{sum_by-cons}
 use Rattle.std.proofs.lemmas.Option.{none-some}
 use Rattle.pearl_value.specs.declared.kind.CellKind.{CellKind}
-use Rattle.pearl_names.specs.Tables.{Sense, Variable, Control, OwnParameter, NewType, Semaphore, Interrupt, AlphicDation, BasicDation, Task, Procedure}
+use Rattle.pearl_names.specs.Tables.{Sense, Variable, Control, OwnParameter}
 use Rattle.pearl_resolve.specs.Laying.{cells_of_sense}
 use Rattle.pearl_resolve.specs.Numbers.{own_number, own_numbers}
 use Rattle.pearl_resolve.specs.Cells.{sense_cells}
@@ -33,28 +33,13 @@ at_front sense rest from number is =
 
 first_lies : (control from number : ℕ) (sense : Sense) (rest : List Sense) → own_number control from sense ≡ number →
     LiesAt (sense ∷ rest) from number sense
-first_lies control from number (Control kind) rest is = refl
 first_lies control from number (Variable form inv) rest is = at_front (Variable form inv) rest from number is
 first_lies control from number (OwnParameter parameter) rest is = at_front (OwnParameter parameter) rest from number is
-first_lies control from number NewType rest is = refl
-first_lies control from number Semaphore rest is = refl
-first_lies control from number Interrupt rest is = refl
-first_lies control from number (AlphicDation direction) rest is = refl
-first_lies control from number (BasicDation direction kind) rest is = refl
-first_lies control from number Task rest is = refl
-first_lies control from number (Procedure parameters result) rest is = refl
+first_lies control from number sense rest is = refl
 
 own_is : (control from number : ℕ) (sense : Sense) → IsNoControl sense → own_number control from sense ≡ number → from ≡ number
-own_is control from number (Variable form inv) own is = is
 own_is control from number (Control kind) own is = absurd own
-own_is control from number (OwnParameter parameter) own is = is
-own_is control from number NewType own is = is
-own_is control from number Semaphore own is = is
-own_is control from number Interrupt own is = is
-own_is control from number (AlphicDation direction) own is = is
-own_is control from number (BasicDation direction kind) own is = is
-own_is control from number Task own is = is
-own_is control from number (Procedure parameters result) own is = is
+own_is control from number sense own is = is
 
 not_before : (control from : ℕ) (senses : List Sense) (i number : ℕ) (sense : Sense) → slice_get senses i ≡ Some sense →
     IsNoControl sense → slice_get (own_numbers control from senses) i ≡ Some number → from ≤ number

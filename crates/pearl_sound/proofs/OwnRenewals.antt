@@ -95,15 +95,7 @@ sense_renewed : (around : Around) (constants : List ShownConst) (sense : Sense) 
     AreStmts around (variable_renewals constants (Some (thing_of sense scope number)))
 sense_renewed around constants (Variable form inv) scope number held right =
     leaves_renewed around number [] constants (leaves_in form) held right
-sense_renewed around constants (Control kind) scope number held right = tt
-sense_renewed around constants (OwnParameter parameter) scope number held right = tt
-sense_renewed around constants NewType scope number held right = tt
-sense_renewed around constants Semaphore scope number held right = tt
-sense_renewed around constants Interrupt scope number held right = tt
-sense_renewed around constants (AlphicDation direction) scope number held right = tt
-sense_renewed around constants (BasicDation direction kind) scope number held right = tt
-sense_renewed around constants Task scope number held right = tt
-sense_renewed around constants (Procedure parameters result) scope number held right = tt
+sense_renewed around constants sense scope number held right = tt
 
 thing_renewed : (around : Around) (constants : List ShownConst) (found : Option Meant) → IsIf (Held around) found →
     AreRightFirst (variable_renewals constants found) → AreStmts around (variable_renewals constants found)

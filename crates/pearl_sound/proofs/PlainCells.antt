@@ -18,7 +18,7 @@ use Rattle.pearl_tree.specs.Names.{name_text, names_of}
 use Rattle.pearl_tree.specs.ShownExpressions.{ShownRef, ShownSelectors, NoSelectors, MoreSelectors, OfSubscripts, OfComponent}
 use Rattle.pearl_tree.specs.ShownDeclarations.{ShownItem, ShownParam}
 use Rattle.pearl_tree.specs.ShownStatements as shown
-use Rattle.pearl_tree.specs.ShownStatements.{ShownBodyDecl, ShownStmt, ShownStmts, ShownBranches, ShownOtherwise}
+use Rattle.pearl_tree.specs.ShownStatements.{ShownBodyDecl, ShownStmt, ShownStmts}
 use Rattle.pearl_tree.specs.ShownModules.{ShownBody, ShownTree}
 use Rattle.pearl_names.specs.declared.meaning.Found.{Found}
 use Rattle.pearl_names.specs.declared.scope.View.{View}
@@ -28,21 +28,20 @@ use Rattle.pearl_names.specs.Forms.{Component, component}
 use Rattle.pearl_names.specs.Known.{Known, known_of}
 use Rattle.pearl_names.specs.Layout.{Leaf, leaves_of, leaves_of_fields, elements, leaf_slots, slots_of}
 use Rattle.pearl_names.specs.Lengths.{length_at, kind_of_basic}
-use Rattle.pearl_names.specs.Scopes.{Entry, Scope, scopes_of, as_stmts, entries_as, item_entries, body_decl_entries, body_entries, param_entries, control_entries, routine_scopes, scopes_in, scopes_in_all, scopes_in_branches, stmt_scopes, all_scopes, branch_scopes, otherwise_scopes}
+use Rattle.pearl_names.specs.Scopes.{Entry, Scope, scopes_of, as_stmts, entries_as, item_entries, body_decl_entries, body_entries, param_entries, control_entries, routine_scopes, all_scopes}
 use Rattle.pearl_names.specs.Scopes as scopes
 use Rattle.pearl_names.specs.Shapes.{Shape, OfKind, OfFields, Fields, NoField, MoreField}
-use Rattle.pearl_names.specs.Tables.{Sense, Variable, Control, OwnParameter, NewType, Semaphore, Interrupt, AlphicDation, BasicDation, Task, Procedure, sense_at, senses_of, table_of, leaves_in}
-use Rattle.pearl_names.proofs.Offered.{length-stmt_scopes, length-all_scopes, length-branch_scopes}
+use Rattle.pearl_names.specs.Tables.{Sense, Variable, Control, OwnParameter, sense_at, senses_of, table_of, leaves_in}
 use Rattle.pearl_program.specs.Sound.{IsCellKind, IsPlain}
 use Rattle.pearl_program.specs.SoundStatements.{IsIf}
 use Rattle.pearl_resolve.specs.Laying.{cells_of_sense}
-use Rattle.pearl_resolve.specs.Numbers.{At, counts, loop_cells, entered, senses_at, in_body, after, after_all, after_branches}
-use Rattle.pearl_resolve.specs.Cells.{param_cell, sense_cells, scope_cells, counter_cells, get_cells, cells_in, cells_in_all, cells_in_branches, cells_in_otherwise, routine_cells}
+use Rattle.pearl_resolve.specs.Numbers.{At, counts, loop_cells, entered, senses_at, in_body}
+use Rattle.pearl_resolve.specs.Cells.{param_cell, sense_cells, scope_cells, counter_cells, get_cells, cells_in_all, routine_cells}
 use Rattle.pearl_resolve.specs.Expressions.{Numbered, meant, meant_at, number_at, walk_of, walk_from, Walk, to_field, field_of, kind_of_shape, along, step, target_kind}
 use Rattle.pearl_resolve.specs.Resolve.{names_in_param}
 use Rattle.pearl_sound.specs.SoundForms.{HasBounds, FieldsHaveBounds, HasSoundForm, IsKindIf, IsSoundSense}
 use Rattle.pearl_sound.proofs.ByNumber.{all_at}
-use Rattle.pearl_sound.proofs.Going.{scope_length, stmt_goes, all_go, branches_go}
+use Rattle.pearl_sound.proofs.Going.{scope_length, goes}
 use Rattle.pearl_sound.proofs.Leading.{thing_of}
 use Rattle.pearl_sound.proofs.Literals.{all_set}
 use Rattle.pearl_sound.proofs.ModuleEntries.{senses_append}
@@ -51,6 +50,7 @@ use Rattle.pearl_sound.proofs.ScopesThere.{head_there, left_lies, right_lies, sc
 use Rattle.pearl_sound.proofs.SimpleStatements.{split_all}
 use Rattle.pearl_sound.proofs.SoundForms.{all_append, at_kind, senses_sound}
 use Rattle.pearl_sound.proofs.Stretched.{Lies}
+use Rattle.pearl_sound.proofs.Walk.{Passage, One, Each, Branches, Otherwise, PartsKeep, walk, Pieces, in_turn, pieces, summed, counted}
 
 fixed_kind : IsKind (Fixed 31)
 fixed_kind = (omega arith, omega arith)
@@ -105,15 +105,8 @@ IsInner sense = Unit {0}
 
 sense_plain : (sense : Sense) → IsInner sense → IsSoundSense sense → AllByRecursion IsPlain (sense_cells sense)
 sense_plain (Variable form inv) inner sound = form_plain form sound
-sense_plain (Control kind) inner sound = tt
 sense_plain (OwnParameter parameter) inner sound = absurd inner
-sense_plain NewType inner sound = tt
-sense_plain Semaphore inner sound = tt
-sense_plain Interrupt inner sound = tt
-sense_plain (AlphicDation direction) inner sound = tt
-sense_plain (BasicDation direction kind) inner sound = tt
-sense_plain Task inner sound = tt
-sense_plain (Procedure parameters result) inner sound = tt
+sense_plain sense inner sound = tt
 
 senses_plain : (senses : List Sense) → AllByRecursion IsInner senses → AllByRecursion IsSoundSense senses →
     AllByRecursion IsPlain (flat_map sense_cells senses)
@@ -156,17 +149,10 @@ counters_plain false len is = tt
 
 -- where a reference leads
 thing_shape : (sense : Sense) (scope number : ℕ) → IsSoundSense sense → HasBounds (walk_of (thing_of sense scope number)).shape
-thing_shape (Variable None inv) scope number sound = fixed_kind
 thing_shape (Variable (Some form) inv) scope number sound = sound.shape
 thing_shape (Control kind) scope number sound = sound
 thing_shape (OwnParameter parameter) scope number sound = or_fixed parameter.kind sound
-thing_shape NewType scope number sound = fixed_kind
-thing_shape Semaphore scope number sound = fixed_kind
-thing_shape Interrupt scope number sound = fixed_kind
-thing_shape (AlphicDation direction) scope number sound = fixed_kind
-thing_shape (BasicDation direction kind) scope number sound = fixed_kind
-thing_shape Task scope number sound = fixed_kind
-thing_shape (Procedure parameters result) scope number sound = fixed_kind
+thing_shape sense scope number sound = fixed_kind
 
 component_shape : (walk : Walk) (fields : Fields) (text : List ℕ) (field : Option Component) → component 0 0 fields text ≡ field →
     FieldsHaveBounds fields → HasBounds walk.shape → HasBounds (to_field walk field).shape
@@ -312,102 +298,52 @@ module _ (tree : ShownTree) (numbers : List (List ℕ)) where
   abbrev Written : ℕ → List Scope → Type 0
   Written at list = Lies (scopes_of tree) list at
 
-  -- the scopes behind some of them
-  behind : (at next n : ℕ) (one two : List Scope) → next ≡ at + n → length one ≡ n → Written at (one ++ two) → Written next two
-  behind at next n one two past count written = right_lies one two next (omega (arith, past, count)) written
+  abbrev ArePlain : Pieces → Type 0
+  ArePlain piece = (types scope : ℕ) (at : At) → Written at.next (piece.list types scope at.next) → AllByRecursion IsPlain (piece.cells scope at)
 
-  mutual
-    stmt_plain : (types scope : ℕ) (at : At) (s : ShownStmt) → Written at.next (stmt_scopes types scope at.next s) →
-        AllByRecursion IsPlain (cells_in of scope at s)
-    stmt_plain types scope at (shown.OfIf condition statements otherwise place) written =
-        let middle = after_all of.table at statements in
-        let past = (all_go of scope at statements).next in
-        let n = scopes_in_all statements in
-        let one = all_scopes types scope at.next statements in
-        let two = otherwise_scopes types scope (at.next + n) otherwise in
-        all_append IsPlain (cells_in_all of scope at statements) (cells_in_otherwise of scope middle otherwise)
-        (all_plain types scope at statements (left_lies one two written))
-        (otherwise_plain types scope middle otherwise
-        (subst (λ next. Written middle.next (otherwise_scopes types scope next otherwise)) (sym past)
-        (behind at.next middle.next n one two past (length-all_scopes types scope at.next statements) written)))
-    stmt_plain types scope at (shown.OfCase selector alternatives otherwise place) written =
-        let middle = after_branches of.table at alternatives in
-        let past = (branches_go of scope at alternatives).next in
-        let n = scopes_in_branches alternatives in
-        let one = branch_scopes types scope at.next alternatives in
-        let two = otherwise_scopes types scope (at.next + n) otherwise in
-        all_append IsPlain (cells_in_branches of scope at alternatives) (cells_in_otherwise of scope middle otherwise)
-        (branches_plain types scope at alternatives (left_lies one two written))
-        (otherwise_plain types scope middle otherwise
-        (subst (λ next. Written middle.next (otherwise_scopes types scope next otherwise)) (sym past)
-        (behind at.next middle.next n one two past (length-branch_scopes types scope at.next alternatives) written)))
-    stmt_plain types scope at (shown.OfRepeat control begin step end condition declarations statements body_place place) written =
-        let inner = entered of.table (loop_cells control begin step end) at in
-        let own : Scope = record { outer = Some scope; entries = control_entries place control ++ body_entries types declarations } in
-        let list = all_scopes types at.next (at.next + 1) statements in
-        let len = length_at of.table.lengths sorts.Fixed place in
-        let counter = counter_cells (counts control begin step end) len in
-        let names = scope_cells of.table at.next in
-        let more = cells_in_all of at.next inner statements in
-        all_append IsPlain counter (names ++ more)
-        (counters_plain (counts control begin step end) len (at_kind of.table.lengths (all_set tree.declarations) sorts.Fixed place))
-        (all_append IsPlain names more
-        (inner_plain at.next own (head_there own list written) (loop_inner known at.next types place control declarations))
-        (all_plain types at.next inner statements (right_lies (own ∷ []) list (at.next + 1) refl written)))
-    stmt_plain types scope at (shown.OfBegin declarations statements body_place place) written =
-        let inner = entered of.table 0 at in
-        let own : Scope = record { outer = Some scope; entries = body_entries types declarations } in
-        let list = all_scopes types at.next (at.next + 1) statements in
-        all_append IsPlain (scope_cells of.table at.next) (cells_in_all of at.next inner statements)
-        (inner_plain at.next own (head_there own list written) (body_inner known at.next types declarations))
-        (all_plain types at.next inner statements (right_lies (own ∷ []) list (at.next + 1) refl written))
-    stmt_plain types scope at (shown.OfGet targets dation formats place) written = gets_plain scope targets
-    stmt_plain types scope at (shown.OfEmpty place) written = tt
-    stmt_plain types scope at (shown.OfAssign target value place) written = tt
-    stmt_plain types scope at (shown.OfCall call name arguments place) written = tt
-    stmt_plain types scope at (shown.OfExit place) written = tt
-    stmt_plain types scope at (shown.OfReturn value place) written = tt
-    stmt_plain types scope at (shown.OfActivate begin task priority place) written = tt
-    stmt_plain types scope at (shown.OfContinue once task place) written = tt
-    stmt_plain types scope at (shown.OfResume once place) written = tt
-    stmt_plain types scope at (shown.OfOnTask word task place) written = tt
-    stmt_plain types scope at (shown.OfOnSemas word names place) written = tt
-    stmt_plain types scope at (shown.OfOnInterrupt word name place) written = tt
-    stmt_plain types scope at (shown.OfPut values dation formats place) written = tt
-    stmt_plain types scope at (shown.OfSend value dation place) written = tt
-    stmt_plain types scope at (shown.OfTake target dation place) written = tt
+  both_plain : (one two : Passage) → ArePlain (pieces of one) → ArePlain (pieces of two) → ArePlain (in_turn (pieces of one) (pieces of two))
+  both_plain one two first second types scope at written =
+      let a = pieces of one in
+      let b = pieces of two in
+      let middle = a.after at in
+      let past = (goes of one scope at).next in
+      let count = counted of one types scope at.next in
+      all_append IsPlain (a.cells scope at) (b.cells scope middle)
+      (first types scope at (left_lies (a.list types scope at.next) (b.list types scope (at.next + a.scopes)) written))
+      (second types scope middle (subst (λ n. Written middle.next (b.list types scope n)) (sym past)
+      (right_lies (a.list types scope at.next) (b.list types scope (at.next + a.scopes)) middle.next (omega (arith, past, count)) written)))
 
-    all_plain : (types scope : ℕ) (at : At) (statements : ShownStmts) → Written at.next (all_scopes types scope at.next statements) →
-        AllByRecursion IsPlain (cells_in_all of scope at statements)
-    all_plain types scope at shown.NoStmts written = tt
-    all_plain types scope at (shown.MoreStmts s rest) written =
-        let middle = after of.table at s in
-        let past = (stmt_goes of scope at s).next in
-        let n = scopes_in s in
-        let one = stmt_scopes types scope at.next s in
-        let two = all_scopes types scope (at.next + n) rest in
-        all_append IsPlain (cells_in of scope at s) (cells_in_all of scope middle rest) (stmt_plain types scope at s (left_lies one two written))
-        (all_plain types scope middle rest (subst (λ next. Written middle.next (all_scopes types scope next rest)) (sym past)
-        (behind at.next middle.next n one two past (length-stmt_scopes types scope at.next s) written)))
+  stmt_plain : (s : ShownStmt) → PartsKeep (λ passage. ArePlain (pieces of passage)) s → ArePlain (pieces of (One s))
+  stmt_plain (shown.OfIf condition statements otherwise place) parts = both_plain (Each statements) (Otherwise otherwise) parts.0 parts.1
+  stmt_plain (shown.OfCase selector alternatives otherwise place) parts = both_plain (Branches alternatives) (Otherwise otherwise) parts.0 parts.1
+  stmt_plain (shown.OfRepeat control begin step end condition declarations statements body_place place) parts = λ types scope at written.
+      let inner = entered of.table (loop_cells control begin step end) at in
+      let own : Scope = record { outer = Some scope; entries = control_entries place control ++ body_entries types declarations } in
+      let list = all_scopes types at.next (at.next + 1) statements in
+      let len = length_at of.table.lengths sorts.Fixed place in
+      let counter = counter_cells (counts control begin step end) len in
+      let names = scope_cells of.table at.next in
+      let more = cells_in_all of at.next inner statements in
+      all_append IsPlain counter (names ++ more)
+      (counters_plain (counts control begin step end) len (at_kind of.table.lengths (all_set tree.declarations) sorts.Fixed place))
+      (all_append IsPlain names more
+      (inner_plain at.next own (head_there own list written) (loop_inner known at.next types place control declarations))
+      (parts types at.next inner (right_lies (own ∷ []) list (at.next + 1) refl written)))
+  stmt_plain (shown.OfBegin declarations statements body_place place) parts = λ types scope at written.
+      let inner = entered of.table 0 at in
+      let own : Scope = record { outer = Some scope; entries = body_entries types declarations } in
+      let list = all_scopes types at.next (at.next + 1) statements in
+      all_append IsPlain (scope_cells of.table at.next) (cells_in_all of at.next inner statements)
+      (inner_plain at.next own (head_there own list written) (body_inner known at.next types declarations))
+      (parts types at.next inner (right_lies (own ∷ []) list (at.next + 1) refl written))
+  stmt_plain (shown.OfGet targets dation formats place) parts = λ types scope at written. gets_plain scope targets
+  stmt_plain statement parts = λ types scope at written. tt
 
-    branches_plain : (types scope : ℕ) (at : At) (branches : ShownBranches) → Written at.next (branch_scopes types scope at.next branches) →
-        AllByRecursion IsPlain (cells_in_branches of scope at branches)
-    branches_plain types scope at shown.NoBranches written = tt
-    branches_plain types scope at (shown.MoreBranches statements place rest) written =
-        let middle = after_all of.table at statements in
-        let past = (all_go of scope at statements).next in
-        let n = scopes_in_all statements in
-        let one = all_scopes types scope at.next statements in
-        let two = branch_scopes types scope (at.next + n) rest in
-        all_append IsPlain (cells_in_all of scope at statements) (cells_in_branches of scope middle rest)
-        (all_plain types scope at statements (left_lies one two written))
-        (branches_plain types scope middle rest (subst (λ next. Written middle.next (branch_scopes types scope next rest)) (sym past)
-        (behind at.next middle.next n one two past (length-all_scopes types scope at.next statements) written)))
-
-    otherwise_plain : (types scope : ℕ) (at : At) (otherwise : ShownOtherwise) → Written at.next (otherwise_scopes types scope at.next otherwise) →
-        AllByRecursion IsPlain (cells_in_otherwise of scope at otherwise)
-    otherwise_plain types scope at shown.NoOtherwise written = tt
-    otherwise_plain types scope at (shown.OfOtherwise statements place) written = all_plain types scope at statements written
+  all_plain : (types scope : ℕ) (at : At) (statements : ShownStmts) → Written at.next (all_scopes types scope at.next statements) →
+      AllByRecursion IsPlain (cells_in_all of scope at statements)
+  all_plain types scope at statements written =
+      walk (λ passage. ArePlain (pieces of passage)) (summed of ArePlain (λ types scope at written. tt) both_plain stmt_plain)
+      (Each statements) types scope at written
 
   -- the cells of a routine with these parameters
   pub record HasSoundCells (at : At) (params : List ShownParam) (body : ShownBody) : Type 0 where

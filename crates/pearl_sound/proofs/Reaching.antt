@@ -15,7 +15,7 @@ use Rattle.pearl_tree.specs.declared.name.Name.{Name}
 use Rattle.pearl_tree.specs.Names.{name_text}
 use Rattle.pearl_names.specs.Shapes.{Shape, OfKind, OfFields, Fields, NoField, MoreField}
 use Rattle.pearl_names.specs.Layout as layout
-use Rattle.pearl_names.specs.Layout.{Leaf, leaves_of, leaves_of_fields, leaf_slots, slots_of, is_sound_leaf}
+use Rattle.pearl_names.specs.Layout.{Leaf, leaves_of, leaf_slots, slots_of, is_sound_leaf}
 use Rattle.pearl_names.specs.Forms.{Component, component, leaf_count, slot_count}
 use Rattle.pearl_program.specs.declared.expression.Target.{Target}
 use Rattle.pearl_program.specs.declared.expression.Target.TheVariants as target

@@ -41,7 +41,7 @@ new_before numbered last (procedure ∷ order) all =
     let more = new_before numbered last order all.1 in
     ((one.0, more.0), (not_same last procedure one.1, more.1))
 
-order_new : (callers : List Caller) (numbered order : List ℕ) → GetNext callers numbered order →
+pub order_new : (callers : List Caller) (numbered order : List ℕ) → GetNext callers numbered order →
     AllByRecursion (IsNew numbered) order × IsDistinct nat_eq order
 unfolding IsDistinct
 order_new callers numbered [] next = (tt, tt)
@@ -52,7 +52,7 @@ order_new callers numbered (procedure ∷ order) next =
     let parts = new_before numbered procedure order more.0 in
     ((negated (list_any (nat_eq procedure) numbered) own.1, parts.0), (parts.1, more.1))
 
-each_passes : (P : ℕ → Type 0) (numbers : List ℕ) → ((i x : ℕ) → slice_get numbers i ≡ Some x → P x) → AllByRecursion P numbers
+pub each_passes : (P : ℕ → Type 0) (numbers : List ℕ) → ((i x : ℕ) → slice_get numbers i ≡ Some x → P x) → AllByRecursion P numbers
 each_passes P [] all = tt
 each_passes P (x ∷ rest) all = (all 0 x refl, each_passes P rest (λ i y is. all (suc i) y is))
 
@@ -69,15 +69,15 @@ module _ (callers : List Caller) (order numbers : List ℕ) (numbering : IsNumbe
   few : length order ≤ length numbers
   few = length-le_from_distinct_below order (length numbers) (order_new callers [] order numbering.by_rule).1 (λ q any. are.within q any)
 
-  placed : (i x : ℕ) → slice_get numbers i ≡ Some x → slice_get order x ≡ Some i
+  pub placed : (i x : ℕ) → slice_get numbers i ≡ Some x → slice_get order x ≡ Some i
   placed i x is =
       ap (λ n. slice_get order n) (sym (get_or_from_slice_get numbers i x 0 is)) ∙ are.place i (slice_get_within numbers i x is)
 
-  numbers_below : AllByRecursion (λ number. number < length numbers) numbers
+  pub numbers_below : AllByRecursion (λ number. number < length numbers) numbers
   numbers_below = each_passes (λ number. number < length numbers) numbers
       (λ i x is. let less = slice_get_within order x i (placed i x is) in let most = few in omega (arith, less, most))
 
-  numbers_differ : IsDistinct nat_eq numbers
+  pub numbers_differ : IsDistinct nat_eq numbers
   numbers_differ = differ_later numbers (λ i j x y less is has. by i j x y less is has (nat_eq x y) refl)
     where
       by : (i j x y : ℕ) → i < j → slice_get numbers i ≡ Some x → slice_get numbers j ≡ Some y → (test : Bool) → nat_eq x y ≡ test → test ≡ false

@@ -3,7 +3,7 @@ use Rattle.std.specs.Prelude.{◌≡◌, ℕ, zero, suc, ◌+◌, List, [], ◌�
 use Rattle.std.proofs.Common.{refl, ap, ◌∙◌, sym, subst, arith}
 use Rattle.std.proofs.lemmas.List.{append_assoc, length-append}
 use Rattle.std.proofs.lemmas.Option.{none-some, slice_get-map}
-use Rattle.pearl_tree.specs.ShownModules.{ShownDecl, OfLength, OfType, OfDeclare, OfSpecify, OfTask, OfProc, ShownTree}
+use Rattle.pearl_tree.specs.ShownModules.{ShownDecl, OfTask, OfProc, ShownTree}
 use Rattle.pearl_names.specs.Known.{Known, known_of}
 use Rattle.pearl_names.specs.Scopes.{Scope, scopes_of, scopes_in_decl, as_stmts, decl_scopes, decls_scopes, types_in}
 use Rattle.pearl_names.specs.Sorts.{scope_names, names_of_scopes}
@@ -64,24 +64,18 @@ unfolding names_of_scopes
 scope_named tree n scope is = slice_get-map scope_names (scopes_of tree) n ∙ ap (option_map scope_names) is
 
 pub decl_next : (numbered : Numbered) (at : At) (decl : ShownDecl) → (after_decl numbered.table at decl).next ≡ at.next + scopes_in_decl decl
-decl_next numbered at (OfLength sort number place) = omega arith
-decl_next numbered at (OfType name part place) = omega arith
-decl_next numbered at (OfDeclare parts place) = omega arith
-decl_next numbered at (OfSpecify specs place) = omega arith
 decl_next numbered at (OfTask name head body place) =
     let past = (all_go numbered at.next (in_body numbered.table at) (as_stmts body.statements)).next in omega (arith, past)
 decl_next numbered at (OfProc name params returns body place) =
     let past = (all_go numbered at.next (in_body numbered.table at) (as_stmts body.statements)).next in omega (arith, past)
+decl_next numbered at decl = omega arith
 
 pub decl_rows : (numbered : Numbered) (at : At) (decl : ShownDecl) → length (decl_numbers numbered.table at decl) ≡ scopes_in_decl decl
-decl_rows numbered at (OfLength sort number place) = refl
-decl_rows numbered at (OfType name part place) = refl
-decl_rows numbered at (OfDeclare parts place) = refl
-decl_rows numbered at (OfSpecify specs place) = refl
 decl_rows numbered at (OfTask name head body place) =
     let past = (all_go numbered at.next (in_body numbered.table at) (as_stmts body.statements)).each in omega (arith, past)
 decl_rows numbered at (OfProc name params returns body place) =
     let past = (all_go numbered at.next (in_body numbered.table at) (as_stmts body.statements)).each in omega (arith, past)
+decl_rows numbered at decl = refl
 
 -- the scopes of the declarations behind one
 pub decls_lie : (numbered : Numbered) {whole : List Scope} (types : ℕ) (at : At) (decl : ShownDecl) (rest : List ShownDecl) →

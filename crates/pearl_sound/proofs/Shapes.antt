@@ -13,9 +13,9 @@ use Rattle.pearl_names.specs.declared.meaning.Found.{Found}
 use Rattle.pearl_names.specs.Found.{found_from}
 use Rattle.pearl_names.specs.Shapes.{Shape, OfKind, OfFields}
 use Rattle.pearl_names.specs.Forms.{Component, component}
-use Rattle.pearl_names.specs.Tables.{Form, Sense, Variable, Control, OwnParameter, NewType, Semaphore, Interrupt, AlphicDation, BasicDation, Task, Procedure, sense_at, sense_from}
+use Rattle.pearl_names.specs.Tables.{Form, Sense, Variable, Control, OwnParameter, sense_at, sense_from}
 use Rattle.pearl_check_expr.specs.Standings as judged
-use Rattle.pearl_check_expr.specs.Standings.{Judged, Standing, Broken, Open, Walked, standing_of, start_at, variable_start, element_standing, value_of, walked_on, stopped}
+use Rattle.pearl_check_expr.specs.Standings.{Standing, Broken, Open, Walked, standing_of, start_at, variable_start, element_standing, value_of, walked_on, stopped}
 use Rattle.pearl_check_expr.specs.Judged as judging
 use Rattle.pearl_check_expr.specs.Judged.{walked_ref, judged_variable}
 use Rattle.pearl_resolve.specs.Expressions.{Numbered, number_at, meant_at, meant, Walk, walk_of, walk_from, to_field, field_of, kind_of_shape, along, step, walked, target_kind}
@@ -40,13 +40,7 @@ sense_stands : (name : Name) (scope number : ℕ) (sense : Sense) →
 sense_stands name scope number (Variable form inv) = with_form scope number form inv
 sense_stands name scope number (Control kind) = refl
 sense_stands name scope number (OwnParameter parameter) = with_kind scope number parameter.kind parameter.ident
-sense_stands name scope number NewType = tt
-sense_stands name scope number Semaphore = tt
-sense_stands name scope number Interrupt = tt
-sense_stands name scope number (AlphicDation direction) = tt
-sense_stands name scope number (BasicDation direction kind) = tt
-sense_stands name scope number Task = tt
-sense_stands name scope number (Procedure parameters result) = tt
+sense_stands name scope number sense = tt
 
 if_sense : (name : Name) (scope number : ℕ) (sense : Option Sense) →
     Stands (variable_start name sense).standing
@@ -109,10 +103,8 @@ ref_stands numbered view reference =
 
 value_kinds : (name : Name) (standing : Standing) (walk : Walk) (kind : Kind) → Stands standing walk →
     (value_of name standing).kind ≡ Some kind → kind_of_shape walk.shape ≡ kind
-value_kinds name Broken walk kind stands is = absurd (none-some kind is)
 value_kinds name (Open zero (OfKind of)) walk kind stands is = ap kind_of_shape stands ∙ ap (λ found. unwrap_or found of) is
-value_kinds name (Open zero (OfFields fields)) walk kind stands is = absurd (none-some kind is)
-value_kinds name (Open (suc n) shape) walk kind stands is = absurd (none-some kind is)
+value_kinds name other walk kind stands is = absurd (none-some kind is)
 
 pub target_kinds : (numbered : Numbered) (view : View) (reference : ShownRef) (kind : Kind) →
     (judged_variable numbered.table view reference).kind ≡ Some kind → target_kind numbered view reference ≡ kind

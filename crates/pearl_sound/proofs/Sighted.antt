@@ -15,7 +15,7 @@ use Rattle.pearl_tree.specs.Names.{name_text, names_of}
 use Rattle.pearl_tree.specs.ShownExpressions.{ShownExpr}
 use Rattle.pearl_tree.specs.ShownDeclarations.{ShownItem}
 use Rattle.pearl_tree.specs.ShownStatements as shown
-use Rattle.pearl_tree.specs.ShownStatements.{ShownBodyDecl, ShownStmt, ShownStmts, ShownBranches, ShownOtherwise}
+use Rattle.pearl_tree.specs.ShownStatements.{ShownBodyDecl, ShownStmt, ShownStmts}
 use Rattle.pearl_tree.specs.ShownModules.{ShownTree}
 use Rattle.pearl_names.specs.declared.meaning.Found.{Found}
 use Rattle.pearl_names.specs.declared.scope.View.TheVariants.{Within, WhileOf}
@@ -23,10 +23,9 @@ use Rattle.pearl_names.specs.Found.{found_in, found_through, is_control, names_i
 use Rattle.pearl_names.specs.FirstNames.{first_index}
 use Rattle.pearl_names.specs.Known.{Known, known_of}
 use Rattle.pearl_names.specs.Lengths.{length_at}
-use Rattle.pearl_names.specs.Scopes.{Entry, Scope, scopes_of, as_stmts, entries_as, item_entries, body_decl_entries, body_entries, control_entries, scopes_in, scopes_in_all, scopes_in_branches, stmt_scopes, all_scopes, branch_scopes, otherwise_scopes}
+use Rattle.pearl_names.specs.Scopes.{Entry, Scope, scopes_of, entries_as, item_entries, body_decl_entries, body_entries, control_entries, all_scopes}
 use Rattle.pearl_names.specs.Scopes as scopes
 use Rattle.pearl_names.specs.Tables.{Sense, Table, senses_of, table_of}
-use Rattle.pearl_names.proofs.Offered.{length-stmt_scopes, length-all_scopes, length-branch_scopes}
 use Rattle.pearl_program.specs.declared.expression.Target.TheVariants.{Own}
 use Rattle.pearl_program.specs.PlainExpressions as plain
 use Rattle.pearl_program.specs.PlainExpressions.{OfVariable}
@@ -34,17 +33,17 @@ use Rattle.pearl_program.specs.PlainStatements.{PlainCounter}
 use Rattle.pearl_program.specs.Typing.{Around, AreOpen, IsControl}
 use Rattle.pearl_program.specs.SoundStatements.{IsIf, within}
 use Rattle.pearl_resolve.specs.Laying.{cells_of_sense}
-use Rattle.pearl_resolve.specs.Numbers.{At, counts, loop_cells, entered, scope_numbers, own_numbers, senses_at, after, after_all, after_branches, numbers_in, numbers_in_all, numbers_in_branches, numbers_in_otherwise}
+use Rattle.pearl_resolve.specs.Numbers.{At, counts, loop_cells, entered, scope_numbers, own_numbers, senses_at, numbers_in_all}
 use Rattle.pearl_resolve.specs.Cells.{counter_cells}
 use Rattle.pearl_resolve.specs.Expressions.{Numbered, meant_at, number_at}
 use Rattle.pearl_resolve.specs.Statements.{counter_in}
 use Rattle.pearl_sound.specs.Laws.{IsNoControl}
-use Rattle.pearl_sound.specs.Sights.{Sight, sights_in, sights_in_all, sights_in_branches, sights_in_otherwise}
+use Rattle.pearl_sound.specs.Sights.{Sight, sights_in_all}
 use Rattle.pearl_sound.specs.SoundForms.{IsSoundSense}
 use Rattle.pearl_sound.specs.SoundNames.{LeadNames}
-use Rattle.pearl_sound.specs.Stretches.{Stretch, OfLoop, loop_stretch, scope_stretch, stretches_in, stretches_in_all, stretches_in_branches, stretches_in_otherwise, cells_of, hidden_of, rows_of, AreInARow}
+use Rattle.pearl_sound.specs.Stretches.{Stretch, OfLoop, loop_stretch, scope_stretch, stretches_in_all, cells_of, hidden_of, rows_of, AreInARow}
 use Rattle.pearl_sound.proofs.ByNumber.{all_at}
-use Rattle.pearl_sound.proofs.Going.{stmt_goes, all_go, branches_go}
+use Rattle.pearl_sound.proofs.Going.{goes}
 use Rattle.pearl_sound.proofs.Leading.{Leads, thing_of, lead_all}
 use Rattle.pearl_sound.proofs.LocalNames.{leads_within, IsLocal, HasCells, local_leads, number_there, control_number}
 use Rattle.pearl_sound.proofs.ModuleEntries.{senses_append}
@@ -52,6 +51,7 @@ use Rattle.pearl_sound.proofs.ScopesThere.{head_there, left_lies, right_lies, sc
 use Rattle.pearl_sound.proofs.SoundForms.{all_append, senses_sound}
 use Rattle.pearl_sound.proofs.SoundParts.{some_one}
 use Rattle.pearl_sound.proofs.Stretched.{Lies, taken, place as stretch_place, cells_lie, name_lies, name_fits}
+use Rattle.pearl_sound.proofs.Walk.{Passage, One, Each, Branches, Otherwise, PartsKeep, walk, Pieces, in_turn, pieces, summed, counted}
 
 get_behind : {X : Type 0} (xs ys : List X) (k : ℕ) → slice_get (xs ++ ys) (length xs + k) ≡ slice_get ys k
 get_behind [] ys k = let same : 0 + k ≡ k = omega arith in ap (λ n. slice_get ys n) same
@@ -235,27 +235,63 @@ module _ (tree : ShownTree) (numbers : List (List ℕ)) (start : ℕ) (all : Lis
     pub lies : Lies (rows_of of.table all) rows k
     pub scoped : Lies (scopes_of tree) list at.next
 
-  pub left : {at : At} (a b : List Stretch) (c d : List (List ℕ)) (e f : List Scope) → Standing at (a ++ b) (c ++ d) (e ++ f) → Standing at a c e
-  left a b c d e f standing = record {
-    place = standing.place;
-    stretched = left_lies a b standing.stretched;
-    k = standing.k;
-    here = standing.here;
-    lies = left_lies c d standing.lies;
-    scoped = left_lies e f standing.scoped;
-  }
+  abbrev pub StandsAt : (types scope : ℕ) → At → Pieces → Type 0
+  StandsAt types scope at piece = Standing at (piece.stretches scope at) (piece.numbers at) (piece.list types scope at.next)
 
-  pub right : {at : At} (next : At) (n : ℕ) (a b : List Stretch) (c d : List (List ℕ)) (e f : List Scope) → next.next ≡ at.next + n →
-      length c ≡ n → length e ≡ n → Standing at (a ++ b) (c ++ d) (e ++ f) → Standing next b d f
-  right {at = at} next n a b c d e f past rows list standing =
+  -- of two passages the first, and the second behind it
+  pub first_stands : (one two : Passage) (types scope : ℕ) (at : At) → StandsAt types scope at (in_turn (pieces of one) (pieces of two)) →
+      StandsAt types scope at (pieces of one)
+  first_stands one two types scope at standing =
+      let a = pieces of one in
+      let b = pieces of two in
+      record {
+        place = standing.place;
+        stretched = left_lies (a.stretches scope at) (b.stretches scope (a.after at)) standing.stretched;
+        k = standing.k;
+        here = standing.here;
+        lies = left_lies (a.numbers at) (b.numbers (a.after at)) standing.lies;
+        scoped = left_lies (a.list types scope at.next) (b.list types scope (at.next + a.scopes)) standing.scoped;
+      }
+
+  pub second_stands : (one two : Passage) (types scope : ℕ) (at : At) → StandsAt types scope at (in_turn (pieces of one) (pieces of two)) →
+      StandsAt types scope ((pieces of one).after at) (pieces of two)
+  second_stands one two types scope at standing =
+      let a = pieces of one in
+      let b = pieces of two in
+      let middle = a.after at in
+      let each = (goes of one scope at).each in
+      let next = (goes of one scope at).next in
+      let count = counted of one types scope at.next in
       let here = standing.here in
       record {
-        place = standing.place + length a;
-        stretched = right_lies a b (standing.place + length a) refl standing.stretched;
-        k = standing.k + n;
-        here = omega (arith, here, past);
-        lies = right_lies c d (standing.k + n) (omega (arith, rows)) standing.lies;
-        scoped = right_lies e f next.next (omega (arith, past, list)) standing.scoped;
+        place = standing.place + length (a.stretches scope at);
+        stretched = right_lies (a.stretches scope at) (b.stretches scope middle) (standing.place + length (a.stretches scope at)) refl standing.stretched;
+        k = standing.k + a.scopes;
+        here = omega (arith, here, next);
+        lies = right_lies (a.numbers at) (b.numbers middle) (standing.k + a.scopes) (omega (arith, each)) standing.lies;
+        scoped = subst (λ n. Lies (scopes_of tree) (b.list types scope n) middle.next) (sym next)
+            (right_lies (a.list types scope at.next) (b.list types scope (at.next + a.scopes)) middle.next (omega (arith, next, count)) standing.scoped);
+      }
+
+  -- the statements of a scope, behind the stretch of its loop
+  pub inner_stands : (types : ℕ) (at : At) (hidden : ℕ) (loop : List Stretch) (own : Scope) (statements : ShownStmts) →
+      Standing at (loop ++ (scope_stretch of.table hidden at ∷ stretches_in_all of at.next (entered of.table hidden at) statements))
+      (scope_numbers of.table hidden at ∷ numbers_in_all of.table (entered of.table hidden at) statements)
+      (own ∷ all_scopes types at.next (at.next + 1) statements) →
+      StandsAt types at.next (entered of.table hidden at) (pieces of (Each statements))
+  inner_stands types at hidden loop own statements standing =
+      let stretch = scope_stretch of.table hidden at in
+      let inner = stretches_in_all of at.next (entered of.table hidden at) statements in
+      let rows = numbers_in_all of.table (entered of.table hidden at) statements in
+      let place = standing.place + length loop in
+      let here = standing.here in
+      record {
+        place = place + 1;
+        stretched = right_lies (stretch ∷ []) inner (place + 1) refl (right_lies loop (stretch ∷ inner) place refl standing.stretched);
+        k = standing.k + 1;
+        here = omega (arith, here);
+        lies = right_lies (scope_numbers of.table hidden at ∷ []) rows (standing.k + 1) refl standing.lies;
+        scoped = right_lies (own ∷ []) (all_scopes types at.next (at.next + 1) statements) (at.next + 1) refl standing.scoped;
       }
 
   -- the control variable of a loop
@@ -288,154 +324,61 @@ module _ (tree : ShownTree) (numbers : List (List ℕ)) (start : ℕ) (all : Lis
   past_zero at some k here = omega (arith, some, here)
 
   module _ (some : 0 < start) where
-    mutual
-      stmt_sighted : (types : ℕ) (around : Around) → Surrounds around → (scope : ℕ) (at : At) (s : ShownStmt) →
-          Standing at (stretches_in of scope at s) (numbers_in of.table at s) (stmt_scopes types scope at.next s) → Seen tree numbers around scope →
-          AreSighted (sights_in of around scope at s)
-      stmt_sighted types around surrounds scope at (shown.OfIf condition statements otherwise place) standing seen =
-          let middle = after_all of.table at statements in
-          let past = all_go of scope at statements in
-          let n = scopes_in_all statements in
-          all_append IsSighted (sights_in_all of around scope at statements) (sights_in_otherwise of around scope middle otherwise)
-          (all_sighted types around surrounds scope at statements
-          (left (stretches_in_all of scope at statements) (stretches_in_otherwise of scope middle otherwise) (numbers_in_all of.table at statements)
-          (numbers_in_otherwise of.table middle otherwise) (all_scopes types scope at.next statements)
-          (otherwise_scopes types scope (at.next + n) otherwise) standing) seen)
-          (otherwise_sighted types around surrounds scope middle otherwise
-          (subst (λ next. Standing middle (stretches_in_otherwise of scope middle otherwise) (numbers_in_otherwise of.table middle otherwise)
-          (otherwise_scopes types scope next otherwise)) (sym past.next)
-          (right middle n (stretches_in_all of scope at statements) (stretches_in_otherwise of scope middle otherwise) (numbers_in_all of.table at statements)
-          (numbers_in_otherwise of.table middle otherwise) (all_scopes types scope at.next statements)
-          (otherwise_scopes types scope (at.next + n) otherwise) past.next past.each (length-all_scopes types scope at.next statements) standing)) seen)
-      stmt_sighted types around surrounds scope at (shown.OfCase selector alternatives otherwise place) standing seen =
-          let middle = after_branches of.table at alternatives in
-          let past = branches_go of scope at alternatives in
-          let n = scopes_in_branches alternatives in
-          all_append IsSighted (sights_in_branches of around scope at alternatives) (sights_in_otherwise of around scope middle otherwise)
-          (branches_sighted types around surrounds scope at alternatives
-          (left (stretches_in_branches of scope at alternatives) (stretches_in_otherwise of scope middle otherwise) (numbers_in_branches of.table at alternatives)
-          (numbers_in_otherwise of.table middle otherwise) (branch_scopes types scope at.next alternatives)
-          (otherwise_scopes types scope (at.next + n) otherwise) standing) seen)
-          (otherwise_sighted types around surrounds scope middle otherwise
-          (subst (λ next. Standing middle (stretches_in_otherwise of scope middle otherwise) (numbers_in_otherwise of.table middle otherwise)
-          (otherwise_scopes types scope next otherwise)) (sym past.next)
-          (right middle n (stretches_in_branches of scope at alternatives) (stretches_in_otherwise of scope middle otherwise) (numbers_in_branches of.table at alternatives)
-          (numbers_in_otherwise of.table middle otherwise) (branch_scopes types scope at.next alternatives)
-          (otherwise_scopes types scope (at.next + n) otherwise) past.next past.each (length-branch_scopes types scope at.next alternatives) standing)) seen)
-      stmt_sighted types around surrounds scope at (shown.OfRepeat control begin step last condition declarations statements body_place place) standing seen =
-          let counter = counter_in of scope at control begin step last in
-          let hidden = loop_cells control begin step last in
-          let len = length_at of.table.lengths sort.Fixed place in
-          let inner = entered of.table hidden at in
-          let entries = control_entries place control ++ body_entries types declarations in
-          let own : Scope = record { outer = Some scope; entries = entries } in
-          let rest = scope_stretch of.table hidden at ∷ stretches_in_all of at.next inner statements in
-          let loop = loop_stretch (counts control begin step last) at.cell len in
-          let rows = numbers_in_all of.table inner statements in
-          let list = all_scopes types at.next (at.next + 1) statements in
-          let there = head_there own list standing.scoped in
-          let outer = outer_is at.next scope entries there in
-          let around_in = within around counter in
-          let surrounds_in : Surrounds around_in = record { cells = surrounds.cells; hidden = surrounds.hidden } in
-          let seen_out = seen_within tree numbers around counter scope seen in
-          let leads = scope_leads around_in surrounds_in at.next standing.k standing.here (past_zero at some standing.k standing.here) own there at.cell (at.cell + hidden)
-          (head_there (scope_numbers of.table hidden at) rows standing.lies) (control_kind len control)
-          (loop_local (known_of tree) at.next types place control declarations)
-          (loop_control around surrounds scope at control begin step last len rest standing.place standing.stretched) in
-          let seen_here = seen_in tree numbers around_in at.next scope outer leads seen_out in
-          let here = standing.here in (
-            view_while tree numbers around_in at.next scope outer leads seen_out,
-            (
-              view_within tree numbers around_in at.next seen_here,
-              all_sighted types around_in surrounds_in at.next inner statements (record {
-                place = standing.place + length loop + 1;
-                stretched = right_lies (scope_stretch of.table hidden at ∷ []) (stretches_in_all of at.next inner statements) (standing.place + length loop + 1) refl
-                    (right_lies loop rest (standing.place + length loop) refl standing.stretched);
-                k = standing.k + 1;
-                here = omega (arith, here);
-                lies = right_lies (scope_numbers of.table hidden at ∷ []) rows (standing.k + 1) refl standing.lies;
-                scoped = right_lies (own ∷ []) list (at.next + 1) refl standing.scoped;
-              }) seen_here,
-            ),
-          )
-      stmt_sighted types around surrounds scope at (shown.OfBegin declarations statements body_place place) standing seen =
-          let inner = entered of.table 0 at in
-          let entries = body_entries types declarations in
-          let own : Scope = record { outer = Some scope; entries = entries } in
-          let rows = numbers_in_all of.table inner statements in
-          let list = all_scopes types at.next (at.next + 1) statements in
-          let there = head_there own list standing.scoped in
-          let leads = scope_leads around surrounds at.next standing.k standing.here (past_zero at some standing.k standing.here) own there at.cell (at.cell + 0)
-          (head_there (scope_numbers of.table 0 at) rows standing.lies) None (body_local (known_of tree) at.next types None declarations)
-          (λ kind is. absurd (none-some kind is)) in
-          let seen_here = seen_in tree numbers around at.next scope (outer_is at.next scope entries there) leads seen in
-          let here = standing.here in (
-            view_within tree numbers around at.next seen_here,
-            all_sighted types around surrounds at.next inner statements (record {
-              place = standing.place + 1;
-              stretched = right_lies (scope_stretch of.table 0 at ∷ []) (stretches_in_all of at.next inner statements) (standing.place + 1) refl standing.stretched;
-              k = standing.k + 1;
-              here = omega (arith, here);
-              lies = right_lies (scope_numbers of.table 0 at ∷ []) rows (standing.k + 1) refl standing.lies;
-              scoped = right_lies (own ∷ []) list (at.next + 1) refl standing.scoped;
-            }) seen_here,
-          )
-      stmt_sighted types around surrounds scope at (shown.OfEmpty place) standing seen = tt
-      stmt_sighted types around surrounds scope at (shown.OfAssign target value place) standing seen = tt
-      stmt_sighted types around surrounds scope at (shown.OfCall call name arguments place) standing seen = tt
-      stmt_sighted types around surrounds scope at (shown.OfExit place) standing seen = tt
-      stmt_sighted types around surrounds scope at (shown.OfReturn value place) standing seen = tt
-      stmt_sighted types around surrounds scope at (shown.OfActivate begin task priority place) standing seen = tt
-      stmt_sighted types around surrounds scope at (shown.OfContinue once task place) standing seen = tt
-      stmt_sighted types around surrounds scope at (shown.OfResume once place) standing seen = tt
-      stmt_sighted types around surrounds scope at (shown.OfOnTask word task place) standing seen = tt
-      stmt_sighted types around surrounds scope at (shown.OfOnSemas word names place) standing seen = tt
-      stmt_sighted types around surrounds scope at (shown.OfOnInterrupt word name place) standing seen = tt
-      stmt_sighted types around surrounds scope at (shown.OfPut values dation formats place) standing seen = tt
-      stmt_sighted types around surrounds scope at (shown.OfGet targets dation formats place) standing seen = tt
-      stmt_sighted types around surrounds scope at (shown.OfSend value dation place) standing seen = tt
-      stmt_sighted types around surrounds scope at (shown.OfTake target dation place) standing seen = tt
+    abbrev Sees : Pieces → Type 0
+    Sees piece = (types : ℕ) (around : Around) → Surrounds around → (scope : ℕ) (at : At) → StandsAt types scope at piece →
+        Seen tree numbers around scope → AreSighted (piece.sights around scope at)
 
-      pub all_sighted : (types : ℕ) (around : Around) → Surrounds around → (scope : ℕ) (at : At) (statements : ShownStmts) →
-          Standing at (stretches_in_all of scope at statements) (numbers_in_all of.table at statements) (all_scopes types scope at.next statements) →
-          Seen tree numbers around scope → AreSighted (sights_in_all of around scope at statements)
-      all_sighted types around surrounds scope at shown.NoStmts standing seen = tt
-      all_sighted types around surrounds scope at (shown.MoreStmts s rest) standing seen =
-          let middle = after of.table at s in
-          let past = stmt_goes of scope at s in
-          let n = scopes_in s in
-          all_append IsSighted (sights_in of around scope at s) (sights_in_all of around scope middle rest)
-          (stmt_sighted types around surrounds scope at s
-          (left (stretches_in of scope at s) (stretches_in_all of scope middle rest) (numbers_in of.table at s) (numbers_in_all of.table middle rest)
-          (stmt_scopes types scope at.next s) (all_scopes types scope (at.next + n) rest) standing) seen)
-          (all_sighted types around surrounds scope middle rest
-          (subst (λ next. Standing middle (stretches_in_all of scope middle rest) (numbers_in_all of.table middle rest) (all_scopes types scope next rest))
-          (sym past.next)
-          (right middle n (stretches_in of scope at s) (stretches_in_all of scope middle rest) (numbers_in of.table at s) (numbers_in_all of.table middle rest)
-          (stmt_scopes types scope at.next s) (all_scopes types scope (at.next + n) rest) past.next past.each (length-stmt_scopes types scope at.next s) standing)) seen)
+    both_see : (one two : Passage) → Sees (pieces of one) → Sees (pieces of two) → Sees (in_turn (pieces of one) (pieces of two))
+    both_see one two first second types around surrounds scope at standing seen =
+        let middle = (pieces of one).after at in
+        all_append IsSighted ((pieces of one).sights around scope at) ((pieces of two).sights around scope middle)
+        (first types around surrounds scope at (first_stands one two types scope at standing) seen)
+        (second types around surrounds scope middle (second_stands one two types scope at standing) seen)
 
-      branches_sighted : (types : ℕ) (around : Around) → Surrounds around → (scope : ℕ) (at : At) (branches : ShownBranches) →
-          Standing at (stretches_in_branches of scope at branches) (numbers_in_branches of.table at branches) (branch_scopes types scope at.next branches) →
-          Seen tree numbers around scope → AreSighted (sights_in_branches of around scope at branches)
-      branches_sighted types around surrounds scope at shown.NoBranches standing seen = tt
-      branches_sighted types around surrounds scope at (shown.MoreBranches statements place rest) standing seen =
-          let middle = after_all of.table at statements in
-          let past = all_go of scope at statements in
-          let n = scopes_in_all statements in
-          all_append IsSighted (sights_in_all of around scope at statements) (sights_in_branches of around scope middle rest)
-          (all_sighted types around surrounds scope at statements
-          (left (stretches_in_all of scope at statements) (stretches_in_branches of scope middle rest) (numbers_in_all of.table at statements)
-          (numbers_in_branches of.table middle rest) (all_scopes types scope at.next statements) (branch_scopes types scope (at.next + n) rest) standing) seen)
-          (branches_sighted types around surrounds scope middle rest
-          (subst (λ next. Standing middle (stretches_in_branches of scope middle rest) (numbers_in_branches of.table middle rest) (branch_scopes types scope next rest))
-          (sym past.next)
-          (right middle n (stretches_in_all of scope at statements) (stretches_in_branches of scope middle rest) (numbers_in_all of.table at statements)
-          (numbers_in_branches of.table middle rest) (all_scopes types scope at.next statements) (branch_scopes types scope (at.next + n) rest) past.next past.each
-          (length-all_scopes types scope at.next statements) standing)) seen)
+    stmt_sees : (s : ShownStmt) → PartsKeep (λ passage. Sees (pieces of passage)) s → Sees (pieces of (One s))
+    stmt_sees (shown.OfIf condition statements otherwise place) parts = both_see (Each statements) (Otherwise otherwise) parts.0 parts.1
+    stmt_sees (shown.OfCase selector alternatives otherwise place) parts = both_see (Branches alternatives) (Otherwise otherwise) parts.0 parts.1
+    stmt_sees (shown.OfRepeat control begin step last condition declarations statements body_place place) parts =
+        λ types around surrounds scope at standing seen.
+        let counter = counter_in of scope at control begin step last in
+        let hidden = loop_cells control begin step last in
+        let len = length_at of.table.lengths sort.Fixed place in
+        let inner = entered of.table hidden at in
+        let entries = control_entries place control ++ body_entries types declarations in
+        let own : Scope = record { outer = Some scope; entries = entries } in
+        let rest = scope_stretch of.table hidden at ∷ stretches_in_all of at.next inner statements in
+        let loop = loop_stretch (counts control begin step last) at.cell len in
+        let there = head_there own (all_scopes types at.next (at.next + 1) statements) standing.scoped in
+        let outer = outer_is at.next scope entries there in
+        let around_in = within around counter in
+        let surrounds_in : Surrounds around_in = record { cells = surrounds.cells; hidden = surrounds.hidden } in
+        let seen_out = seen_within tree numbers around counter scope seen in
+        let leads = scope_leads around_in surrounds_in at.next standing.k standing.here (past_zero at some standing.k standing.here) own there at.cell (at.cell + hidden)
+        (head_there (scope_numbers of.table hidden at) (numbers_in_all of.table inner statements) standing.lies) (control_kind len control)
+        (loop_local (known_of tree) at.next types place control declarations)
+        (loop_control around surrounds scope at control begin step last len rest standing.place standing.stretched) in
+        let seen_here = seen_in tree numbers around_in at.next scope outer leads seen_out in (
+          view_while tree numbers around_in at.next scope outer leads seen_out,
+          (
+            view_within tree numbers around_in at.next seen_here,
+            parts types around_in surrounds_in at.next inner (inner_stands types at hidden loop own statements standing) seen_here,
+          ),
+        )
+    stmt_sees (shown.OfBegin declarations statements body_place place) parts = λ types around surrounds scope at standing seen.
+        let inner = entered of.table 0 at in
+        let own : Scope = record { outer = Some scope; entries = body_entries types declarations } in
+        let there = head_there own (all_scopes types at.next (at.next + 1) statements) standing.scoped in
+        let leads = scope_leads around surrounds at.next standing.k standing.here (past_zero at some standing.k standing.here) own there at.cell (at.cell + 0)
+        (head_there (scope_numbers of.table 0 at) (numbers_in_all of.table inner statements) standing.lies) None
+        (body_local (known_of tree) at.next types None declarations) (λ kind is. absurd (none-some kind is)) in
+        let seen_here = seen_in tree numbers around at.next scope (outer_is at.next scope own.entries there) leads seen in (
+          view_within tree numbers around at.next seen_here,
+          parts types around surrounds at.next inner (inner_stands types at 0 [] own statements standing) seen_here,
+        )
+    stmt_sees statement parts = λ types around surrounds scope at standing seen. tt
 
-      otherwise_sighted : (types : ℕ) (around : Around) → Surrounds around → (scope : ℕ) (at : At) (otherwise : ShownOtherwise) →
-          Standing at (stretches_in_otherwise of scope at otherwise) (numbers_in_otherwise of.table at otherwise) (otherwise_scopes types scope at.next otherwise) →
-          Seen tree numbers around scope → AreSighted (sights_in_otherwise of around scope at otherwise)
-      otherwise_sighted types around surrounds scope at shown.NoOtherwise standing seen = tt
-      otherwise_sighted types around surrounds scope at (shown.OfOtherwise statements place) standing seen =
-          all_sighted types around surrounds scope at statements standing seen
+    pub all_sighted : (types : ℕ) (around : Around) → Surrounds around → (scope : ℕ) (at : At) (statements : ShownStmts) →
+        StandsAt types scope at (pieces of (Each statements)) → Seen tree numbers around scope → AreSighted (sights_in_all of around scope at statements)
+    all_sighted types around surrounds scope at statements standing seen =
+        walk (λ passage. Sees (pieces of passage)) (summed of Sees (λ types around surrounds scope at standing seen. tt) both_see stmt_sees)
+        (Each statements) types around surrounds scope at standing seen

@@ -10,16 +10,16 @@ use Rattle.pearl_tree.specs.declared.name.Name.{Name}
 use Rattle.pearl_value.specs.declared.device.Direction.{Direction}
 use Rattle.pearl_value.specs.declared.device.Direction.TheVariants.{In, Out, InOut}
 use Rattle.pearl_tree.specs.declared.statement.TaskWord.{TaskWord}
-use Rattle.pearl_tree.specs.declared.statement.TaskWord.TheVariants.{Suspend, Terminate, Prevent}
+use Rattle.pearl_tree.specs.declared.statement.TaskWord.TheVariants.{Suspend}
 use Rattle.pearl_tree.specs.declared.statement.InterruptWord.{InterruptWord}
-use Rattle.pearl_tree.specs.declared.statement.InterruptWord.TheVariants.{Enable, Disable, Trigger}
+use Rattle.pearl_tree.specs.declared.statement.InterruptWord.TheVariants.{Enable}
 use Rattle.pearl_tree.specs.declared.rule.TheConstants as rule
 use Rattle.pearl_tree.specs.Faults.{fault_if}
 use Rattle.pearl_tree.specs.ShownExpressions.{ShownExpr, MoreExprs, ShownRef}
 use Rattle.pearl_tree.specs.ShownStatements as shown
 use Rattle.pearl_tree.specs.ShownStatements.{ShownPeriodEnd, ShownPeriod, ShownStart, ShownOnce, ShownStmt}
 use Rattle.pearl_names.specs.declared.scope.View.TheVariants.{Within}
-use Rattle.pearl_names.specs.Tables.{Sense, Variable, Control, OwnParameter, NewType, Semaphore, Interrupt, AlphicDation, BasicDation, Procedure, Table}
+use Rattle.pearl_names.specs.Tables.{Sense, Interrupt, AlphicDation, BasicDation, Procedure, Table}
 use Rattle.pearl_names.specs.Tables as sense
 use Rattle.pearl_scope.specs.Placed.{Placed}
 use Rattle.pearl_system.specs.Rules.{is_in, is_out}
@@ -99,15 +99,9 @@ fits_role Condition kind place middle none =
 fits_role Count kind place middle none =
     really (is_for_role Count kind) (not_broken (not (is_for_role Count kind)) place rule.S23
     (left_none (fault_if (not (is_for_role Count kind)) place rule.S23) (middle ++ []) none))
-fits_role Moment kind place middle none =
-    really (is_for_role Moment kind) (not_broken (not (is_for_role Moment kind)) place rule.S29
-    (right_none middle (fault_if (not (is_for_role Moment kind)) place rule.S29) none))
-fits_role Lapse kind place middle none =
-    really (is_for_role Lapse kind) (not_broken (not (is_for_role Lapse kind)) place rule.S29
-    (right_none middle (fault_if (not (is_for_role Lapse kind)) place rule.S29) none))
-fits_role Priority kind place middle none =
-    really (is_for_role Priority kind) (not_broken (not (is_for_role Priority kind)) place rule.S29
-    (right_none middle (fault_if (not (is_for_role Priority kind)) place rule.S29) none))
+fits_role other kind place middle none =
+    really (is_for_role other kind) (not_broken (not (is_for_role other kind)) place rule.S29
+    (right_none middle (fault_if (not (is_for_role other kind)) place rule.S29) none))
 
 moment_kind : (kind : Kind) → is_for_role Moment kind ≡ true → kind ≡ Clock
 moment_kind Clock is = refl
@@ -256,13 +250,11 @@ module _ (numbered : Numbered) (scope : ℕ) (around : Around) (lead : LeadNames
 
   on_task_sound : (word : TaskWord) (task : Option ℕ) → IsIf (IsTaskNumber around) task → AreStmts around (alone (on_task word task))
   on_task_sound Suspend task is = (is, tt)
-  on_task_sound Terminate task is = (is, tt)
-  on_task_sound Prevent task is = (is, tt)
+  on_task_sound other task is = (is, tt)
 
   on_interrupt_sound : (word : InterruptWord) (interrupt : ℕ) → IsInterrupt around interrupt → AreStmts around (alone (on_interrupt word interrupt))
   on_interrupt_sound Enable interrupt is = (is, tt)
-  on_interrupt_sound Disable interrupt is = (is, tt)
-  on_interrupt_sound Trigger interrupt is = (is, tt)
+  on_interrupt_sound other interrupt is = (is, tt)
 
   call_kept : (name : Name) (arguments : List ShownExpr) → IsKept table (Subject Plain scope (OfCallStatement name (as_exprs arguments))) →
       IsCall around (number_of numbered (Within scope) name)
@@ -383,13 +375,7 @@ module _ (numbered : Numbered) (scope : ℕ) (around : Around) (lead : LeadNames
             (resolve_variable numbered (Within scope) target) to.variable,
         tt,
       )
-  simple_sound sort in_loop at (shown.OfIf condition statements otherwise place) simple returns same kept suit exit back carry = absurd simple
-  simple_sound sort in_loop at (shown.OfCase selector alternatives otherwise place) simple returns same kept suit exit back carry = absurd simple
-  simple_sound sort in_loop at (shown.OfRepeat control begin step end condition declarations statements body_place place) simple returns same kept suit exit back carry = absurd simple
-  simple_sound sort in_loop at (shown.OfBegin declarations statements body_place place) simple returns same kept suit exit back carry = absurd simple
-  simple_sound sort in_loop at (shown.OfOnSemas word names place) simple returns same kept suit exit back carry = absurd simple
-  simple_sound sort in_loop at (shown.OfPut values dation formats place) simple returns same kept suit exit back carry = absurd simple
-  simple_sound sort in_loop at (shown.OfGet targets dation formats place) simple returns same kept suit exit back carry = absurd simple
+  simple_sound sort in_loop at statement simple returns same kept suit exit back carry = absurd simple
 
 pub statement_sound : (numbered : Numbered) (sort : RoutineSort) (place : Placed) (at : At) (around : Around) →
     LeadNames numbered (Within place.spot.scope) around → at.next ≡ place.next → IsSimple place.statement →

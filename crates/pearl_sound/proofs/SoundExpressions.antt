@@ -10,13 +10,13 @@ use Rattle.pearl_tree.specs.declared.rule.TheConstants as rule
 use Rattle.pearl_tree.specs.Names.{name_text}
 use Rattle.pearl_tree.specs.ShownExpressions.{ShownExpr, OfOperand, OfDyadic, ShownPrimary, OfLiteral, OfRef, OfGroup, OfNow, OfTry, OfLimit, ShownSelectors, NoSelectors, MoreSelectors, ShownSelector, OfSubscripts, OfComponent, ShownExprs, NoExprs, MoreExprs, ShownRef}
 use Rattle.pearl_names.specs.declared.scope.View.{View}
-use Rattle.pearl_names.specs.Shapes.{OfKind, OfFields}
+use Rattle.pearl_names.specs.Shapes.{OfKind}
 use Rattle.pearl_names.specs.Tables.{Parameter, sense_from}
 use Rattle.pearl_check_expr.specs.Senses.{Callee, callee_of, is_fixed}
 use Rattle.pearl_check_expr.specs.Standings.{Standing, Broken, Open, Walked, variable_start, behind, as_value, value_of, all_fixed, all_known, is_fixed_or_unknown}
 use Rattle.pearl_check_expr.specs.Judged as judging
-use Rattle.pearl_check_expr.specs.Judged.{called, Argument, judged, judged_variable, judged_primary, judged_all, applied, first_applied, beyond, is_last, arguments, argument_of, fitted, ident_argument, variable_argument, no_variable, all_well, call_value, called_or, dimension_of, expr_place, result_kind, plain_name}
-use Rattle.pearl_program.specs.PlainExpressions.{PlainExpr, OfRead, PlainVariable, PlainArguments, NoArguments}
+use Rattle.pearl_check_expr.specs.Judged.{called, judged, judged_variable, judged_primary, judged_all, applied, first_applied, is_last, arguments, argument_of, fitted, ident_argument, variable_argument, no_variable, all_well, call_value, called_or, dimension_of, expr_place, result_kind, plain_name}
+use Rattle.pearl_program.specs.PlainExpressions.{PlainExpr, OfRead, PlainVariable, NoArguments}
 use Rattle.pearl_program.specs.PlainExpressions as plain
 use Rattle.pearl_program.specs.SoundStatements.{IsCall}
 use Rattle.pearl_program.specs.Typing.{Around, HasKind, IsVariable, Suit, SuitsParam}
@@ -31,11 +31,9 @@ use Rattle.pearl_sound.proofs.SoundParts.{some_one, dyadic_is, monadics_sound, t
 -- what a reference reads
 reads_is : (around : Around) (control : Bool) (name : Name) (standing : Standing) (walk : Walk) (kind : Kind) →
     IsSoundAt around control standing walk → (value_of name standing).kind ≡ Some kind → Reads around control (variable_of walk) kind
-reads_is around control name Broken walk kind stands is = absurd (none-some kind is)
 reads_is around control name (Open zero (OfKind of)) walk kind stands is =
     subst (λ k. Reads around control (variable_of walk) k) (some_one is) (variable_sound around control walk of stands)
-reads_is around control name (Open zero (OfFields fields)) walk kind stands is = absurd (none-some kind is)
-reads_is around control name (Open (suc n) shape) walk kind stands is = absurd (none-some kind is)
+reads_is around control name other walk kind stands is = absurd (none-some kind is)
 
 either : (around : Around) (control : Bool) (variable : PlainVariable) (kind : Kind) → Reads around control variable kind →
     HasKind around (OfRead variable) kind
@@ -124,13 +122,7 @@ module _ (numbered : Numbered) (view : View) (around : Around) (lead : LeadValue
       SuitsParam around (param_cell true (unwrap_or to (Fixed 31))) (handed true (resolve_expr numbered view e))
   ident_suits place (OfOperand [] (OfRef name selectors at) end) to stands well =
       named_suits place name selectors to (callee_of (sense_from numbered.table view (name_text name))) refl stands well
-  ident_suits place (OfOperand [] (OfLiteral part) end) to stands well = absurd (true≢false (sym well))
-  ident_suits place (OfOperand [] (OfGroup inner at) end) to stands well = absurd (true≢false (sym well))
-  ident_suits place (OfOperand [] (OfNow at) end) to stands well = absurd (true≢false (sym well))
-  ident_suits place (OfOperand [] (OfTry name at) end) to stands well = absurd (true≢false (sym well))
-  ident_suits place (OfOperand [] (OfLimit dimension side name selectors at other) end) to stands well = absurd (true≢false (sym well))
-  ident_suits place (OfOperand (monadic ∷ rest) part end) to stands well = absurd (true≢false (sym well))
-  ident_suits place (OfDyadic left dyadic right end) to stands well = absurd (true≢false (sym well))
+  ident_suits place other to stands well = absurd (true≢false (sym well))
 
   argument_suits : (e : ShownExpr) (ident : Bool) (to : Option Kind) →
       ((kind : Kind) → (judged numbered.table view e).kind ≡ Some kind → HasKind around (resolve_expr numbered view e) kind) →
@@ -184,13 +176,7 @@ module _ (numbered : Numbered) (view : View) (around : Around) (lead : LeadValue
     stands_alone (OfOperand [] (OfRef name selectors at) end) lits =
         along_sound name (control_of name) (variable_start name (sense_from numbered.table view (name_text name)))
         (walk_from (meant numbered view name)) selectors lits (starts_sound numbered view around lead name)
-    stands_alone (OfOperand [] (OfLiteral part) end) lits = tt
-    stands_alone (OfOperand [] (OfGroup inner at) end) lits = tt
-    stands_alone (OfOperand [] (OfNow at) end) lits = tt
-    stands_alone (OfOperand [] (OfTry name at) end) lits = tt
-    stands_alone (OfOperand [] (OfLimit dimension side name selectors at other) end) lits = tt
-    stands_alone (OfOperand (monadic ∷ rest) part end) lits = tt
-    stands_alone (OfDyadic left dyadic right end) lits = tt
+    stands_alone other lits = tt
 
     along_sound : (name : Name) (control : Bool) (before : Walked) (walk : Walk) (selectors : ShownSelectors) →
         SelectorsHaveLiterals numbered.table.lengths selectors → IsSoundAt around control before.standing walk →

@@ -10,7 +10,7 @@ use Rattle.pearl_value.specs.Kinds.{IsKind}
 use Rattle.pearl_tree.specs.declared.name.Name.{Name}
 use Rattle.pearl_tree.specs.declared.typing.Bound.{Bound}
 use Rattle.pearl_tree.specs.declared.typing.Basic.{Basic}
-use Rattle.pearl_tree.specs.declared.typing.Basic.TheVariants.{Sized, Clock, Duration}
+use Rattle.pearl_tree.specs.declared.typing.Basic.TheVariants.{Sized}
 use Rattle.pearl_tree.specs.declared.typing.Sort.{Sort}
 use Rattle.pearl_tree.specs.declared.typing.Sort.TheVariants.{Fixed, Bit, Char}
 use Rattle.pearl_value.specs.declared.device.Direction.{Direction}
@@ -18,7 +18,7 @@ use Rattle.pearl_tree.specs.declared.declaration.Class.{Class}
 use Rattle.pearl_tree.specs.declared.declaration.Class.TheVariants as class
 use Rattle.pearl_tree.specs.Names.{name_text, names_of, has_repeats}
 use Rattle.pearl_tree.specs.ShownDeclarations.{ShownTyping, OfBasic, OfStruct, OfNamed, ShownFields, NoFields, MoreFields, ShownParam}
-use Rattle.pearl_tree.specs.ShownModules.{ShownDecl, OfLength, OfType, OfDeclare, OfSpecify, OfTask, OfProc, ShownTree}
+use Rattle.pearl_tree.specs.ShownModules.{ShownDecl, OfType, ShownTree}
 use Rattle.pearl_names.specs.declared.length.DefaultLength.{DefaultLength}
 use Rattle.pearl_names.specs.declared.scope.NameSort.{NameSort}
 use Rattle.pearl_names.specs.declared.scope.NameSort.TheVariants.{NewType as TypeNumber}
@@ -78,7 +78,7 @@ bounds_there [] = tt
 bounds_there (bound ∷ rest) = one_more (sound_bound bound) (sound_bounds rest) (pair_there (bound_pair bound)) (bounds_there rest)
 
 -- kinds
-abbrev AreSet : List DefaultLength → Type 0
+abbrev pub AreSet : List DefaultLength → Type 0
 AreSet lengths = AllByRecursion IsSet lengths
 
 length_kind : (of : Sort) (len : ℕ) → is_length of len ≡ true → IsKind (kind_of_length of len)
@@ -104,8 +104,7 @@ last_set (default ∷ rest) len of place set is =
 
 first_set : (of : Sort) → is_length of (first_length of) ≡ true
 first_set Fixed = refl
-first_set Bit = refl
-first_set Char = refl
+first_set other = refl
 
 pub at_kind : (lengths : List DefaultLength) → AreSet lengths → (of : Sort) (place : ℕ) → IsKind (kind_of_length of (length_at lengths of place))
 at_kind lengths set of place = length_kind of (length_at lengths of place) (last_set lengths (first_length of) of place set (first_set of))
@@ -117,8 +116,7 @@ given_kind of len false is = tt
 pub basic_there : (lengths : List DefaultLength) → AreSet lengths → (part : Basic) → IsKindIf (kind_of_basic lengths part)
 basic_there lengths set (Sized of None place) = at_kind lengths set of place
 basic_there lengths set (Sized of (Some number) place) = given_kind of number.value (is_length of number.value) refl
-basic_there lengths set (Clock place) = tt
-basic_there lengths set (Duration place) = tt
+basic_there lengths set other = tt
 
 kind_there : (kind : Option Kind) → IsKindIf kind → IfSome HasBounds (option_map OfKind kind)
 kind_there None is = tt
@@ -172,18 +170,14 @@ pub all_append : {X : Type 0} (P : X → Type 0) (xs ys : List X) → AllByRecur
 all_append P [] ys one two = two
 all_append P (x ∷ xs) ys one two = (one.0, all_append P xs ys one.1 two)
 
-all_taken : {X : Type 0} (P : X → Type 0) (n : ℕ) (xs : List X) → AllByRecursion P xs → AllByRecursion P (take n xs)
+pub all_taken : {X : Type 0} (P : X → Type 0) (n : ℕ) (xs : List X) → AllByRecursion P xs → AllByRecursion P (take n xs)
 all_taken P zero xs all = tt
 all_taken P (suc n) [] all = tt
 all_taken P (suc n) (x ∷ xs) all = (all.0, all_taken P n xs all.1)
 
 decl_there : (here : Around) → AreSet here.lengths → AreShapes here.shapes → (decl : ShownDecl) → AreShapes (decl_shapes here decl)
 decl_there here set all (OfType name part place) = (shape_there here set all part, tt)
-decl_there here set all (OfLength sort number place) = tt
-decl_there here set all (OfDeclare declared place) = tt
-decl_there here set all (OfSpecify specs place) = tt
-decl_there here set all (OfTask name head body place) = tt
-decl_there here set all (OfProc name params returns body place) = tt
+decl_there here set all decl = tt
 
 shapes_there : (names : List ScopeNames) (lengths : List DefaultLength) → AreSet lengths → (shapes : List (Option Shape)) (decls : List ShownDecl) →
     AreShapes shapes → AreShapes (shapes_after names lengths shapes decls)
@@ -232,13 +226,10 @@ sense_there known set all scope (scopes.Variable item types) =
     (shape_there here set (all_taken (IfSome HasBounds) types known.shapes all) item.part)
 sense_there known set all scope (scopes.Control loop) = at_kind known.lengths set Fixed loop
 sense_there known set all scope (scopes.Parameter part ident) = basic_there known.lengths set part
-sense_there known set all scope (scopes.NewType number) = tt
-sense_there known set all scope scopes.Semaphore = tt
-sense_there known set all scope scopes.Interrupt = tt
 sense_there known set all scope (scopes.Dation direction of) = dation_there known.lengths set direction of
-sense_there known set all scope scopes.Task = tt
 sense_there known set all scope (scopes.Procedure params returns) =
     (params_there known.lengths set params, result_there known.lengths set returns)
+sense_there known set all scope meaning = tt
 
 scope_there : (known : Known) → AreSet known.lengths → AreShapes known.shapes → (scope : ℕ) (entries : List Entry) →
     AllByRecursion IsSoundSense (senses_of known scope entries)

@@ -20,7 +20,7 @@ use Rattle.pearl_tree.specs.Names.{name_text}
 use Rattle.pearl_names.specs.declared.scope.View.{View}
 use Rattle.pearl_names.specs.declared.meaning.Found.{Found}
 use Rattle.pearl_names.specs.Found.{found_from}
-use Rattle.pearl_names.specs.Tables.{Parameter, Sense, Variable, Control, OwnParameter, NewType, Semaphore, Interrupt, AlphicDation, BasicDation, Task, Procedure, sense_at, sense_from}
+use Rattle.pearl_names.specs.Tables.{Parameter, Sense, Variable, Control, Semaphore, Procedure, sense_at, sense_from}
 use Rattle.pearl_value.specs.Conversions.{suits_kind}
 use Rattle.pearl_check_expr.specs.Kinds.{is_kind}
 use Rattle.pearl_check_expr.specs.Senses.{Callee, callee_of, is_fixed}
@@ -67,17 +67,8 @@ monadics_sound around (monadic ∷ rest) operand e sound kind is =
 -- TRY
 pub try_is : (name : Name) (sense : Option Sense) (kind : Kind) → (try_judged name sense).kind ≡ Some kind →
     (sense ≡ Some Semaphore) × (kind ≡ Bits 1)
-try_is name None kind is = absurd (none-some kind is)
 try_is name (Some Semaphore) kind is = (refl, sym (some_one is))
-try_is name (Some (Variable form inv)) kind is = absurd (none-some kind is)
-try_is name (Some (Control of)) kind is = absurd (none-some kind is)
-try_is name (Some (OwnParameter parameter)) kind is = absurd (none-some kind is)
-try_is name (Some NewType) kind is = absurd (none-some kind is)
-try_is name (Some Interrupt) kind is = absurd (none-some kind is)
-try_is name (Some (AlphicDation direction)) kind is = absurd (none-some kind is)
-try_is name (Some (BasicDation direction of)) kind is = absurd (none-some kind is)
-try_is name (Some Task) kind is = absurd (none-some kind is)
-try_is name (Some (Procedure parameters result)) kind is = absurd (none-some kind is)
+try_is name other kind is = absurd (none-some kind is)
 
 -- LWB and UPB
 bound_is : (around : Around) (side : Side) (bound : Bound) → IsBound bound → HasKind around (limit_value side (Some bound)) (Fixed 31)
@@ -134,17 +125,8 @@ fixed_is kind is = absurd (true≢false (sym is))
 
 -- what may be changed is no control variable
 pub no_control : (sense : Option Sense) → is_fixed sense ≡ false → is_control sense ≡ false
-no_control None is = refl
-no_control (Some (Variable form inv)) is = refl
 no_control (Some (Control of)) is = is
-no_control (Some (OwnParameter parameter)) is = refl
-no_control (Some NewType) is = refl
-no_control (Some Semaphore) is = refl
-no_control (Some Interrupt) is = refl
-no_control (Some (AlphicDation direction)) is = refl
-no_control (Some (BasicDation direction of)) is = refl
-no_control (Some Task) is = refl
-no_control (Some (Procedure parameters result)) is = refl
+no_control other is = refl
 
 -- arguments
 pub value_suits : (around : Around) (place : ℕ) (e : PlainExpr) (to value : Option Kind) →
@@ -177,15 +159,7 @@ params_of_callee (Some callee) = Some callee.parameters
 sense_params : (scope number : ℕ) (sense : Sense) →
     params_of (Some (record { sense = sense; scope = scope; number = number })) ≡ params_of_callee (callee_of (Some sense))
 sense_params scope number (Variable form inv) = refl
-sense_params scope number (Control kind) = refl
-sense_params scope number (OwnParameter parameter) = refl
-sense_params scope number NewType = refl
-sense_params scope number Semaphore = refl
-sense_params scope number Interrupt = refl
-sense_params scope number (AlphicDation direction) = refl
-sense_params scope number (BasicDation direction kind) = refl
-sense_params scope number Task = refl
-sense_params scope number (Procedure parameters result) = refl
+sense_params scope number sense = refl
 
 if_params : (scope number : ℕ) (sense : Option Sense) →
     params_of (option_map (λ s. record { sense = s; scope = scope; number = number }) sense) ≡ params_of_callee (callee_of sense)
@@ -204,14 +178,5 @@ same_params numbered view name = found_params numbered (found_from numbered.tabl
 
 pub callee_is : (sense : Option Sense) (callee : Callee) → callee_of sense ≡ Some callee →
     sense ≡ Some (Procedure callee.parameters callee.result)
-callee_is None callee is = absurd (none-some callee is)
 callee_is (Some (Procedure parameters result)) callee is = ap (λ (c : Callee). Some (Procedure c.parameters c.result)) (some_one is)
-callee_is (Some (Variable form inv)) callee is = absurd (none-some callee is)
-callee_is (Some (Control of)) callee is = absurd (none-some callee is)
-callee_is (Some (OwnParameter parameter)) callee is = absurd (none-some callee is)
-callee_is (Some NewType) callee is = absurd (none-some callee is)
-callee_is (Some Semaphore) callee is = absurd (none-some callee is)
-callee_is (Some Interrupt) callee is = absurd (none-some callee is)
-callee_is (Some (AlphicDation direction)) callee is = absurd (none-some callee is)
-callee_is (Some (BasicDation direction of)) callee is = absurd (none-some callee is)
-callee_is (Some Task) callee is = absurd (none-some callee is)
+callee_is other callee is = absurd (none-some callee is)

@@ -14,7 +14,7 @@ use Rattle.pearl_tree.specs.Lawful.{IsLawful}
 use Rattle.pearl_tree.specs.Modules.{Spells}
 use Rattle.pearl_tree.specs.Names.{name_text}
 use Rattle.pearl_tree.specs.ShownDeclarations.{ShownParam}
-use Rattle.pearl_tree.specs.ShownModules.{ShownBody, ShownDecl, OfLength, OfType, OfDeclare, OfSpecify, OfTask, OfProc, ShownTree, shown_tree}
+use Rattle.pearl_tree.specs.ShownModules.{ShownBody, ShownDecl, OfTask, OfProc, ShownTree, shown_tree}
 use Rattle.pearl_names.specs.Found.{names_in}
 use Rattle.pearl_names.specs.Scopes.{Scope, scopes_of, as_stmts, param_entries, body_entries, types_in, scopes_in_decl, all_scopes, routine_scopes, decl_scopes, decls_scopes, decls_entries}
 use Rattle.pearl_names.specs.Tables.{table_of}
@@ -25,7 +25,7 @@ use Rattle.pearl_system.specs.declared.device.SpecifiedDevice.{SpecifiedDevice}
 use Rattle.pearl_system.specs.Devices.{device_key, IsDevice}
 use Rattle.pearl_system.specs.Rising.{Lists}
 use Rattle.pearl_system.specs.Rules as devices_rules
-use Rattle.pearl_check.specs.Routines.{RoutineSort, Routine, decl_routines, decls_routines, routines_of}
+use Rattle.pearl_check.specs.Routines.{RoutineSort, decl_routines, decls_routines, routines_of}
 use Rattle.pearl_check.specs.Routines as routine
 use Rattle.pearl_check.specs.Rules.{statements_broken, whole_broken, all_broken}
 use Rattle.pearl_program.specs.PlainPrograms.{PlainProcedure, PlainProg, PlainTask}
@@ -91,14 +91,11 @@ by_number_all P numbers things (suc count) number all =
     (found_all P things (position (nat_eq number) numbers) all) (by_number_all P numbers things count (number + 1) all)
 
 decl_format : (numbered : Numbered) (at : At) (decl : ShownDecl) → at.format + length (decl_formats decl) ≡ (after_decl numbered.table at decl).format
-decl_format numbered at (OfLength sort number place) = omega arith
-decl_format numbered at (OfType name part place) = omega arith
-decl_format numbered at (OfDeclare parts place) = omega arith
-decl_format numbered at (OfSpecify specs place) = omega arith
 decl_format numbered at (OfTask name head body place) =
     sym (all_go numbered at.next (in_body numbered.table at) (as_stmts body.statements)).format
 decl_format numbered at (OfProc name params returns body place) =
     sym (all_go numbered at.next (in_body numbered.table at) (as_stmts body.statements)).format
+decl_format numbered at decl = omega arith
 
 module _ (tree : ShownTree) (devices : List SpecifiedDevice) (procedures : List ℕ) where
   abbrev rows : List (List ℕ)
@@ -228,10 +225,7 @@ module _ (tree : ShownTree) (devices : List SpecifiedDevice) (procedures : List 
           tt,
         ),
       )
-  decl_sound types at (OfLength sort number place) lies scoped written sighted well = (tt, tt)
-  decl_sound types at (OfType name part place) lies scoped written sighted well = (tt, tt)
-  decl_sound types at (OfDeclare parts place) lies scoped written sighted well = (tt, tt)
-  decl_sound types at (OfSpecify specs place) lies scoped written sighted well = (tt, tt)
+  decl_sound types at decl lies scoped written sighted well = (tt, tt)
 
   decls_sound : (types : ℕ) (at : At) (decls : List ShownDecl) → Lies rows (decls_numbers numbered.table at decls) at.next →
       Lies (scopes_of tree) (decls_scopes types at.next decls) at.next → Lies program.formats (flat_map decl_formats decls) at.format →

@@ -12,7 +12,7 @@ use Rattle.pearl_names.specs.Counts.{cut}
 use Rattle.pearl_names.specs.Found.{found_from}
 use Rattle.pearl_names.specs.Shapes.{Shape, OfKind, OfFields}
 use Rattle.pearl_names.specs.Forms.{Component, component}
-use Rattle.pearl_names.specs.Tables.{Form, Sense, Variable, Control, OwnParameter, NewType, Semaphore, Interrupt, AlphicDation, BasicDation, Task, Procedure, sense_at, sense_from}
+use Rattle.pearl_names.specs.Tables.{Form, Sense, Variable, Control, OwnParameter, sense_at, sense_from}
 use Rattle.pearl_check_expr.specs.Standings as judged
 use Rattle.pearl_check_expr.specs.Standings.{Standing, Broken, Open, standing_of, start_at, variable_start, element_standing, walked_on, stopped}
 use Rattle.pearl_program.specs.declared.expression.Target.{Target}
@@ -75,13 +75,7 @@ sense_sound around control name scope number (Variable form inv) reach = form_so
 sense_sound around control name scope number (Control kind) reach = one_sound around control (Own number) kind (reach 0 (OfKind kind) refl)
 sense_sound around control name scope number (OwnParameter parameter) reach =
     kind_sound around control scope number parameter.kind parameter.ident reach
-sense_sound around control name scope number NewType reach = tt
-sense_sound around control name scope number Semaphore reach = tt
-sense_sound around control name scope number Interrupt reach = tt
-sense_sound around control name scope number (AlphicDation direction) reach = tt
-sense_sound around control name scope number (BasicDation direction kind) reach = tt
-sense_sound around control name scope number Task reach = tt
-sense_sound around control name scope number (Procedure parameters result) reach = tt
+sense_sound around control name scope number sense reach = tt
 
 if_sense : (around : Around) (control : Bool) (name : Name) (scope number : ℕ) (sense : Option Sense) →
     ((d : ℕ) (s : Shape) → (variable_start name sense).standing ≡ Open d s →
@@ -202,11 +196,8 @@ element_sound around control place rule true true shape walk stands = stands ref
 
 -- the variable at the end of a reference
 few_dropped : (bounds : List Bound) → length bounds ≤ 3 → drop 3 bounds ≡ []
-few_dropped [] few = refl
-few_dropped (a ∷ []) few = refl
-few_dropped (a ∷ b ∷ []) few = refl
-few_dropped (a ∷ b ∷ c ∷ []) few = refl
 few_dropped (a ∷ b ∷ c ∷ d ∷ rest) few = absurd (omega (arith, few))
+few_dropped other few = refl
 
 abbrev pub Reads : Around → (control : Bool) → PlainVariable → Kind → Type 0
 Reads around false variable kind = IsVariable around variable kind

@@ -59,8 +59,7 @@ run_inside from (suc count) = (
 one_inside : (owner : Owner) (first : ℕ) (cells : List CellKind) →
     Inside first (first + length cells) (hidden_in (record { owner = owner; first = first; cells = cells }))
 one_inside (OfScope scope control) first cells = tt
-one_inside (OfLoop len) first cells = run_inside first (length cells)
-one_inside OfTargets first cells = run_inside first (length cells)
+one_inside other first cells = run_inside first (length cells)
 
 abbrev is_scope : Owner → Bool
 is_scope (OfScope scope control) = true
@@ -72,8 +71,7 @@ no_scope owner scope control none is = absurd (true≢false (sym (ap is_scope is
 scope_hides : (owner : Owner) (first : ℕ) (cells : List CellKind) (scope control : ℕ) → owner ≡ OfScope scope control →
     hidden_in (record { owner = owner; first = first; cells = cells }) ≡ []
 scope_hides (OfScope a b) first cells scope control is = refl
-scope_hides (OfLoop len) first cells scope control is = no_scope (OfLoop len) scope control refl is
-scope_hides OfTargets first cells scope control is = no_scope OfTargets scope control refl is
+scope_hides other first cells scope control is = no_scope other scope control refl is
 
 open_between : (a b low high : ℕ) (xs ys : List ℕ) → Inside a low xs → Inside high b ys → (cell count : ℕ) → low ≤ cell → cell + count ≤ high →
     AreOpen (xs ++ ys) cell count

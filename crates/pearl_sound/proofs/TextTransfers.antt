@@ -10,7 +10,7 @@ use Rattle.pearl_value.specs.declared.kind.CellKind.TheVariants.{Plain}
 use Rattle.pearl_tree.specs.declared.name.Name.{Name}
 use Rattle.pearl_tree.specs.declared.format.Fmt.{Fmt}
 use Rattle.pearl_value.specs.declared.device.Direction.{Direction}
-use Rattle.pearl_value.specs.declared.device.Direction.TheVariants.{In, Out, InOut}
+use Rattle.pearl_value.specs.declared.device.Direction.TheVariants.{In, Out}
 use Rattle.pearl_tree.specs.declared.rule.TheConstants as rule
 use Rattle.pearl_tree.specs.ShownExpressions.{ShownExpr, ShownRef}
 use Rattle.pearl_tree.specs.ShownStatements.{OfPut, OfGet}
@@ -48,13 +48,11 @@ use Rattle.pearl_sound.proofs.SimpleStatements.{left_none, right_none, not_broke
 -- terminals
 writes : (direction : Direction) → is_in direction ≡ false → Writes direction
 writes In free = absurd (true≢false free)
-writes Out free = tt
-writes InOut free = tt
+writes other free = tt
 
 reads : (direction : Direction) → is_out direction ≡ false → Reads direction
 reads Out free = absurd (true≢false free)
-reads In free = tt
-reads InOut free = tt
+reads other free = tt
 
 terminal_takes : (direction : Direction) (device : Option Device) → IsTerminal direction device → is_in direction ≡ false → TakesTexts device
 terminal_takes direction (Some (Terminal number to)) same free = subst Writes (sym same) (writes direction free)

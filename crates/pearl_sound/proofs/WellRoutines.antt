@@ -1,5 +1,5 @@
 -- What is known of each task and procedure of a lawful module that breaks no static rule.
-use Rattle.std.specs.Prelude.{◌≡◌, ℕ, ◌+◌, ◌≤◌, ◌<◌, nat_le, true, not, List, [], ◌∷◌, ◌++◌, map, All, Option, Some, None}
+use Rattle.std.specs.Prelude.{◌≡◌, ℕ, ◌+◌, ◌≤◌, ◌<◌, nat_le, not, List, [], ◌∷◌, ◌++◌, map, All, Option, Some, None}
 use Rattle.std.specs.List.{AllByRecursion, flat_map}
 use Rattle.std.proofs.Common.{arith}
 use Rattle.std.proofs.lemmas.Bool.{leb-true}
@@ -15,7 +15,7 @@ use Rattle.pearl_tree.specs.declared.tree.Tree.{Tree}
 use Rattle.pearl_tree.specs.Lawful.{IsLawfulDecl, IsLawful}
 use Rattle.pearl_tree.specs.Names.{name_text}
 use Rattle.pearl_tree.specs.Tokens.{IsId}
-use Rattle.pearl_tree.specs.ShownModules.{ShownDecl, OfLength, OfType, OfDeclare, OfSpecify, OfTask, OfProc, ShownTree, shown_decl, shown_tree}
+use Rattle.pearl_tree.specs.ShownModules.{ShownDecl, OfTask, OfProc, ShownTree, shown_decl, shown_tree}
 use Rattle.pearl_names.specs.declared.length.DefaultLength.{DefaultLength}
 use Rattle.pearl_names.specs.Known.{Known, known_of}
 use Rattle.pearl_names.specs.Scopes.{scopes_in_decl, types_in}
@@ -127,10 +127,7 @@ decl_results known types next (OfTask name head body place) kept = (tt, tt)
 decl_results known types next (OfProc name params returns body place) kept =
     let outer = split_all (IsUnbroken known) (flat_map param_parts params) (parts_if basic_parts returns ++ body_parts types next body) kept in
     (result_there known returns (split_all (IsUnbroken known) (parts_if basic_parts returns) (body_parts types next body) outer.1).0, tt)
-decl_results known types next (OfLength of number place) kept = tt
-decl_results known types next (OfType name part place) kept = tt
-decl_results known types next (OfDeclare parts place) kept = tt
-decl_results known types next (OfSpecify specs place) kept = tt
+decl_results known types next decl kept = tt
 
 decls_results : (known : Known) (types next : ℕ) (parts : List ShownDecl) → AreUnbroken known (decls_parts types next parts) →
     AllByRecursion (HasItsKindOf known.lengths) (decls_routines next parts)
@@ -150,12 +147,9 @@ all_results tree none =
 
 -- names of tasks and procedures are ids
 decl_named : (next : ℕ) (part : Decl) → IsLawfulDecl part → AllByRecursion HasItsName (decl_routines next (shown_decl part))
-decl_named next (decl.Length sort number place) h = tt
-decl_named next (decl.Type name part place) h = tt
-decl_named next (decl.Declare parts place) h = tt
-decl_named next (decl.Specify specs place) h = tt
 decl_named next (decl.Task name head body place) h = (h.0, tt)
 decl_named next (decl.Proc name params returns body place) h = (h.0, tt)
+decl_named next part h = tt
 
 decls_named : (next : ℕ) (parts : List Decl) → All IsLawfulDecl parts → AllByRecursion HasItsName (decls_routines next (map shown_decl parts))
 decls_named next [] h = tt

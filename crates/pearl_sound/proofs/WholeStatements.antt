@@ -159,17 +159,7 @@ module _ (numbered : Numbered) (sort : RoutineSort) where
         get_sound numbered sort (placed spot at (shown.OfGet targets dation formats place)) at around ready.lead targets dation formats place refl stands.1
         stands.2 ready.known ready.none
     stands_sound around spot at (shown.OfEmpty place) stands = tt
-    stands_sound around spot at (shown.OfAssign target value place) stands = simple around spot at (shown.OfAssign target value place) tt stands
-    stands_sound around spot at (shown.OfCall call name arguments place) stands = simple around spot at (shown.OfCall call name arguments place) tt stands
-    stands_sound around spot at (shown.OfExit place) stands = simple around spot at (shown.OfExit place) tt stands
-    stands_sound around spot at (shown.OfReturn value place) stands = simple around spot at (shown.OfReturn value place) tt stands
-    stands_sound around spot at (shown.OfActivate start task priority place) stands = simple around spot at (shown.OfActivate start task priority place) tt stands
-    stands_sound around spot at (shown.OfContinue once task place) stands = simple around spot at (shown.OfContinue once task place) tt stands
-    stands_sound around spot at (shown.OfResume once place) stands = simple around spot at (shown.OfResume once place) tt stands
-    stands_sound around spot at (shown.OfOnTask word task place) stands = simple around spot at (shown.OfOnTask word task place) tt stands
-    stands_sound around spot at (shown.OfOnInterrupt word name place) stands = simple around spot at (shown.OfOnInterrupt word name place) tt stands
-    stands_sound around spot at (shown.OfSend value dation place) stands = simple around spot at (shown.OfSend value dation place) tt stands
-    stands_sound around spot at (shown.OfTake target dation place) stands = simple around spot at (shown.OfTake target dation place) tt stands
+    stands_sound around spot at statement stands = simple around spot at statement tt stands
 
     pub all_sound : (around : Around) (spot : Spot) (at : At) (statements : ShownStmts) → AllStand numbered sort around spot at statements →
         AreStmts around (resolve_all numbered spot.scope at statements)

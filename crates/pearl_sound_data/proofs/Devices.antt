@@ -19,10 +19,11 @@ use Rattle.pearl_system.specs.Laws.{IsSpecifiedBy}
 use Rattle.pearl_system.specs.Rising.{IsLess, IsRising, Lists}
 use Rattle.pearl_system.proofs.Offered.{devices_are_specified, pairs_head, pairs_tail}
 use Rattle.pearl_value.specs.Devices as device_list
-use Rattle.pearl_value.specs.Devices.{sort_rank, own_number, HasKindOfValues, IsBefore, AreRising}
+use Rattle.pearl_value.specs.Devices.{sort_rank, own_number, IsBefore, AreRising}
 use Rattle.pearl_resolve_tables.specs.Devices.{kind_or_short, device_of}
 use Rattle.pearl_sound_data.proofs.Faults.{really, both, all_weaker}
-use Rattle.pearl_sound_data.proofs.Shapes.{IfThere, AreSet, all_set, basic_kind}
+use Rattle.pearl_sound.proofs.Offered.{AreSet, all_set}
+use Rattle.pearl_sound_data.proofs.Shapes.{IfThere, basic_kind}
 
 number_fits : (n : ℕ) → is_number n ≡ true → (0 < n) × (n ≤ 99)
 number_fits n is =
@@ -80,13 +81,12 @@ stands_before lengths a b (inr less) =
     inr (same_rank lengths a ∙ less.0 ∙ sym (same_rank lengths b), omega (arith, one, two, below))
 
 in_order : (lengths : List DefaultLength) (devices : List SpecifiedDevice) → IsRising device_key devices → AreRising (map (device_of lengths) devices)
-in_order lengths [] rising = tt
-in_order lengths (device ∷ []) rising = tt
 in_order lengths (device ∷ next ∷ rest) rising =
     let R = λ (x y : SpecifiedDevice). IsLess (device_key x) (device_key y) in (
       stands_before lengths device next (All-head (R device) next rest (pairs_head R device (next ∷ rest) rising)),
       in_order lengths (next ∷ rest) (pairs_tail R device (next ∷ rest) rising),
     )
+in_order lengths other rising = tt
 
 has_number : (tree : ShownTree) (device : SpecifiedDevice) →
     (n : ℕ) × (spec : Specified) × (part : Device) × IsSpecifiedBy tree n spec part device → is_number device.number ≡ true

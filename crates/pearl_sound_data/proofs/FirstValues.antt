@@ -1,5 +1,5 @@
 -- Constants become values of each kind, and the leaves that they are put into have first values.
-use Rattle.std.specs.Prelude.{◌≡◌, ℕ, zero, suc, ◌-◌, ◌<◌, ◌≤◌, ◌^◌, min, Bool, true, false, not, List, [], ◌∷◌, length, map, take, Option, Some, None, Result, Ok, Err}
+use Rattle.std.specs.Prelude.{◌≡◌, ℕ, zero, suc, ◌-◌, ◌<◌, ◌≤◌, ◌^◌, min, Bool, true, false, not, List, [], ◌∷◌, length, map, take, Option, Some, Result, Ok, Err}
 use Rattle.std.specs.List.{AllByRecursion}
 use Rattle.std.proofs.Common.{refl, sym, arith, true≢false}
 use Rattle.std.proofs.lemmas.Int.{ints}
@@ -14,7 +14,7 @@ use Rattle.pearl_value.specs.Conversions.{converted}
 use Rattle.pearl_value.specs.Laws.{Gives}
 use Rattle.pearl_value.proofs.Offered.{blank_gives, keeps_kinds}
 use Rattle.pearl_tree.specs.declared.literal.Sign.{Sign}
-use Rattle.pearl_tree.specs.declared.literal.Sign.TheVariants.{Plus, Minus}
+use Rattle.pearl_tree.specs.declared.literal.Sign.TheVariants.{Minus}
 use Rattle.pearl_tree.specs.Durations.{milliseconds_of}
 use Rattle.pearl_tree.specs.ShownLiterals.{ShownLiteral, OfNumber, OfBits, OfText, OfClock, OfDuration, ShownConst}
 use Rattle.pearl_names.specs.Durations.{is_too_long}
@@ -30,14 +30,12 @@ use Rattle.pearl_sound_data.proofs.Faults.{all_dropped}
 number_fits : (sign : Option Sign) (n : ℕ) → n < 2 ^ 63 → FitsFixed 63 (negative_if sign n)
 number_fits (Some Minus) zero small = record { low = omega (arith, ints); high = omega (arith, ints) }
 number_fits (Some Minus) (suc n) small = record { low = omega (arith, ints, small); high = omega (arith, ints) }
-number_fits (Some Plus) n small = record { low = omega (arith, ints); high = omega (arith, ints, small) }
-number_fits None n small = record { low = omega (arith, ints); high = omega (arith, ints, small) }
+number_fits other n small = record { low = omega (arith, ints); high = omega (arith, ints, small) }
 
 span_fits : (sign : Option Sign) (n : ℕ) → n ≤ 2 ^ 40 → FitsSpan (negative_if sign n)
 span_fits (Some Minus) zero small = record { low = omega (arith, ints); high = omega (arith, ints) }
 span_fits (Some Minus) (suc n) small = record { low = omega (arith, ints, small); high = omega (arith, ints) }
-span_fits (Some Plus) n small = record { low = omega (arith, ints); high = omega (arith, ints, small) }
-span_fits None n small = record { low = omega (arith, ints); high = omega (arith, ints, small) }
+span_fits other n small = record { low = omega (arith, ints); high = omega (arith, ints, small) }
 
 not_true : (b : Bool) → not b ≡ true → b ≡ false
 not_true true is = absurd (true≢false (sym is))

@@ -9,16 +9,16 @@ use Rattle.pearl_tree.specs.declared.rule.TheConstants as rule
 use Rattle.pearl_tree.specs.declared.format.Fmt.{Fmt}
 use Rattle.pearl_tree.specs.declared.format.Fmt.TheVariants.{Free, Wide}
 use Rattle.pearl_tree.specs.declared.format.FreeCode.{FreeCode}
-use Rattle.pearl_tree.specs.declared.format.FreeCode.TheVariants.{A, B, B1, B2, B3, B4, X, Skip}
+use Rattle.pearl_tree.specs.declared.format.FreeCode.TheVariants.{A}
 use Rattle.pearl_tree.specs.declared.format.WideCode.TheVariants.{F, T, D}
 use Rattle.pearl_tree.specs.Faults.{fault_if}
 use Rattle.pearl_tree.specs.ShownStatements as shown
-use Rattle.pearl_tree.specs.ShownStatements.{ShownStmt, ShownStmts, ShownBranches, ShownOtherwise}
-use Rattle.pearl_tree.specs.ShownModules.{ShownDecl, OfLength, OfType, OfDeclare, OfSpecify, OfTask, OfProc, ShownTree}
-use Rattle.pearl_names.specs.Scopes.{scopes_in, scopes_in_all, scopes_in_branches, scopes_in_decl, as_stmts}
+use Rattle.pearl_tree.specs.ShownStatements.{ShownStmt, ShownStmts}
+use Rattle.pearl_tree.specs.ShownModules.{ShownDecl, OfTask, OfProc, ShownTree}
+use Rattle.pearl_names.specs.Scopes.{scopes_in_decl, as_stmts}
 use Rattle.pearl_names.specs.Tables.{Table, table_of}
 use Rattle.pearl_scope.specs.declared.places.Spot.{Spot}
-use Rattle.pearl_scope.specs.Placed.{Placed, placed_stmt, placed_all, placed_branches, placed_otherwise}
+use Rattle.pearl_scope.specs.Placed.{Placed, placed_all}
 use Rattle.pearl_check.specs.Asked.{asked_at}
 use Rattle.pearl_check.specs.Dations.{s32}
 use Rattle.pearl_check.specs.Formats.{place_of_item, has_width, kind_for, left_by, is_for_other, item_faults, is_ill_sized, format_faults, s33}
@@ -27,18 +27,14 @@ use Rattle.pearl_check.specs.Routines.{RoutineSort, Routine, decl_routines, decl
 use Rattle.pearl_check.specs.Rules.{s30, own_faults, statement_faults, routine_faults, statements_broken}
 use Rattle.pearl_check.specs.Statements.{s24, s26, s27, s31}
 use Rattle.pearl_check.specs.Views.{value_kind, target_kind}
-use Rattle.pearl_resolve_tables.specs.Formats.{free_code, item_of, formats_in, formats_in_all, formats_in_branches, formats_in_otherwise, decl_formats}
+use Rattle.pearl_resolve_tables.specs.Formats.{free_code, item_of, formats_in_all, decl_formats}
+use Rattle.pearl_resolve.specs.Expressions.{Numbered}
+use Rattle.pearl_sound.proofs.Offered.{Passage, One, Each, Branches, Otherwise, PartsKeep, walk, Pieces, in_turn, pieces, summed}
 use Rattle.pearl_sound_data.proofs.Faults.{left_none, right_none, no_fault, really, neither, both, split_all, all_append}
 
 free_width : (word : FreeCode) (width : ℕ) → HasWidth (free_code word) width
 free_width A width = tt
-free_width B width = tt
-free_width B1 width = tt
-free_width B2 width = tt
-free_width B3 width = tt
-free_width B4 width = tt
-free_width X width = tt
-free_width Skip width = tt
+free_width other width = tt
 
 at_least : (least width : ℕ) → (nat_le least width && nat_le width 255) ≡ true → (least ≤ width) × (width ≤ 255)
 at_least least width is =
@@ -67,48 +63,40 @@ module _ (table : Table) where
   abbrev Keeps : Placed → Type 0
   Keeps place = s33 table place.spot.scope place.statement ≡ []
 
-  mutual
-    stmt_formats : (spot : Spot) (next : ℕ) (s : ShownStmt) → AllByRecursion Keeps (placed_stmt spot next s) → AllByRecursion IsFormat (formats_in s)
-    stmt_formats spot next (shown.OfIf condition statements otherwise place) keep =
-        let n = scopes_in_all statements in
-        let split = split_all Keeps (placed_all spot next statements) (placed_otherwise spot (next + n) otherwise) keep.1 in
-        all_append IsFormat (formats_in_all statements) (formats_in_otherwise otherwise) (all_formats spot next statements split.0)
-        (otherwise_formats spot (next + n) otherwise split.1)
-    stmt_formats spot next (shown.OfCase selector alternatives otherwise place) keep =
-        let n = scopes_in_branches alternatives in
-        let split = split_all Keeps (placed_branches spot next alternatives) (placed_otherwise spot (next + n) otherwise) keep.1 in
-        all_append IsFormat (formats_in_branches alternatives) (formats_in_otherwise otherwise) (branches_formats spot next alternatives split.0)
-        (otherwise_formats spot (next + n) otherwise split.1)
-    stmt_formats spot next (shown.OfRepeat control begin step end condition declarations statements body_place place) keep =
-        all_formats (record { scope = next; in_loop = true }) (next + 1) statements keep.1
-    stmt_formats spot next (shown.OfBegin declarations statements body_place place) keep =
-        all_formats (record { scope = next; in_loop = spot.in_loop }) (next + 1) statements keep.1
-    stmt_formats spot next (shown.OfPut values dation formats place) keep =
-        (format_sound place formats (map (value_kind table spot.scope) values) keep.0, tt)
-    stmt_formats spot next (shown.OfGet targets dation formats place) keep =
-        (format_sound place formats (map (target_kind table spot.scope) targets) keep.0, tt)
-    stmt_formats spot next statement keep = tt
+  abbrev numbered : Numbered
+  numbered = record { table = table; numbers = [] }
 
-    all_formats : (spot : Spot) (next : ℕ) (statements : ShownStmts) → AllByRecursion Keeps (placed_all spot next statements) →
-        AllByRecursion IsFormat (formats_in_all statements)
-    all_formats spot next shown.NoStmts keep = tt
-    all_formats spot next (shown.MoreStmts s rest) keep =
-        let split = split_all Keeps (placed_stmt spot next s) (placed_all spot (next + scopes_in s) rest) keep in
-        all_append IsFormat (formats_in s) (formats_in_all rest) (stmt_formats spot next s split.0) (all_formats spot (next + scopes_in s) rest split.1)
+  abbrev KeepsFormats : Pieces → Type 0
+  KeepsFormats piece = (spot : Spot) (next : ℕ) → AllByRecursion Keeps (piece.places spot next) → AllByRecursion IsFormat piece.formats
 
-    branches_formats : (spot : Spot) (next : ℕ) (branches : ShownBranches) → AllByRecursion Keeps (placed_branches spot next branches) →
-        AllByRecursion IsFormat (formats_in_branches branches)
-    branches_formats spot next shown.NoBranches keep = tt
-    branches_formats spot next (shown.MoreBranches statements place rest) keep =
-        let n = scopes_in_all statements in
-        let split = split_all Keeps (placed_all spot next statements) (placed_branches spot (next + n) rest) keep in
-        all_append IsFormat (formats_in_all statements) (formats_in_branches rest) (all_formats spot next statements split.0)
-        (branches_formats spot (next + n) rest split.1)
+  both_formats : (one two : Passage) → KeepsFormats (pieces numbered one) → KeepsFormats (pieces numbered two) →
+      KeepsFormats (in_turn (pieces numbered one) (pieces numbered two))
+  both_formats one two first second spot next keep =
+      let a = pieces numbered one in
+      let b = pieces numbered two in
+      let split = split_all Keeps (a.places spot next) (b.places spot (next + a.scopes)) keep in
+      all_append IsFormat a.formats b.formats (first spot next split.0) (second spot (next + a.scopes) split.1)
 
-    otherwise_formats : (spot : Spot) (next : ℕ) (otherwise : ShownOtherwise) → AllByRecursion Keeps (placed_otherwise spot next otherwise) →
-        AllByRecursion IsFormat (formats_in_otherwise otherwise)
-    otherwise_formats spot next shown.NoOtherwise keep = tt
-    otherwise_formats spot next (shown.OfOtherwise statements place) keep = all_formats spot next statements keep
+  stmt_formats : (s : ShownStmt) → PartsKeep (λ passage. KeepsFormats (pieces numbered passage)) s → KeepsFormats (pieces numbered (One s))
+  stmt_formats (shown.OfIf condition statements otherwise place) parts = λ spot next keep.
+      both_formats (Each statements) (Otherwise otherwise) parts.0 parts.1 spot next keep.1
+  stmt_formats (shown.OfCase selector alternatives otherwise place) parts = λ spot next keep.
+      both_formats (Branches alternatives) (Otherwise otherwise) parts.0 parts.1 spot next keep.1
+  stmt_formats (shown.OfRepeat control begin step end condition declarations statements body_place place) parts = λ spot next keep.
+      parts (record { scope = next; in_loop = true }) (next + 1) keep.1
+  stmt_formats (shown.OfBegin declarations statements body_place place) parts = λ spot next keep.
+      parts (record { scope = next; in_loop = spot.in_loop }) (next + 1) keep.1
+  stmt_formats (shown.OfPut values dation formats place) parts = λ spot next keep.
+      (format_sound place formats (map (value_kind table spot.scope) values) keep.0, tt)
+  stmt_formats (shown.OfGet targets dation formats place) parts = λ spot next keep.
+      (format_sound place formats (map (target_kind table spot.scope) targets) keep.0, tt)
+  stmt_formats statement parts = λ spot next keep. tt
+
+  all_formats : (spot : Spot) (next : ℕ) (statements : ShownStmts) → AllByRecursion Keeps (placed_all spot next statements) →
+      AllByRecursion IsFormat (formats_in_all statements)
+  all_formats spot next statements =
+      walk (λ passage. KeepsFormats (pieces numbered passage)) (summed numbered KeepsFormats (λ spot next keep. tt) both_formats stmt_formats)
+      (Each statements) spot next
 
   -- of all rules on a statement, S33
   s33_kept : (sort : RoutineSort) (place : Placed) → statement_faults table sort place ≡ [] → Keeps place
@@ -150,10 +138,7 @@ module _ (table : Table) where
       all_formats (record { scope = next; in_loop = false }) (next + 1) (as_stmts body.statements) keep.0
   decl_kept next (OfProc name params returns body place) keep =
       all_formats (record { scope = next; in_loop = false }) (next + 1) (as_stmts body.statements) keep.0
-  decl_kept next (OfLength sort number place) keep = tt
-  decl_kept next (OfType name part place) keep = tt
-  decl_kept next (OfDeclare declared place) keep = tt
-  decl_kept next (OfSpecify specs place) keep = tt
+  decl_kept next decl keep = tt
 
   decls_kept : (next : ℕ) (decls : List ShownDecl) → AllByRecursion RoutineKeeps (decls_routines next decls) →
       AllByRecursion IsFormat (flat_map decl_formats decls)

@@ -17,7 +17,7 @@ use Rattle.pearl_tree.specs.Lawful.{IsLawfulName, AreLawfulNames, HasLawfulTypin
 use Rattle.pearl_tree.specs.Names.{name_text, names_of}
 use Rattle.pearl_tree.specs.ShownDeclarations.{shown_names, shown_typing, shown_fields, shown_item, ShownDeclared, OfItem, OfSema, shown_declared, ShownSpec, OfInterrupt, OfDation, shown_spec}
 use Rattle.pearl_tree.specs.ShownModules.{ShownDecl, OfDeclare, shown_decl}
-use Rattle.pearl_names.specs.Scopes.{Meaning, Entry, entries_as, declared_entries, spec_entries, decl_entries, decls_entries, types_in}
+use Rattle.pearl_names.specs.Scopes.{Meaning, entries_as, declared_entries, spec_entries, decl_entries, decls_entries, types_in}
 use Rattle.pearl_names.specs.Scopes as scopes
 use Rattle.pearl_sound_data.proofs.Faults.{all_append}
 use Rattle.pearl_sound_data.proofs.Shapes.{TypingHas, FieldsWritten, TypeHas, MeaningHas, EntryHas}
@@ -31,9 +31,8 @@ names_ids (Several names place) lawful = recursion_from_All IsLawfulName names.i
 
 mutual
   typing_ids : (depth : ℕ) (part : Typing) → HasLawfulTyping depth part → TypingHas IsId (shown_typing part)
-  typing_ids depth (typing.Basic part) lawful = tt
   typing_ids depth (typing.Struct' _ fields place) lawful = fields_ids _ fields lawful.1
-  typing_ids depth (typing.Named name) lawful = tt
+  typing_ids depth other lawful = tt
 
   fields_ids : {n : _} (depth : ℕ) (row : Row_of-Field n) → AreLawfulFields depth row → FieldsWritten IsId (shown_fields row)
   fields_ids depth end_of-Field lawful = tt
@@ -69,11 +68,9 @@ specs_ids (OfDation names direction class control place ∷ rest) =
 
 decl_ids : (types : ℕ) (part : Decl) → IsLawfulDecl part → AllByRecursion (EntryHas IsId) (decl_entries types (shown_decl part))
 decl_ids types (decl.Length sort number place) lawful = tt
-decl_ids types (decl.Type name part place) lawful = (tt, tt)
 decl_ids types (decl.Declare parts place) lawful = declared_ids types parts.items.items lawful
 decl_ids types (decl.Specify specs place) lawful = specs_ids (map shown_spec specs.items.items)
-decl_ids types (decl.Task name head body place) lawful = (tt, tt)
-decl_ids types (decl.Proc name params returns body place) lawful = (tt, tt)
+decl_ids types part lawful = (tt, tt)
 
 pub entries_ids : (types : ℕ) (parts : List Decl) → All IsLawfulDecl parts → AllByRecursion (EntryHas IsId) (decls_entries types (map shown_decl parts))
 entries_ids types [] lawful = tt

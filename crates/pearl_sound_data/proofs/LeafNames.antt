@@ -18,7 +18,7 @@ use Rattle.pearl_tree.specs.Lawful.{IsLawful}
 use Rattle.pearl_tree.specs.Names.{name_text, names_of}
 use Rattle.pearl_tree.specs.ShownLiterals.{ShownConst}
 use Rattle.pearl_tree.specs.ShownDeclarations.{ShownDeclared, OfItem, OfSema}
-use Rattle.pearl_tree.specs.ShownModules.{ShownDecl, OfLength, OfType, OfDeclare, OfSpecify, OfTask, OfProc, shown_tree}
+use Rattle.pearl_tree.specs.ShownModules.{ShownDecl, OfDeclare, shown_tree}
 use Rattle.pearl_names.specs.declared.scope.SortedName.{SortedName}
 use Rattle.pearl_names.specs.declared.scope.View.TheVariants.{Within}
 use Rattle.pearl_names.specs.FirstNames.{first_index}
@@ -27,7 +27,7 @@ use Rattle.pearl_names.specs.Known.{known_of}
 use Rattle.pearl_names.specs.Layout.{Leaf, elements}
 use Rattle.pearl_names.specs.Counts.{path_bytes, bytes_behind}
 use Rattle.pearl_names.specs.Scopes.{decls_entries}
-use Rattle.pearl_names.specs.Tables.{Sense, Variable, Control, OwnParameter, NewType, Semaphore, Interrupt, AlphicDation, BasicDation, Task, Procedure, senses_of, table_of, leaves_in}
+use Rattle.pearl_names.specs.Tables.{Sense, Variable, senses_of, table_of, leaves_in}
 use Rattle.pearl_check.specs.Sizes.{Declared, with_senses, declared_in, has_long_leaf, long_leaf_fault, passed, task_count, procedure_count, semaphore_count, slot_count, counted_sizes}
 use Rattle.pearl_program.specs.PlainPrograms.{PlainLeaf}
 use Rattle.pearl_program.specs.Sound.{IsLeaf}
@@ -36,7 +36,8 @@ use Rattle.pearl_resolve.specs.Expressions.{Numbered, Meant, number_at, meant_at
 use Rattle.pearl_resolve.specs.Statements.{slots_of_meant}
 use Rattle.pearl_resolve.specs.Resolve.{variable_leaves, names_leaves, declared_leaves, decl_leaves}
 use Rattle.pearl_sound_data.proofs.Faults.{right_none, no_fault, neither, all_append}
-use Rattle.pearl_sound_data.proofs.Shapes.{IfThere, LeafHas, SenseHas, shapes_have, scope_has, all_set}
+use Rattle.pearl_sound.proofs.Offered.{all_set}
+use Rattle.pearl_sound_data.proofs.Shapes.{IfThere, LeafHas, SenseHas, shapes_have, scope_has}
 use Rattle.pearl_sound_data.proofs.LawfulNames.{AreIds, DeclaredNamed, DeclNamed, entries_ids, types_ids, decls_named}
 use Rattle.pearl_sound_data.proofs.ModuleLeaves.{HasFirst}
 
@@ -107,17 +108,8 @@ none_long text (leaf ∷ rest) none =
     (ltb-false 1024 (length text + bytes_behind leaf) parts.0, none_long text rest parts.1)
 
 sense_fits : (name : Name) (sense : Sense) → has_long_leaf name sense ≡ false → AllByRecursion (Fits (name_text name)) (leaves_of_sense sense)
-sense_fits name (Variable None inv) none = tt
 sense_fits name (Variable (Some form) inv) none = none_long (name_text name) (leaves_in (Some form)) none
-sense_fits name (Control kind) none = tt
-sense_fits name (OwnParameter parameter) none = tt
-sense_fits name NewType none = tt
-sense_fits name Semaphore none = tt
-sense_fits name Interrupt none = tt
-sense_fits name (AlphicDation direction) none = tt
-sense_fits name (BasicDation direction kind) none = tt
-sense_fits name Task none = tt
-sense_fits name (Procedure parameters result) none = tt
+sense_fits name sense none = tt
 
 abbrev FitsDeclared : Declared → Type 0
 FitsDeclared declared = AllByRecursion (Fits (name_text declared.name)) (leaves_of_sense declared.sense)
@@ -227,11 +219,7 @@ module _ (numbered : Numbered) (all : AllByRecursion IsFitDeclared (declared_in 
 
   decl_named : (decl : ShownDecl) → DeclNamed decl → AllByRecursion Named (decl_leaves numbered decl)
   decl_named (OfDeclare parts place) are = declared_named parts are
-  decl_named (OfLength sort number place) are = tt
-  decl_named (OfType name part place) are = tt
-  decl_named (OfSpecify specs place) are = tt
-  decl_named (OfTask name head body place) are = tt
-  decl_named (OfProc name params returns body place) are = tt
+  decl_named decl are = tt
 
   all_named : (decls : List ShownDecl) → AllByRecursion DeclNamed decls → AllByRecursion Named (flat_map (decl_leaves numbered) decls)
   all_named [] are = tt

@@ -40,17 +40,11 @@ use Rattle.pearl_sound_data.proofs.Unbroken.{IsUnbroken, AreUnbroken, module_unb
 
 in_range : (part : Literal) → IsLawfulLiteral part → IsInRange (shown_literal part)
 in_range (literal.Number number) lawful = lawful
-in_range (literal.Bits len value place) lawful = lawful
-in_range (literal.Text text place) lawful = lawful
-in_range (literal.Clock milliseconds place) lawful = lawful
-in_range (literal.Duration duration) lawful = lawful
+in_range other lawful = lawful
 
 valued : (known : Known) (part : Literal) → AreUnbroken known (literal_parts (shown_literal part)) → has_value (shown_literal part) ≡ true
-valued known (literal.Number number) kept = refl
-valued known (literal.Bits len value place) kept = refl
-valued known (literal.Text text place) kept = refl
-valued known (literal.Clock milliseconds place) kept = refl
 valued known (literal.Duration duration) kept = ap not (no_fault (is_too_long duration.value) _ rule.S4 [] kept.0).0
+valued known other kept = refl
 
 constant_is : (known : Known) (constant : Const) → IsLawfulConst constant → AreUnbroken known (const_parts (shown_const constant)) →
     IsConstant (shown_const constant)
@@ -178,16 +172,14 @@ module _ (known : Known) (types : ℕ) where
 
   decl_has : (next : ℕ) (part : Decl) → IsLawfulDecl part → AreUnbroken known (decl_parts types next (shown_decl part)) →
       DeclHasConstants (shown_decl part)
-  decl_has next (decl.Length sort number place) lawful kept = tt
-  decl_has next (decl.Type name typing place) lawful kept = tt
   decl_has next (decl.Declare parts place) lawful kept = declared_have parts.items.items lawful kept
-  decl_has next (decl.Specify specs place) lawful kept = tt
   decl_has next (decl.Task name head body place) lawful kept = body_has next body lawful.2 kept
   decl_has next (decl.Proc name params returns body place) lawful kept =
       let outer = split_all (IsUnbroken known) (flat_map param_parts (map shown_param params.items.items))
       (parts_if basic_parts returns ++ body_parts types next (shown_body body)) kept in
       let inner = split_all (IsUnbroken known) (parts_if basic_parts returns) (body_parts types next (shown_body body)) outer.1 in
       body_has next body lawful.3 inner.1
+  decl_has next part lawful kept = tt
 
 decls_have : (known : Known) (types next : ℕ) (parts : List Decl) → All IsLawfulDecl parts →
     AreUnbroken known (decls_parts types next (map shown_decl parts)) → AllByRecursion DeclHasConstants (map shown_decl parts)

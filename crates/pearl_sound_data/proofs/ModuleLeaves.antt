@@ -5,7 +5,7 @@ use Rattle.pearl_tree.specs.declared.name.Name.{Name}
 use Rattle.pearl_tree.specs.Names.{name_text, names_of}
 use Rattle.pearl_tree.specs.ShownLiterals.{ShownConst}
 use Rattle.pearl_tree.specs.ShownDeclarations.{ShownDeclared, OfItem, OfSema}
-use Rattle.pearl_tree.specs.ShownModules.{ShownDecl, OfLength, OfType, OfDeclare, OfSpecify, OfTask, OfProc, ShownTree}
+use Rattle.pearl_tree.specs.ShownModules.{ShownDecl, OfDeclare, ShownTree}
 use Rattle.pearl_names.specs.declared.scope.View.TheVariants.{Within}
 use Rattle.pearl_names.specs.Tables.{table_of}
 use Rattle.pearl_program.specs.PlainPrograms.{PlainLeaf}
@@ -50,11 +50,7 @@ module _ (numbered : Numbered) (kinds : AllByRecursion (AllByRecursion SenseHasK
 
   decl_first : (decl : ShownDecl) → DeclHasConstants decl → AllByRecursion HasFirst (decl_leaves numbered decl)
   decl_first (OfDeclare parts place) all = declared_first parts all
-  decl_first (OfLength sort number place) all = tt
-  decl_first (OfType name part place) all = tt
-  decl_first (OfSpecify specs place) all = tt
-  decl_first (OfTask name head body place) all = tt
-  decl_first (OfProc name params returns body place) all = tt
+  decl_first decl all = tt
 
   decls_first : (decls : List ShownDecl) → AllByRecursion DeclHasConstants decls → AllByRecursion HasFirst (flat_map (decl_leaves numbered) decls)
   decls_first [] all = tt

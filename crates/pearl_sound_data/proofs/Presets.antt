@@ -8,7 +8,7 @@ use Rattle.pearl_tree.specs.declared.name.Name.{Name}
 use Rattle.pearl_tree.specs.declared.name.Number.{Number}
 use Rattle.pearl_tree.specs.Names.{names_of}
 use Rattle.pearl_tree.specs.ShownDeclarations.{ShownDeclared, OfItem, OfSema}
-use Rattle.pearl_tree.specs.ShownModules.{ShownDecl, OfLength, OfType, OfDeclare, OfSpecify, OfTask, OfProc, ShownTree}
+use Rattle.pearl_tree.specs.ShownModules.{ShownDecl, OfDeclare, ShownTree}
 use Rattle.pearl_names.specs.Known.{Known, known_of}
 use Rattle.pearl_names.specs.Scopes.{scopes_in_decl, types_in}
 use Rattle.pearl_scope.specs.Parts.{item_parts, declared_parts, decl_parts, decls_parts}
@@ -39,11 +39,7 @@ module _ (known : Known) where
 
   decl_small : (types next : ℕ) (decl : ShownDecl) → AreUnbroken known (decl_parts types next decl) → AllByRecursion IsPreset (decl_presets decl)
   decl_small types next (OfDeclare parts place) kept = declared_small types parts kept
-  decl_small types next (OfLength sort number place) kept = tt
-  decl_small types next (OfType name part place) kept = tt
-  decl_small types next (OfSpecify specs place) kept = tt
-  decl_small types next (OfTask name head body place) kept = tt
-  decl_small types next (OfProc name params returns body place) kept = tt
+  decl_small types next decl kept = tt
 
   decls_small : (types next : ℕ) (decls : List ShownDecl) → AreUnbroken known (decls_parts types next decls) →
       AllByRecursion IsPreset (flat_map decl_presets decls)

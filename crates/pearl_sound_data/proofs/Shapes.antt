@@ -1,24 +1,19 @@
 -- The leaves of what names stand for have kinds with lengths in their ranges, and the fields that lead to them have names
 -- that are written in their types.
-use Rattle.std.specs.Prelude.{◌≡◌, ℕ, zero, suc, ◌+◌, ℤ, Bool, true, false, nat_le, if◌then◌else◌, List, [], ◌∷◌, ◌++◌, Option, Some, None, option_map, slice_get}
+use Rattle.std.specs.Prelude.{ℕ, zero, suc, ◌+◌, ℤ, Bool, true, false, if◌then◌else◌, List, [], ◌∷◌, ◌++◌, Option, Some, None, option_map, slice_get}
 use Rattle.std.specs.List.{AllByRecursion, list_all}
-use Rattle.std.proofs.Common.{refl, ap, ◌∙◌, sym, arith, true≢false}
-use Rattle.std.proofs.lemmas.Bool.{leb-true}
 use Rattle.pearl_value.specs.declared.kind.Kind.{Kind}
 use Rattle.pearl_value.specs.Kinds.{IsKind}
 use Rattle.pearl_tree.specs.declared.name.Name.{Name}
 use Rattle.pearl_tree.specs.declared.typing.Basic.{Basic}
-use Rattle.pearl_tree.specs.declared.typing.Basic.TheVariants.{Sized, Clock, Duration}
-use Rattle.pearl_tree.specs.declared.typing.Sort.{Sort}
-use Rattle.pearl_tree.specs.declared.typing.Sort.TheVariants.{Fixed, Bit, Char}
 use Rattle.pearl_tree.specs.declared.declaration.Class.TheVariants as class
 use Rattle.pearl_tree.specs.Names.{name_text, names_of, has_repeats}
 use Rattle.pearl_tree.specs.ShownDeclarations.{ShownTyping, OfBasic, OfStruct, OfNamed, ShownFields, NoFields, MoreFields}
-use Rattle.pearl_tree.specs.ShownModules.{ShownDecl, OfLength, OfType, OfDeclare, OfSpecify, OfTask, OfProc, ShownTree}
+use Rattle.pearl_tree.specs.ShownModules.{ShownDecl, OfType, ShownTree}
 use Rattle.pearl_names.specs.declared.length.DefaultLength.{DefaultLength}
 use Rattle.pearl_names.specs.declared.scope.NameSort.{NameSort}
 use Rattle.pearl_names.specs.declared.scope.NameSort.TheVariants.{NewType as TypeNumber}
-use Rattle.pearl_names.specs.Lengths.{is_length, kind_of_length, is_same_sort, first_length, length_set, lengths_set, holds_at, last_length, length_at, kind_of_basic}
+use Rattle.pearl_names.specs.Lengths.{kind_of_basic}
 use Rattle.pearl_names.specs.Found.{sort_within}
 use Rattle.pearl_names.specs.ScopeNames.{ScopeNames}
 use Rattle.pearl_names.specs.Scopes.{Meaning, Entry, Scope, scopes_of}
@@ -28,7 +23,9 @@ use Rattle.pearl_names.specs.Layout.{Leaf, leaves_of, leaves_of_fields, is_sound
 use Rattle.pearl_names.specs.Known.{Known, known_of, around}
 use Rattle.pearl_names.specs.Tables.{Sense, sound_form, sense_of, senses_of, senses_in, table_of, leaves_in}
 use Rattle.pearl_resolve_tables.specs.Laying.{leaves_of_sense}
-use Rattle.pearl_sound_data.proofs.Faults.{both, all_append, all_taken}
+use Rattle.pearl_sound.specs.SoundForms.{IsKindIf}
+use Rattle.pearl_sound.proofs.Offered.{AreSet, all_set, basic_there}
+use Rattle.pearl_sound_data.proofs.Faults.{all_append, all_taken}
 
 -- a property of what is there
 abbrev pub IfThere : {X : Type 0} → (X → Type 0) → Option X → Type 0
@@ -36,61 +33,12 @@ IfThere P None = Unit {0}
 IfThere P (Some x) = P x
 
 -- kinds
-abbrev IsSet : DefaultLength → Type 0
-IsSet default = is_length default.sort default.len ≡ true
-
-abbrev pub AreSet : List DefaultLength → Type 0
-AreSet lengths = AllByRecursion IsSet lengths
-
-decl_set : (decl : ShownDecl) → AreSet (length_set decl)
-decl_set (OfLength sort number place) = by (is_length sort number.value) refl
-  where
-    by : (test : Bool) → is_length sort number.value ≡ test →
-        AreSet (if test then record { place = place; sort = sort; len = number.value } ∷ [] else [])
-    by true e = (e, tt)
-    by false e = tt
-decl_set decl = tt
-
-pub all_set : (declarations : List ShownDecl) → AreSet (lengths_set declarations)
-all_set [] = tt
-all_set (decl ∷ rest) = all_append IsSet (length_set decl) (lengths_set rest) (decl_set decl) (all_set rest)
-
-length_kind : (of : Sort) (len : ℕ) → is_length of len ≡ true → IsKind (kind_of_length of len)
-length_kind Fixed len is = let tests = both (nat_le 1 len) (nat_le len 63) is in let low = leb-true 1 len tests.0 in (omega (arith, low), leb-true len 63 tests.1)
-length_kind Bit len is = let tests = both (nat_le 1 len) (nat_le len 64) is in let low = leb-true 1 len tests.0 in (omega (arith, low), leb-true len 64 tests.1)
-length_kind Char len is = let tests = both (nat_le 1 len) (nat_le len 255) is in let low = leb-true 1 len tests.0 in (omega (arith, low), leb-true len 255 tests.1)
-
-same_sorts : (one two : Sort) → is_same_sort one two ≡ true → one ≡ two
-same_sorts Fixed Fixed is = refl
-same_sorts Bit Bit is = refl
-same_sorts Char Char is = refl
-same_sorts one two is = absurd (true≢false (sym is))
-
-last_set : (lengths : List DefaultLength) (len : ℕ) (of : Sort) (place : ℕ) → AreSet lengths → is_length of len ≡ true →
-    is_length of (last_length len lengths of place) ≡ true
-last_set [] len of place set is = is
-last_set (default ∷ rest) len of place set is =
-    last_set rest (if holds_at default of place then default.len else len) of place set.1 (by (holds_at default of place) refl)
-  where
-    by : (test : Bool) → holds_at default of place ≡ test → is_length of (if test then default.len else len) ≡ true
-    by true e = ap (λ s. is_length s default.len) (sym (same_sorts default.sort of (both (is_same_sort default.sort of) (nat_le default.place place) e).0)) ∙ set.0
-    by false e = is
-
-first_set : (of : Sort) → is_length of (first_length of) ≡ true
-first_set Fixed = refl
-first_set Bit = refl
-first_set Char = refl
-
-given_kind : (of : Sort) (len : ℕ) (test : Bool) → is_length of len ≡ test → IfThere IsKind (if test then Some (kind_of_length of len) else None)
-given_kind of len true is = length_kind of len is
-given_kind of len false is = tt
-
 pub basic_kind : (lengths : List DefaultLength) → AreSet lengths → (part : Basic) → IfThere IsKind (kind_of_basic lengths part)
-basic_kind lengths set (Sized of None place) =
-    length_kind of (length_at lengths of place) (last_set lengths (first_length of) of place set (first_set of))
-basic_kind lengths set (Sized of (Some number) place) = given_kind of number.value (is_length of number.value) refl
-basic_kind lengths set (Clock place) = tt
-basic_kind lengths set (Duration place) = tt
+basic_kind lengths set part = by (kind_of_basic lengths part) (basic_there lengths set part)
+  where
+    by : (kind : Option Kind) → IsKindIf kind → IfThere IsKind kind
+    by None is = tt
+    by (Some kind) is = is
 
 -- where the names of fields have a property
 module _ (P : List ℕ → Type 0) where
@@ -190,11 +138,7 @@ module _ (P : List ℕ → Type 0) where
 
   decl_has : (here : Around) → AreSet here.lengths → ShapesHave here.shapes → (decl : ShownDecl) → TypeHas decl → ShapesHave (decl_shapes here decl)
   decl_has here set all (OfType name part place) written = (shape_has here set all part written, tt)
-  decl_has here set all (OfLength sort number place) written = tt
-  decl_has here set all (OfDeclare declared place) written = tt
-  decl_has here set all (OfSpecify specs place) written = tt
-  decl_has here set all (OfTask name head body place) written = tt
-  decl_has here set all (OfProc name params returns body place) written = tt
+  decl_has here set all decl written = tt
 
   pub shapes_have : (names : List ScopeNames) (lengths : List DefaultLength) → AreSet lengths → (shapes : List (Option Shape)) (decls : List ShownDecl) →
       ShapesHave shapes → AllByRecursion TypeHas decls → ShapesHave (shapes_after names lengths shapes decls)
@@ -227,15 +171,9 @@ module _ (P : List ℕ → Type 0) where
       let here = around known scope types in
       form_has (sound_bounds item.bounds) (shape_of here item.part)
       (shape_has here set (all_taken (IfThere ShapeHas) types known.shapes all) item.part written)
-  sense_has known set all scope (scopes.Control loop) written = tt
-  sense_has known set all scope (scopes.Parameter part ident) written = tt
-  sense_has known set all scope (scopes.NewType number) written = tt
-  sense_has known set all scope scopes.Semaphore written = tt
-  sense_has known set all scope scopes.Interrupt written = tt
   sense_has known set all scope (scopes.Dation direction (class.Alphic place)) written = tt
-  sense_has known set all scope (scopes.Dation direction (class.Basic part place)) written = tt
-  sense_has known set all scope scopes.Task written = tt
-  sense_has known set all scope (scopes.Procedure params returns) written = tt
+  sense_has known set all scope (scopes.Dation direction (class.Basic basic place)) written = tt
+  sense_has known set all scope meaning written = tt
 
   abbrev pub EntryHas : Entry → Type 0
   EntryHas entry = MeaningHas entry.meaning
@@ -256,9 +194,8 @@ any_names (name ∷ names) = (tt, any_names names)
 
 mutual
   any_typing : (part : ShownTyping) → TypingHas Any part
-  any_typing (OfBasic part) = tt
   any_typing (OfStruct fields place) = any_fields fields
-  any_typing (OfNamed name) = tt
+  any_typing other = tt
 
   any_fields : (fields : ShownFields) → FieldsWritten Any fields
   any_fields NoFields = tt

@@ -1,21 +1,9 @@
 -- Lists of which all elements have a property, the greatest of a list, and two lists of which the elements suit one by one.
-use Rattle.std.specs.Prelude.{◌≡◌, ℕ, zero, suc, ◌≤◌, max, Bool, true, false, not, ◌&&◌, ◌||◌, if◌then◌else◌, List, [], ◌∷◌, ◌++◌, length, filter, Some, slice_get, unwrap_or}
-use Rattle.std.specs.List.{AllByRecursion, AllZip, flat_map}
-use Rattle.std.proofs.Common.{refl, ap, sym, subst, arith, true≢false}
+use Rattle.std.specs.Prelude.{◌≡◌, ℕ, zero, suc, ◌≤◌, max, Bool, true, false, if◌then◌else◌, List, [], ◌∷◌, ◌++◌, length, filter, Some, slice_get}
+use Rattle.std.specs.List.{AllByRecursion, AllZip}
+use Rattle.std.proofs.Common.{refl, ap, subst, arith}
 use Rattle.std.proofs.lemmas.Option.{none-some}
-use Rattle.pearl_tree.specs.declared.fault.RuleFault.{RuleFault}
-use Rattle.pearl_tree.specs.Faults.{fault_if}
-
-pub some_one : {X : Type 0} {x y : X} → Some x ≡ Some y → x ≡ y
-some_one {x = x} same = ap (λ o. unwrap_or o x) same
-
-pub all_append : {X : Type 0} (P : X → Type 0) (xs ys : List X) → AllByRecursion P xs → AllByRecursion P ys → AllByRecursion P (xs ++ ys)
-all_append P [] ys one two = two
-all_append P (x ∷ xs) ys one two = (one.0, all_append P xs ys one.1 two)
-
-pub split_all : {X : Type 0} (P : X → Type 0) (xs ys : List X) → AllByRecursion P (xs ++ ys) → AllByRecursion P xs × AllByRecursion P ys
-split_all P [] ys all = (tt, all)
-split_all P (x ∷ xs) ys all = let more = split_all P xs ys all.1 in ((all.0, more.0), more.1)
+pub use Rattle.pearl_sound.proofs.Offered.{some_one, all_append, split_all, all_at, left_none, right_none, not_broken, really, both, neither, each_none}
 
 pub all_as : {X : Type 0} (P Q : X → Type 0) → ((x : X) → P x → Q x) → (xs : List X) → AllByRecursion P xs → AllByRecursion Q xs
 all_as P Q more [] all = tt
@@ -28,40 +16,6 @@ all_filtered P p (x ∷ xs) all = by (p x) (all_filtered P p xs all.1)
     by : (test : Bool) → AllByRecursion P (filter p xs) → AllByRecursion P (if test then x ∷ filter p xs else filter p xs)
     by true more = (all.0, more)
     by false more = more
-
-pub all_at : {X : Type 0} (P : X → Type 0) (xs : List X) (i : ℕ) (x : X) → AllByRecursion P xs → slice_get xs i ≡ Some x → P x
-all_at P [] i x all is = absurd (none-some x is)
-all_at P (first ∷ rest) zero x all is = subst P (some_one is) all.0
-all_at P (first ∷ rest) (suc i) x all is = all_at P rest i x all.1 is
-
--- lists without faults
-pub left_none : (xs ys : List RuleFault) → xs ++ ys ≡ [] → xs ≡ []
-left_none [] ys none = refl
-left_none (x ∷ xs) ys none = let more = ap (λ (faults : List RuleFault). length faults) none in absurd (omega (arith, more))
-
-pub right_none : (xs ys : List RuleFault) → xs ++ ys ≡ [] → ys ≡ []
-right_none [] ys none = none
-right_none (x ∷ xs) ys none = let more = ap (λ (faults : List RuleFault). length faults) none in absurd (omega (arith, more))
-
-pub not_broken : (broken : Bool) (place of : ℕ) → fault_if broken place of ≡ [] → broken ≡ false
-not_broken true place of none = let more = ap (λ (faults : List RuleFault). length faults) none in absurd (omega (arith, more))
-not_broken false place of none = refl
-
-pub really : (b : Bool) → not b ≡ false → b ≡ true
-really true is = refl
-really false is = absurd (true≢false is)
-
-pub both : (a b : Bool) → (a && b) ≡ true → (a ≡ true) × (b ≡ true)
-both true b is = (refl, is)
-both false b is = absurd (true≢false (sym is))
-
-pub neither : (a b : Bool) → (a || b) ≡ false → (a ≡ false) × (b ≡ false)
-neither true b is = absurd (true≢false is)
-neither false b is = (refl, is)
-
-pub each_none : {X : Type 0} (f : X → List RuleFault) (xs : List X) → flat_map f xs ≡ [] → AllByRecursion (λ x. f x ≡ []) xs
-each_none f [] none = tt
-each_none f (x ∷ xs) none = (left_none (f x) (flat_map f xs) none, each_none f xs (right_none (f x) (flat_map f xs) none))
 
 -- the greatest of what the elements have
 abbrev pub most : {X : Type 0} → (X → ℕ) → List X → ℕ

@@ -1,7 +1,7 @@
 -- The number of a procedure that a name calls is the one that is given to it.
-use Rattle.std.specs.Prelude.{◌≡◌, ℕ, zero, suc, ◌+◌, Bool, true, false, if◌then◌else◌, List, [], ◌∷◌, ◌++◌, map, filter, Option, Some, None, option_map, unwrap_or, slice_get}
+use Rattle.std.specs.Prelude.{◌≡◌, ℕ, suc, ◌+◌, Bool, true, false, if◌then◌else◌, List, [], ◌∷◌, ◌++◌, map, filter, Option, Some, None, option_map, unwrap_or, slice_get}
 use Rattle.std.specs.Option.{option_and_then}
-use Rattle.std.specs.List.{AllByRecursion, flat_map}
+use Rattle.std.specs.List.{flat_map}
 use Rattle.std.specs.Str.{bytes_eq}
 use Rattle.std.proofs.Common.{refl, ap, ◌∙◌, sym, subst, arith, true≢false}
 use Rattle.std.proofs.lemmas.List.{map-append}
@@ -11,22 +11,20 @@ use Rattle.std.proofs.lemmas.Option.{none-some}
 use Rattle.pearl_tree.specs.declared.name.Name.{Name}
 use Rattle.pearl_tree.specs.declared.declaration.Class.TheVariants as class
 use Rattle.pearl_tree.specs.Names.{name_text, names_of}
-use Rattle.pearl_tree.specs.ShownDeclarations.{ShownItem, ShownParam, ShownDeclared, OfItem, OfSema, ShownSpec, OfInterrupt, OfDation}
-use Rattle.pearl_tree.specs.ShownStatements as shown
-use Rattle.pearl_tree.specs.ShownStatements.{ShownBodyDecl, ShownStmt, ShownStmts, ShownBranches, ShownOtherwise}
-use Rattle.pearl_tree.specs.ShownModules.{ShownBody, ShownDecl, OfLength, OfType, OfDeclare, OfSpecify, OfTask, OfProc, ShownTree}
+use Rattle.pearl_tree.specs.ShownDeclarations.{ShownDeclared, OfItem, OfSema, ShownSpec, OfInterrupt, OfDation}
+use Rattle.pearl_tree.specs.ShownModules.{ShownDecl, OfDeclare, OfSpecify, ShownTree}
 use Rattle.pearl_names.specs.declared.meaning.Found.{Found}
 use Rattle.pearl_names.specs.declared.scope.SortedName.{SortedName}
 use Rattle.pearl_names.specs.declared.scope.View.{View}
 use Rattle.pearl_names.specs.declared.scope.View.TheVariants.{Within, WhileOf}
 use Rattle.pearl_names.specs.FirstNames.{first_index}
-use Rattle.pearl_names.specs.Found.{names_in, outer_of, found_in, found_through, found_from, is_control_sort, is_control}
+use Rattle.pearl_names.specs.Found.{names_in, outer_of, found_through, found_from, is_control_sort, is_control}
 use Rattle.pearl_names.specs.Known.{Known, known_of}
 use Rattle.pearl_names.specs.ScopeNames.{ScopeNames}
-use Rattle.pearl_names.specs.Scopes.{Meaning, Entry, Scope, as_stmts, entries_as, item_entries, body_decl_entries, body_entries, param_entries, control_entries, declared_entries, spec_entries, decl_entries, decls_entries, scopes_in, scopes_in_all, scopes_in_branches, scopes_in_decl, types_in, stmt_scopes, all_scopes, branch_scopes, otherwise_scopes, routine_scopes, decl_scopes, decls_scopes}
+use Rattle.pearl_names.specs.Scopes.{Meaning, Entry, entries_as, declared_entries, spec_entries, decl_entries, decls_entries, scopes_in_decl, types_in}
 use Rattle.pearl_names.specs.Scopes as scopes
 use Rattle.pearl_names.specs.Sorts.{sorted_names, names_of_scopes}
-use Rattle.pearl_names.specs.Tables.{Sense, sense_of, senses_of, senses_in, sense_at, table_of}
+use Rattle.pearl_names.specs.Tables.{Sense, sense_of, senses_of, sense_at, table_of}
 use Rattle.pearl_names.proofs.Offered.{bytes_symm}
 use Rattle.pearl_system.specs.declared.device.SpecifiedDevice.{SpecifiedDevice}
 use Rattle.pearl_check.specs.Calls as calls
@@ -36,28 +34,8 @@ use Rattle.pearl_check.specs.Views.{seen, is_procedure_sense}
 use Rattle.pearl_resolve.specs.Numbers.{Before, behind, module_numbers, nothing_before}
 use Rattle.pearl_resolve.specs.Expressions.{Numbered, Meant, meant_at, number_at, number_of}
 use Rattle.pearl_resolve.specs.Resolve.{numbered_of}
-use Rattle.pearl_sound_sizes.proofs.Basics.{some_one, all_append, both}
-
--- what is found is the first of the name in its scope
-abbrev HasFound : List ScopeNames → List ℕ → Found → Type 0
-HasFound names text found = first_index (names_in (slice_get names found.scope)) text ≡ Some found.entry
-
-found_here : (names : List ScopeNames) (text : List ℕ) (n : ℕ) (outer : Option Found) (found : Found) → (outer ≡ Some found → HasFound names text found) →
-    (entry : Option ℕ) → first_index (names_in (slice_get names n)) text ≡ entry → found_in n entry outer ≡ Some found → HasFound names text found
-found_here names text n outer found more None at is = more is
-found_here names text n outer found more (Some entry) at is = subst (HasFound names text) (some_one is) at
-
-no_way : (names : List ScopeNames) (steps : ℕ) (text : List ℕ) → found_through steps names text None ≡ None
-no_way names zero text = refl
-no_way names (suc steps) text = refl
-
-found_text : (names : List ScopeNames) (steps : ℕ) (text : List ℕ) (from : Option ℕ) (found : Found) → found_through steps names text from ≡ Some found →
-    HasFound names text found
-found_text names steps text None found is = absurd (none-some found (sym (no_way names steps text) ∙ is))
-found_text names zero text (Some n) found is = absurd (none-some found is)
-found_text names (suc steps) text (Some n) found is =
-    found_here names text n (found_through steps names text (outer_of (slice_get names n))) found
-    (λ is. found_text names steps text (outer_of (slice_get names n)) found is) (first_index (names_in (slice_get names n)) text) refl is
+use Rattle.pearl_sound.proofs.Offered.{HasFound, found_text, IsInner, IsOfModule, scope_of_module}
+use Rattle.pearl_sound_sizes.proofs.Basics.{some_one, both}
 
 -- a control variable is the first name of its scope
 control_first : (entries : List SortedName) (text : List ℕ) → is_control entries text ≡ true → first_index entries text ≡ Some 0
@@ -76,126 +54,16 @@ found_first : (names : List ScopeNames) (view : View) (text : List ℕ) (found :
 found_first names (Within n) text found is = found_text names (suc n) text (Some n) found is
 found_first names (WhileOf n) text found is = found_in_loop names n text found (is_control (names_in (slice_get names n)) text) refl is
 
--- inner scopes declare no procedure
-abbrev IsInner : Entry → Type 0
-IsInner entry = by entry.meaning
-  where
-    by : Meaning → Type 0
-    by (scopes.Variable item types) = Unit {0}
-    by (scopes.Control loop) = Unit {0}
-    by (scopes.Parameter part ident) = Unit {0}
-    by meaning = ⊥
-
-abbrev AreInner : List Entry → Type 0
-AreInner entries = AllByRecursion IsInner entries
-
-abbrev IsInnerScope : Scope → Type 0
-IsInnerScope scope = AreInner scope.entries
-
-abbrev AreInnerScopes : List Scope → Type 0
-AreInnerScopes list = AllByRecursion IsInnerScope list
-
-variables_inner : (types : ℕ) (item : ShownItem) (names : List Name) → AreInner (entries_as (scopes.Variable item types) names)
-variables_inner types item [] = tt
-variables_inner types item (name ∷ names) = (tt, variables_inner types item names)
-
-items_inner : (types : ℕ) (items : List ShownItem) → AreInner (flat_map (item_entries types) items)
-items_inner types [] = tt
-items_inner types (item ∷ rest) =
-    all_append IsInner (item_entries types item) (flat_map (item_entries types) rest) (variables_inner types item (names_of item.names)) (items_inner types rest)
-
-body_inner : (types : ℕ) (declarations : List ShownBodyDecl) → AreInner (body_entries types declarations)
-body_inner types [] = tt
-body_inner types (declaration ∷ rest) =
-    all_append IsInner (body_decl_entries types declaration) (body_entries types rest) (items_inner types declaration.items) (body_inner types rest)
-
-loop_inner : (place : ℕ) (control : Option Name) (entries : List Entry) → AreInner entries → AreInner (control_entries place control ++ entries)
-loop_inner place None entries inner = inner
-loop_inner place (Some name) entries inner = (tt, inner)
-
-parameters_inner : (param : ShownParam) (names : List Name) → AreInner (entries_as (scopes.Parameter param.basic param.ident) names)
-parameters_inner param [] = tt
-parameters_inner param (name ∷ names) = (tt, parameters_inner param names)
-
-params_inner : (params : List ShownParam) → AreInner (flat_map param_entries params)
-params_inner [] = tt
-params_inner (param ∷ rest) =
-    all_append IsInner (param_entries param) (flat_map param_entries rest) (parameters_inner param (names_of param.names)) (params_inner rest)
-
-mutual
-  stmt_inner : (types scope next : ℕ) (s : ShownStmt) → AreInnerScopes (stmt_scopes types scope next s)
-  stmt_inner types scope next (shown.OfIf condition statements otherwise place) =
-      all_append IsInnerScope (all_scopes types scope next statements) (otherwise_scopes types scope (next + scopes_in_all statements) otherwise)
-      (all_inner types scope next statements) (otherwise_inner types scope (next + scopes_in_all statements) otherwise)
-  stmt_inner types scope next (shown.OfCase selector alternatives otherwise place) =
-      all_append IsInnerScope (branch_scopes types scope next alternatives) (otherwise_scopes types scope (next + scopes_in_branches alternatives) otherwise)
-      (branches_inner types scope next alternatives) (otherwise_inner types scope (next + scopes_in_branches alternatives) otherwise)
-  stmt_inner types scope next (shown.OfRepeat control begin step last condition declarations statements body_place place) =
-      (loop_inner place control (body_entries types declarations) (body_inner types declarations), all_inner types next (next + 1) statements)
-  stmt_inner types scope next (shown.OfBegin declarations statements body_place place) =
-      (body_inner types declarations, all_inner types next (next + 1) statements)
-  stmt_inner types scope next statement = tt
-
-  all_inner : (types scope next : ℕ) (statements : ShownStmts) → AreInnerScopes (all_scopes types scope next statements)
-  all_inner types scope next shown.NoStmts = tt
-  all_inner types scope next (shown.MoreStmts s rest) =
-      all_append IsInnerScope (stmt_scopes types scope next s) (all_scopes types scope (next + scopes_in s) rest) (stmt_inner types scope next s)
-      (all_inner types scope (next + scopes_in s) rest)
-
-  branches_inner : (types scope next : ℕ) (branches : ShownBranches) → AreInnerScopes (branch_scopes types scope next branches)
-  branches_inner types scope next shown.NoBranches = tt
-  branches_inner types scope next (shown.MoreBranches statements place rest) =
-      all_append IsInnerScope (all_scopes types scope next statements) (branch_scopes types scope (next + scopes_in_all statements) rest)
-      (all_inner types scope next statements) (branches_inner types scope (next + scopes_in_all statements) rest)
-
-  otherwise_inner : (types scope next : ℕ) (otherwise : ShownOtherwise) → AreInnerScopes (otherwise_scopes types scope next otherwise)
-  otherwise_inner types scope next shown.NoOtherwise = tt
-  otherwise_inner types scope next (shown.OfOtherwise statements place) = all_inner types scope next statements
-
-routine_inner : (types next : ℕ) (params : List ShownParam) (body : ShownBody) → AreInnerScopes (routine_scopes types next params body)
-routine_inner types next params body = (
-  all_append IsInner (flat_map param_entries params) (body_entries types body.declarations) (params_inner params) (body_inner types body.declarations),
-  all_inner types next (next + 1) (as_stmts body.statements),
-)
-
-decl_inner : (types next : ℕ) (decl : ShownDecl) → AreInnerScopes (decl_scopes types next decl)
-decl_inner types next (OfTask name head body place) = routine_inner types next [] body
-decl_inner types next (OfProc name params returns body place) = routine_inner types next params body
-decl_inner types next decl = tt
-
-decls_inner : (types next : ℕ) (decls : List ShownDecl) → AreInnerScopes (decls_scopes types next decls)
-decls_inner types next [] = tt
-decls_inner types next (decl ∷ rest) =
-    all_append IsInnerScope (decl_scopes types next decl) (decls_scopes (types + types_in decl) (next + scopes_in_decl decl) rest) (decl_inner types next decl)
-    (decls_inner (types + types_in decl) (next + scopes_in_decl decl) rest)
-
-no_procedure : (known : Known) (n : ℕ) (meaning : Meaning) (name : Name) → IsInner (record { name = name; meaning = meaning }) →
-    is_procedure_sense (Some (sense_of known n meaning)) ≡ false
-no_procedure known n (scopes.Variable item types) name inner = refl
-no_procedure known n (scopes.Control loop) name inner = refl
-no_procedure known n (scopes.Parameter part ident) name inner = refl
-no_procedure known n meaning name inner = absurd inner
-
-none_among : (known : Known) (n : ℕ) (entries : List Entry) → AreInner entries → (j : ℕ) →
-    is_procedure_sense (slice_get (senses_of known n entries) j) ≡ false
-none_among known n [] inner j = refl
-none_among known n (entry ∷ rest) inner zero = no_procedure known n entry.meaning entry.name inner.0
-none_among known n (entry ∷ rest) inner (suc j) = none_among known n rest inner.1 j
-
-none_within : (known : Known) (n : ℕ) (list : List Scope) → AreInnerScopes list → (i j : ℕ) →
-    is_procedure_sense (option_and_then (λ senses. slice_get senses j) (slice_get (senses_in known n list) i)) ≡ false
-none_within known n [] inner i j = refl
-none_within known n (scope ∷ rest) inner zero j = none_among known n scope.entries inner.0 j
-none_within known n (scope ∷ rest) inner (suc i) j = none_within known (n + 1) rest inner.1 i j
-
 -- in the module's own scope
-procedure_scope : (tree : ShownTree) (found : Found) → is_procedure_sense (sense_at (table_of tree).senses found) ≡ true → found.scope ≡ 0
-procedure_scope tree found is = by found.scope is
+procedures_of_module : IsOfModule is_procedure_sense
+procedures_of_module = record { nothing = refl; inner = no_procedure }
   where
-    by : (scope : ℕ) → is_procedure_sense (option_and_then (λ senses. slice_get senses found.entry) (slice_get (table_of tree).senses scope)) ≡ true → scope ≡ 0
-    by zero is = refl
-    by (suc i) is =
-        absurd (true≢false (sym is ∙ none_within (known_of tree) 1 (decls_scopes 0 1 tree.declarations) (decls_inner 0 1 tree.declarations) i found.entry))
+    no_procedure : (known : Known) (n : ℕ) (meaning : Meaning) (name : Name) → IsInner (record { name = name; meaning = meaning }) →
+        is_procedure_sense (Some (sense_of known n meaning)) ≡ false
+    no_procedure known n (scopes.Variable item types) name inner = refl
+    no_procedure known n (scopes.Control loop) name inner = refl
+    no_procedure known n (scopes.Parameter part ident) name inner = refl
+    no_procedure known n meaning name inner = absurd inner
 
 -- the procedures among some names
 abbrev pub procedure_name : Entry → List Name
@@ -237,15 +105,9 @@ module _ (devices : List SpecifiedDevice) (numbers : List ℕ) (known : Known) (
         number = let more : from.procedures ≡ from.procedures + 0 = omega arith in
             ap (λ n. Some (unwrap_or (slice_get numbers n) 0)) more;
       }
-      by (scopes.Variable item types) is = absurd (true≢false (sym is))
-      by (scopes.Control loop) is = absurd (true≢false (sym is))
-      by (scopes.Parameter part ident) is = absurd (true≢false (sym is))
-      by (scopes.NewType number) is = absurd (true≢false (sym is))
-      by scopes.Semaphore is = absurd (true≢false (sym is))
-      by scopes.Interrupt is = absurd (true≢false (sym is))
       by (scopes.Dation direction (class.Alphic at)) is = absurd (true≢false (sym is))
       by (scopes.Dation direction (class.Basic part at)) is = absurd (true≢false (sym is))
-      by scopes.Task is = absurd (true≢false (sym is))
+      by meaning is = absurd (true≢false (sym is))
 
   -- one behind an entry of another name
   later_called : (from : Before) (entry : Entry) (rest : List Entry) (i : ℕ) → bytes_eq (name_text name) (name_text entry.name) ≡ false →
@@ -335,12 +197,9 @@ names_both one two =
     map-append (λ (routine : Routine). routine.name) (filter is_procedure one) (filter is_procedure two)
 
 decl_names : (types next : ℕ) (decl : ShownDecl) → procedures_among (decl_entries types decl) ≡ procedure_names (decl_routines next decl)
-decl_names types next (OfLength sort number place) = refl
-decl_names types next (OfType name part place) = refl
 decl_names types next (OfDeclare parts place) = declared_none types parts
 decl_names types next (OfSpecify specs place) = specs_none specs
-decl_names types next (OfTask name head body place) = refl
-decl_names types next (OfProc name params returns body place) = refl
+decl_names types next decl = refl
 
 decls_names : (types next : ℕ) (decls : List ShownDecl) → procedures_among (decls_entries types decls) ≡ procedure_names (decls_routines next decls)
 decls_names types next [] = refl
@@ -390,7 +249,7 @@ module _ (tree : ShownTree) (devices : List SpecifiedDevice) (procedures : List 
   found_number name (Some found) first is =
       let entries = decls_entries 0 tree.declarations in
       let known = known_of tree in
-      let outer = procedure_scope tree found is in
+      let outer = scope_of_module is_procedure_sense procedures_of_module tree found is in
       let index = in_module name found outer (first found refl) in
       let sense = subst (λ n. is_procedure_sense (option_and_then (λ senses. slice_get senses found.entry) (slice_get numbered.table.senses n)) ≡ true) outer is in
       let called = entry_called devices procedures known name entries nothing_before found.entry index sense in

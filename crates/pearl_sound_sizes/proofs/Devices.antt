@@ -77,9 +77,7 @@ code device = 99 * rank device.role + device.number
 
 rank_small : (of : Role) → rank of ≤ 3
 rank_small role.Interrupt = omega arith
-rank_small (role.Terminal direction) = omega arith
-rank_small (role.Input basic) = omega arith
-rank_small (role.Output basic) = omega arith
+rank_small other = omega arith
 
 code_rises : (one other : SpecifiedDevice) → IsNumbered one → IsNumbered other → IsLess (device_key one) (device_key other) → code one + 1 ≤ code other
 code_rises one other first second (inl less) = let a = first.1 in let b = second.0 in omega (arith, less, a, b)

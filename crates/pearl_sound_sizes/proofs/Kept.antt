@@ -3,7 +3,7 @@
 use Rattle.std.specs.Prelude.{◌≡◌, ℕ, zero, suc, ◌+◌, true, false, List, [], ◌∷◌, ◌++◌, map, Option, Some, None, option_map, is_none, slice_get}
 use Rattle.std.specs.Option.{option_and_then}
 use Rattle.std.specs.List.{AllByRecursion, flat_map}
-use Rattle.std.proofs.Common.{refl, ap, ◌∙◌, sym, subst, true≢false}
+use Rattle.std.proofs.Common.{refl, ap, ◌∙◌, subst, true≢false}
 use Rattle.std.proofs.lemmas.Option.{none-some}
 use Rattle.pearl_tree.specs.declared.fault.RuleFault.{RuleFault}
 use Rattle.pearl_tree.specs.declared.name.Name.{Name}
@@ -13,21 +13,20 @@ use Rattle.pearl_tree.specs.Names.{name_text}
 use Rattle.pearl_tree.specs.ShownExpressions.{ShownExpr, ShownExprs, ShownRef}
 use Rattle.pearl_tree.specs.ShownStatements as shown
 use Rattle.pearl_tree.specs.ShownStatements.{ShownPeriod, ShownStart, ShownOnce, ShownStmt}
-use Rattle.pearl_tree.specs.ShownModules.{ShownBody, ShownDecl, OfLength, OfType, OfDeclare, OfSpecify, OfTask, OfProc, ShownTree}
+use Rattle.pearl_tree.specs.ShownModules.{ShownTree}
 use Rattle.pearl_names.specs.declared.meaning.Found.{Found}
 use Rattle.pearl_names.specs.declared.scope.SortedName.{SortedName}
 use Rattle.pearl_names.specs.declared.scope.View.{View}
 use Rattle.pearl_names.specs.declared.scope.View.TheVariants.{Within}
 use Rattle.pearl_names.specs.Found.{names_in, found_from, sort_at, sort_from}
 use Rattle.pearl_names.specs.Known.{Known, known_of}
-use Rattle.pearl_names.specs.Scopes.{Entry, Scope, as_stmts, scopes_of, scopes_in_decl, types_in}
+use Rattle.pearl_names.specs.Scopes.{Entry, Scope, scopes_of}
 use Rattle.pearl_names.specs.Sorts.{sorted_name, sorted_names, scope_names, names_of_scopes}
-use Rattle.pearl_names.specs.Tables.{Sense, Variable, Control, OwnParameter, NewType, Semaphore, Interrupt, AlphicDation, BasicDation, Task, Procedure, Table, sense_of, senses_in, sense_at, sense_from, table_of}
-use Rattle.pearl_scope.specs.Parts.{Part, Used, basic_parts, body_decl_parts, param_parts, parts_if, all_parts, body_parts, decl_parts, decls_parts, parts_of}
-use Rattle.pearl_scope.specs.Placed.{Placed, placed_body, parts_at}
+use Rattle.pearl_names.specs.Tables.{Sense, Semaphore, Task, Procedure, Table, sense_of, senses_in, sense_at, sense_from, table_of}
+use Rattle.pearl_scope.specs.Parts.{Used, parts_of}
+use Rattle.pearl_scope.specs.Placed.{Placed, parts_at}
 use Rattle.pearl_scope.specs.Rules.{s1, part_faults, faults_in}
 use Rattle.pearl_scope.specs.Rules as names
-use Rattle.pearl_scope.proofs.Offered.{all_placed}
 use Rattle.pearl_system.specs.Rules as devices
 use Rattle.pearl_check_expr.specs.Judged.{judged_all}
 use Rattle.pearl_check_expr.specs.Senses.{callee_of}
@@ -38,13 +37,14 @@ use Rattle.pearl_check.specs.declared.asked.Role.TheVariants.{Plain, Condition, 
 use Rattle.pearl_check.specs.declared.asked.NameRole.{NameRole}
 use Rattle.pearl_check.specs.declared.asked.NameRole.TheVariants as name_role
 use Rattle.pearl_check.specs.Asked as asking
-use Rattle.pearl_check.specs.Asked.{Asked, Subject, Named, value, value_if, target, as_exprs, asked_at, stmt_asked, start_asked, period_asked, once_asked, period_end_asked, loop_asked}
+use Rattle.pearl_check.specs.Asked.{Asked, Subject, Named, value, value_if, target, as_exprs, asked_at, stmt_asked, start_asked, period_asked, once_asked, period_end_asked}
 use Rattle.pearl_check.specs.Roles.{asked_faults, role_faults}
 use Rattle.pearl_check.specs.Roles as roles
-use Rattle.pearl_check.specs.Routines.{Routine, decl_routines, decls_routines, routines_of, statements_of}
+use Rattle.pearl_check.specs.Routines.{Routine, routines_of, statements_of}
 use Rattle.pearl_check.specs.Rules.{s30, own_faults, statement_faults, routine_faults, statements_broken, whole_broken, all_broken}
 use Rattle.pearl_check.specs.Views.{seen, is_procedure_sense}
-use Rattle.pearl_sound_sizes.proofs.Basics.{all_append, split_all, left_none, right_none, not_broken}
+use Rattle.pearl_sound.proofs.Offered.{IsUnbroken, AreUnbroken, all_unbroken, decls_hold}
+use Rattle.pearl_sound_sizes.proofs.Basics.{all_append, left_none, right_none, not_broken}
 
 -- what is asked for, where a call statement names a procedure
 abbrev pub CallsProcedure : Table → Asked → Type 0
@@ -92,8 +92,7 @@ module _ (table : Table) where
 
   once_calls : (scope : ℕ) (once : ShownOnce) → AllCall table (once_asked scope once)
   once_calls scope (shown.OnceAt time place) = (tt, tt)
-  once_calls scope (shown.OnceAfter duration place) = (tt, tt)
-  once_calls scope (shown.OnceWhen interrupt place) = (tt, tt)
+  once_calls scope other = (tt, tt)
 
   once_if_calls : (scope : ℕ) (once : Option ShownOnce) → AllCall table (asking.if_there (once_asked scope) once)
   once_if_calls scope None = tt
@@ -116,7 +115,6 @@ module _ (table : Table) where
   targets_call scope (reference ∷ targets) rest all = (tt, targets_call scope targets rest all)
 
   stmt_calls : (scope next : ℕ) (s : ShownStmt) → CallKept table scope s → AllCall table (stmt_asked scope next s)
-  stmt_calls scope next (shown.OfEmpty place) kept = tt
   stmt_calls scope next (shown.OfAssign reference e place) kept = (tt, (tt, tt))
   stmt_calls scope next (shown.OfCall call name arguments place) kept = (kept, tt)
   stmt_calls scope next (shown.OfIf condition statements rest place) kept = (tt, tt)
@@ -127,8 +125,6 @@ module _ (table : Table) where
       (value_if_calls Count scope begin)
       (all_append (CallsProcedure table) (value_if Count scope step) (value_if Count scope end ++ inner) (value_if_calls Count scope step)
       (all_append (CallsProcedure table) (value_if Count scope end) inner (value_if_calls Count scope end) (while_calls next condition)))
-  stmt_calls scope next (shown.OfExit place) kept = tt
-  stmt_calls scope next (shown.OfBegin declarations statements body_place place) kept = tt
   stmt_calls scope next (shown.OfReturn e place) kept = value_if_calls Plain scope e
   stmt_calls scope next (shown.OfActivate start task priority place) kept =
       all_append (CallsProcedure table) (asking.if_there (start_asked scope) start) (Named name_role.Task scope task ∷ value_if Priority scope priority)
@@ -143,21 +139,7 @@ module _ (table : Table) where
   stmt_calls scope next (shown.OfGet targets dation formats place) kept = targets_call scope targets (Named name_role.Dation scope dation ∷ []) (tt, tt)
   stmt_calls scope next (shown.OfSend e dation place) kept = (tt, (tt, tt))
   stmt_calls scope next (shown.OfTake reference dation place) kept = (tt, (tt, tt))
-
--- parts in which no rule on names is broken
-abbrev IsUnbroken : Known → Part → Type 0
-IsUnbroken known part = part_faults known part ≡ []
-
-abbrev AreUnbroken : Known → List Part → Type 0
-AreUnbroken known parts = AllByRecursion (IsUnbroken known) parts
-
-all_unbroken : (known : Known) (parts : List Part) → faults_in known parts ≡ [] → AreUnbroken known parts
-unfolding faults_in
-all_unbroken known [] none = tt
-all_unbroken known (part ∷ rest) none = (
-  left_none (part_faults known part) (flat_map (part_faults known) rest) none,
-  all_unbroken known rest (right_none (part_faults known part) (flat_map (part_faults known) rest) none),
-)
+  stmt_calls scope next statement kept = tt
 
 -- a name that is declared has a sense
 abbrev IsThere : {X : Type 0} → Option X → Type 0
@@ -207,15 +189,7 @@ not_uncalled parts place none = true≢false (not_broken true place rule.S16 (ri
 call_sense : (table : Table) (view : View) (name : Name) (exprs : ShownExprs) (sense : Sense) →
     (called_or_not table view name exprs (Some sense) (callee_of (Some sense))).faults ≡ [] → is_procedure_sense (Some sense) ≡ true
 call_sense table view name exprs (Procedure parameters result) none = refl
-call_sense table view name exprs (Variable form inv) none = absurd (not_uncalled (faults_of (judged_all table view exprs)) name.place none)
-call_sense table view name exprs (Control kind) none = absurd (not_uncalled (faults_of (judged_all table view exprs)) name.place none)
-call_sense table view name exprs (OwnParameter parameter) none = absurd (not_uncalled (faults_of (judged_all table view exprs)) name.place none)
-call_sense table view name exprs NewType none = absurd (not_uncalled (faults_of (judged_all table view exprs)) name.place none)
-call_sense table view name exprs Semaphore none = absurd (not_uncalled (faults_of (judged_all table view exprs)) name.place none)
-call_sense table view name exprs Interrupt none = absurd (not_uncalled (faults_of (judged_all table view exprs)) name.place none)
-call_sense table view name exprs (AlphicDation direction) none = absurd (not_uncalled (faults_of (judged_all table view exprs)) name.place none)
-call_sense table view name exprs (BasicDation direction kind) none = absurd (not_uncalled (faults_of (judged_all table view exprs)) name.place none)
-call_sense table view name exprs Task none = absurd (not_uncalled (faults_of (judged_all table view exprs)) name.place none)
+call_sense table view name exprs sense none = absurd (not_uncalled (faults_of (judged_all table view exprs)) name.place none)
 
 module _ (tree : ShownTree) where
   abbrev table : Table
@@ -249,45 +223,12 @@ module _ (tree : ShownTree) where
   abbrev IsNamed : Placed → Type 0
   IsNamed place = flat_map (asked_faults table) (asked_at place) ≡ [] → HasCalls place
 
-  places_named : (types : ℕ) (places : List Placed) → AreUnbroken known (flat_map (parts_at types) places) → AllByRecursion IsNamed places
-  places_named types [] kept = tt
-  places_named types (place ∷ rest) kept =
-      let split = split_all (IsUnbroken known) (parts_at types place) (flat_map (parts_at types) rest) kept in (
-        λ none. stmt_calls table place.spot.scope place.next place.statement (call_kept types place split.0 none),
-        places_named types rest split.1,
-      )
-
-  body_named : (types scope : ℕ) (body : ShownBody) → AreUnbroken known (body_parts types scope body) →
-      AllByRecursion IsNamed (placed_body scope (as_stmts body.statements))
-  body_named types scope body kept =
-      let statements = as_stmts body.statements in
-      let split = split_all (IsUnbroken known) (flat_map (body_decl_parts scope types) body.declarations) (all_parts types scope (scope + 1) statements) kept in
-      places_named types (placed_body scope statements)
-      (subst (AreUnbroken known) (sym (all_placed types (record { scope = scope; in_loop = false }) (scope + 1) statements)) split.1)
+  place_named : (types : ℕ) (place : Placed) → AreUnbroken known (parts_at types place) → IsNamed place
+  place_named types place kept none =
+      stmt_calls table place.spot.scope place.next place.statement (call_kept types place kept none)
 
   abbrev RoutineIsNamed : Routine → Type 0
   RoutineIsNamed routine = AllByRecursion IsNamed (statements_of routine)
-
-  decl_named : (types next : ℕ) (decl : ShownDecl) → AreUnbroken known (decl_parts types next decl) →
-      AllByRecursion RoutineIsNamed (decl_routines next decl)
-  decl_named types next (OfTask name head body place) kept = (body_named types next body kept, tt)
-  decl_named types next (OfProc name params returns body place) kept =
-      let outer = split_all (IsUnbroken known) (flat_map param_parts params) (parts_if basic_parts returns ++ body_parts types next body) kept in
-      let inner = split_all (IsUnbroken known) (parts_if basic_parts returns) (body_parts types next body) outer.1 in
-      (body_named types next body inner.1, tt)
-  decl_named types next (OfLength of number place) kept = tt
-  decl_named types next (OfType name part place) kept = tt
-  decl_named types next (OfDeclare parts place) kept = tt
-  decl_named types next (OfSpecify specs place) kept = tt
-
-  decls_named : (types next : ℕ) (decls : List ShownDecl) → AreUnbroken known (decls_parts types next decls) →
-      AllByRecursion RoutineIsNamed (decls_routines next decls)
-  decls_named types next [] kept = tt
-  decls_named types next (decl ∷ rest) kept =
-      let past = next + scopes_in_decl decl in
-      let more = types + types_in decl in
-      let split = split_all (IsUnbroken known) (decl_parts types next decl) (decls_parts more past rest) kept in
-      all_append RoutineIsNamed (decl_routines next decl) (decls_routines past rest) (decl_named types next decl split.0) (decls_named more past rest split.1)
 
   -- a routine in which no rule is broken
   pub record IsKept (routine : Routine) : Type 0 where
@@ -337,5 +278,5 @@ module _ (tree : ShownTree) where
     all_kept =
         let parts = all_unbroken known (parts_of tree)
         (right_none (flat_map s1 known.scopes) (faults_in known (parts_of tree)) no_name_broken) in
-        routines_kept (routines_of tree) (decls_named 0 1 tree.declarations parts)
+        routines_kept (routines_of tree) (decls_hold known IsNamed place_named 0 1 tree.declarations parts)
         (left_none (statements_broken table tree) (whole_broken tree) behind)

@@ -1,6 +1,5 @@
 mod Basics
 mod Measures
-mod Scopes
 mod MeasuredStatements
 mod Cells
 mod Called

@@ -3,15 +3,15 @@ use Rattle.std.specs.Prelude.{◌≡◌, ℕ, ◌+◌, ◌≤◌, max, Bool, tru
 use Rattle.std.proofs.Common.{refl, ap, ◌∙◌, arith}
 use Rattle.pearl_tree.specs.declared.name.Name.{Name}
 use Rattle.pearl_tree.specs.declared.statement.TaskWord.{TaskWord}
-use Rattle.pearl_tree.specs.declared.statement.TaskWord.TheVariants.{Suspend, Terminate, Prevent}
+use Rattle.pearl_tree.specs.declared.statement.TaskWord.TheVariants.{Suspend}
 use Rattle.pearl_tree.specs.declared.statement.SemaWord.{SemaWord}
 use Rattle.pearl_tree.specs.declared.statement.SemaWord.TheVariants.{Request, Release}
 use Rattle.pearl_tree.specs.declared.statement.InterruptWord.{InterruptWord}
-use Rattle.pearl_tree.specs.declared.statement.InterruptWord.TheVariants.{Enable, Disable, Trigger}
+use Rattle.pearl_tree.specs.declared.statement.InterruptWord.TheVariants.{Enable}
 use Rattle.pearl_tree.specs.Names.{names_of}
 use Rattle.pearl_tree.specs.ShownLiterals.{ShownConst}
 use Rattle.pearl_tree.specs.ShownExpressions as exprs
-use Rattle.pearl_tree.specs.ShownExpressions.{ShownExpr, ShownExprs, ShownRef}
+use Rattle.pearl_tree.specs.ShownExpressions.{ShownExpr, ShownRef}
 use Rattle.pearl_tree.specs.ShownDeclarations.{ShownItem}
 use Rattle.pearl_tree.specs.ShownStatements as shown
 use Rattle.pearl_tree.specs.ShownStatements.{ShownPeriodEnd, ShownPeriod, ShownStart, ShownOnce, ShownBodyDecl, ShownStmt, ShownStmts, ShownBranches, ShownOtherwise}
@@ -25,7 +25,7 @@ use Rattle.pearl_check.specs.declared.asked.Role.{Role}
 use Rattle.pearl_check.specs.declared.asked.Role.TheVariants.{Plain, Condition, Count, Moment, Lapse, Priority}
 use Rattle.pearl_check.specs.declared.asked.NameRole.TheVariants as name_role
 use Rattle.pearl_check.specs.Asked as asking
-use Rattle.pearl_check.specs.Asked.{Asked, Subject, Named, value, value_if, target, as_exprs, asked_at, start_asked, period_asked, once_asked, period_end_asked, loop_asked}
+use Rattle.pearl_check.specs.Asked.{Asked, Subject, Named, value, value_if, target, as_exprs, asked_at, start_asked, period_asked, once_asked, period_end_asked}
 use Rattle.pearl_check.specs.Calls.{subject_pieces}
 use Rattle.pearl_check.specs.Pieces.{exprs_pieces}
 use Rattle.pearl_check.specs.Views.{view_of}
@@ -38,7 +38,7 @@ use Rattle.pearl_resolve.specs.Expressions.{Numbered, Meant, meant, number_of, p
 use Rattle.pearl_resolve.specs.Statements.{value_in, listed, values_in, arguments_in, or_no_params, period_end_in, period_in, when_in, start_in, start_in_if, period_of, period_of_if, once_in, on_task, on_semaphores, on_interrupt, renewals, joined, variable_renewals, slots_of_meant, names_renewals, items_renewals, declared_renewals, resolve_stmt, resolve_all, resolve_branches, resolve_otherwise}
 use Rattle.pearl_sound_sizes.proofs.Basics.{most, most_append}
 use Rattle.pearl_sound_sizes.proofs.Measures.{IsMeasure, pieces_size, expr_size, begun_size, arguments_size}
-use Rattle.pearl_sound_sizes.proofs.Scopes.{stmt_past, all_past, branches_past}
+use Rattle.pearl_sound.proofs.Offered.{One, Each, Branches, goes}
 
 same_listed : (exprs : List ShownExpr) → listed exprs ≡ as_exprs exprs
 same_listed [] = refl
@@ -239,8 +239,7 @@ module _ (sizes : Sizes) (is : IsMeasure sizes) (numbered : Numbered) where
 
   on_task_none : (word : TaskWord) (task : Option ℕ) → greatest sizes (on_task word task) ≡ 0
   on_task_none Suspend task = refl
-  on_task_none Terminate task = refl
-  on_task_none Prevent task = refl
+  on_task_none other task = refl
 
   on_semaphores_none : (word : SemaWord) (semaphores : List ℕ) → greatest sizes (on_semaphores word semaphores) ≡ 0
   on_semaphores_none Request semaphores = refl
@@ -248,13 +247,11 @@ module _ (sizes : Sizes) (is : IsMeasure sizes) (numbered : Numbered) where
 
   on_interrupt_none : (word : InterruptWord) (interrupt : ℕ) → greatest sizes (on_interrupt word interrupt) ≡ 0
   on_interrupt_none Enable interrupt = refl
-  on_interrupt_none Disable interrupt = refl
-  on_interrupt_none Trigger interrupt = refl
+  on_interrupt_none other interrupt = refl
 
   mutual
     stmt_most : (spot : Spot) (at : At) (s : ShownStmt) →
         greatest_of_all sizes (resolve_stmt numbered spot.scope at s) ≤ most (place_size sizes numbered) (placed_stmt spot at.next s)
-    stmt_most spot at (shown.OfEmpty place) = omega arith
     stmt_most spot at (shown.OfAssign reference e place) =
         one_alone _ _ (is.grows _ _ _ _ (target_size spot.scope reference) (value_size Plain spot.scope e))
     stmt_most spot at (shown.OfCall call name arguments place) =
@@ -268,14 +265,14 @@ module _ (sizes : Sizes) (is : IsMeasure sizes) (numbered : Numbered) where
         let b = all_most spot at statements in
         let c = otherwise_most spot (after_all numbered.table at statements) otherwise in
         let d = most_append (place_size sizes numbered) (placed_all spot at.next statements) (placed_otherwise spot (at.next + scopes_in_all statements) otherwise) in
-        let e = ap (λ n. most (place_size sizes numbered) (placed_otherwise spot n otherwise)) (all_past numbered.table at statements) in
+        let e = ap (λ n. most (place_size sizes numbered) (placed_otherwise spot n otherwise)) (goes numbered (Each statements) spot.scope at).next in
         omega (arith, a, b, c, d, e)
     stmt_most spot at (shown.OfCase selector alternatives otherwise place) =
         let a = value_size Count spot.scope selector in
         let b = branches_most spot at alternatives in
         let c = otherwise_most spot (after_branches numbered.table at alternatives) otherwise in
         let d = most_append (place_size sizes numbered) (placed_branches spot at.next alternatives) (placed_otherwise spot (at.next + scopes_in_branches alternatives) otherwise) in
-        let e = ap (λ n. most (place_size sizes numbered) (placed_otherwise spot n otherwise)) (branches_past numbered.table at alternatives) in
+        let e = ap (λ n. most (place_size sizes numbered) (placed_otherwise spot n otherwise)) (goes numbered (Branches alternatives) spot.scope at).next in
         omega (arith, a, b, c, d, e)
     stmt_most spot at (shown.OfRepeat control begin step end condition declarations statements body_place place) =
         let own = asking.if_there (λ expr. Subject Condition at.next (OfWhile expr) ∷ []) condition in
@@ -284,7 +281,6 @@ module _ (sizes : Sizes) (is : IsMeasure sizes) (numbered : Numbered) where
         let b = all_most (record { scope = at.next; in_loop = true }) inner statements in
         let c = body_most at.next declarations (resolve_all numbered at.next inner statements) in
         omega (arith, a, b, c)
-    stmt_most spot at (shown.OfExit place) = omega arith
     stmt_most spot at (shown.OfBegin declarations statements body_place place) =
         let inner = entered numbered.table 0 at in
         let b = all_most (record { scope = at.next; in_loop = spot.in_loop }) inner statements in
@@ -335,6 +331,7 @@ module _ (sizes : Sizes) (is : IsMeasure sizes) (numbered : Numbered) where
         let a = target_size spot.scope reference in
         let b = is.left (asked_size sizes numbered (target spot.scope reference)) (all_size sizes numbered (Named name_role.Dation spot.scope dation ∷ [])) in
         one_alone _ _ (omega (arith, a, b))
+    stmt_most spot at statement = omega arith
 
     pub all_most : (spot : Spot) (at : At) (statements : ShownStmts) →
         greatest_of_all sizes (resolve_all numbered spot.scope at statements) ≤ most (place_size sizes numbered) (placed_all spot at.next statements)
@@ -344,7 +341,7 @@ module _ (sizes : Sizes) (is : IsMeasure sizes) (numbered : Numbered) where
         let b = all_most spot (after numbered.table at s) rest in
         let c = joined_most (resolve_stmt numbered spot.scope at s) (resolve_all numbered spot.scope (after numbered.table at s) rest) in
         let d = most_append (place_size sizes numbered) (placed_stmt spot at.next s) (placed_all spot (at.next + scopes_in s) rest) in
-        let e = ap (λ n. most (place_size sizes numbered) (placed_all spot n rest)) (stmt_past numbered.table at s) in
+        let e = ap (λ n. most (place_size sizes numbered) (placed_all spot n rest)) (goes numbered (One s) spot.scope at).next in
         omega (arith, a, b, c, d, e)
 
     branches_most : (spot : Spot) (at : At) (branches : ShownBranches) →
@@ -354,7 +351,7 @@ module _ (sizes : Sizes) (is : IsMeasure sizes) (numbered : Numbered) where
         let a = all_most spot at statements in
         let b = branches_most spot (after_all numbered.table at statements) rest in
         let d = most_append (place_size sizes numbered) (placed_all spot at.next statements) (placed_branches spot (at.next + scopes_in_all statements) rest) in
-        let e = ap (λ n. most (place_size sizes numbered) (placed_branches spot n rest)) (all_past numbered.table at statements) in
+        let e = ap (λ n. most (place_size sizes numbered) (placed_branches spot n rest)) (goes numbered (Each statements) spot.scope at).next in
         omega (arith, a, b, d, e)
 
     otherwise_most : (spot : Spot) (at : At) (otherwise : ShownOtherwise) →

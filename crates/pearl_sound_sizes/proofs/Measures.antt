@@ -7,7 +7,7 @@ use Rattle.pearl_tree.specs.declared.name.Number.{Number}
 use Rattle.pearl_tree.specs.declared.expression.Monadic.{Monadic}
 use Rattle.pearl_tree.specs.declared.expression.Side.{Side}
 use Rattle.pearl_tree.specs.Names.{name_text}
-use Rattle.pearl_tree.specs.ShownExpressions.{ShownExpr, ShownPrimary, ShownSelectors, NoSelectors, MoreSelectors, ShownSelector, OfSubscripts, OfComponent, ShownExprs, ShownRef}
+use Rattle.pearl_tree.specs.ShownExpressions.{ShownExpr, ShownPrimary, ShownSelectors, NoSelectors, MoreSelectors, ShownSelector, OfSubscripts, OfComponent, ShownExprs}
 use Rattle.pearl_tree.specs.ShownExpressions as shown
 use Rattle.pearl_names.specs.declared.scope.View.{View}
 use Rattle.pearl_names.specs.declared.meaning.Found.{Found}
@@ -64,16 +64,7 @@ walk_begins (Some thing) = by thing.sense
 
     by : (sense : Sense) → (walk_of (record { sense = sense; scope = thing.scope; number = thing.number })).subscripts ≡ NoExprs
     by (Variable None inv) = refl
-    by (Variable (Some form) inv) = refl
-    by (Control kind) = refl
-    by (OwnParameter parameter) = refl
-    by NewType = refl
-    by Semaphore = refl
-    by Interrupt = refl
-    by (AlphicDation direction) = refl
-    by (BasicDation direction kind) = refl
-    by Task = refl
-    by (Procedure parameters result) = refl
+    by sense = refl
 
 field_subscripts : (walk : Walk) (found : Option Component) → (to_field walk found).subscripts ≡ walk.subscripts
 field_subscripts walk None = refl
@@ -171,16 +162,15 @@ module _ (sizes : Sizes) (is : IsMeasure sizes) (numbered : Numbered) where
         omega (arith, a, b)
 
     primary_size : (view : View) (part : ShownPrimary) → of_expr sizes (resolve_primary numbered view part) ≤ pieces_size sizes numbered view (primary_pieces part)
-    primary_size view (shown.OfLiteral part) = is.left sizes.one 0
     primary_size view (shown.OfRef name selectors place) =
         ref_by view name selectors (params_of (meant numbered view name)) (is_called numbered view name)
         (from_name view (meant numbered view name) selectors (along_size view (walk_from (meant numbered view name)) selectors)) (λ parameters. call_size view parameters selectors)
     primary_size view (shown.OfGroup inner place) = expr_size view inner
-    primary_size view (shown.OfNow place) = is.left sizes.one 0
     primary_size view (shown.OfTry name place) = is.left sizes.one (sizes.both sizes.one 0)
     primary_size view (shown.OfLimit dimension side name selectors ref_place place) =
         let a = is.left sizes.one (sizes.both sizes.one (pieces_size sizes numbered view (selectors_pieces selectors))) in
         let b = limit_one dimension side (along numbered view (walk_from (meant numbered view name)) selectors) in omega (arith, a, b)
+    primary_size view part = is.left sizes.one 0
 
     along_size : (view : View) (walk : Walk) (selectors : ShownSelectors) → of_exprs sizes (along numbered view walk selectors).subscripts ≤
         sizes.both (of_exprs sizes walk.subscripts) (pieces_size sizes numbered view (selectors_pieces selectors))

@@ -25,7 +25,8 @@ use Rattle.pearl_sound_sizes.specs.ByRule.{program, AreByRule}
 use Rattle.pearl_sound_sizes.specs.Laws.{HasToldSizes, HasCountedCells, WeighsNoMore, RestIsSound}
 use Rattle.pearl_sound_sizes.proofs.Bounds.{routine_has_cells}
 use Rattle.pearl_sound_sizes.proofs.Routines.{IsProcedureOf, IsTaskOf, procedures_alike, tasks_alike}
-use Rattle.pearl_sound_sizes.proofs.Counts.{module_size, all_semaphores, all_tasks, all_procedures, all_slots, declared_once}
+use Rattle.pearl_sound.proofs.Offered.{all_semaphores, all_tasks, all_procedures}
+use Rattle.pearl_sound_sizes.proofs.Counts.{module_size, all_slots, declared_once}
 use Rattle.pearl_sound_sizes.proofs.Devices.{few_devices}
 use Rattle.pearl_sound_sizes.proofs.Kept.{no_name_broken, no_whole_broken, all_kept}
 use Rattle.pearl_sound_sizes.proofs.Limits.{limits_kept}

@@ -1,5 +1,5 @@
 -- The tasks of a module: their priorities, and their names.
-use Rattle.std.specs.Prelude.{◌≡◌, ℕ, ◌≤◌, ◌<◌, nat_le, not, true, IsTrue, List, [], ◌∷◌, map, filter, Some, None, All}
+use Rattle.std.specs.Prelude.{◌≡◌, ℕ, ◌≤◌, ◌<◌, nat_le, not, IsTrue, List, [], ◌∷◌, map, filter, Some, None, All}
 use Rattle.std.specs.List.{AllByRecursion, AllZip}
 use Rattle.std.proofs.Common.{ap, ◌∙◌, sym, arith}
 use Rattle.std.proofs.lemmas.Bool.{leb-true}
@@ -71,12 +71,8 @@ abbrev IsNamedTask : PlainTask → Type 0
 IsNamedTask task = IsTrue (is_id task.name)
 
 decl_named : (numbered : Numbered) (at : At) (one : Decl) → IsLawfulDecl one → AllByRecursion IsNamedTask (decl_tasks numbered at (shown_decl one))
-decl_named numbered at (decl.Length sort number place) lawful = tt
-decl_named numbered at (decl.Type name part place) lawful = tt
-decl_named numbered at (decl.Declare parts place) lawful = tt
-decl_named numbered at (decl.Specify specs place) lawful = tt
 decl_named numbered at (decl.Task name head body place) lawful = (ids_are_names name.text.items lawful.0, tt)
-decl_named numbered at (decl.Proc name params returns body place) lawful = tt
+decl_named numbered at part lawful = tt
 
 pub tasks_named : (numbered : Numbered) (at : At) (decls : List Decl) → All IsLawfulDecl decls →
     AllByRecursion (λ (task : PlainTask). IsTrue (is_id task.name)) (tasks_in numbered at (map shown_decl decls))

@@ -19,7 +19,7 @@ use Rattle.pearl_check.specs.Routines.{Routine, is_procedure, is_task, routines_
 use Rattle.pearl_check.specs.Sizes.{caller_of, weighed_of, procedure_names, weighed_procedures, weighed_tasks}
 use Rattle.pearl_program.specs.PlainPrograms.{PlainRoutine, PlainProcedure, PlainTask}
 use Rattle.pearl_program.specs.Sound.{CallSmaller}
-use Rattle.pearl_program.specs.Weights.{greatest_of_all, values, weight, weights_behind, weights_of}
+use Rattle.pearl_program.specs.Weights.{greatest_of_all, weight, weights_behind, weights_of}
 use Rattle.pearl_program.specs.Weights as program
 use Rattle.pearl_resolve.specs.Numbers.{first}
 use Rattle.pearl_resolve.specs.Expressions.{Numbered}
