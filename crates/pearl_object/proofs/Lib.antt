@@ -1,0 +1,13 @@
+mod Bytes
+mod Parts
+mod OperandLaws
+mod InstructionLaws
+mod Spellings
+mod Wholes
+mod Ranges
+mod CellKinds
+mod Spelled
+mod Fitting
+mod Standing
+mod Reading
+mod CodeTable

@@ -1,0 +1,8 @@
+use Rattle.std.proofs.Common.{refl, rules}
+use Rattle.pearl_object.proofs.tables.read_device_arm.Goals as goal
+
+pub returns-in_err-direction-in-1 : goal.returns-in_err-direction-in-1
+returns-in_err-direction-in-1 c = rw c.in-1.is (search rules)
+
+pub returns-in_ok-kind-in-2 : goal.returns-in_ok-kind-in-2
+returns-in_ok-kind-in-2 c = rw (c.in-2.is, c.in_ok-kind-in-2.ensures.reads) refl
