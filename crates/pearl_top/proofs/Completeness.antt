@@ -1,15 +1,26 @@
 -- A call whose files are in order ends with status 0, unless memory, reading or writing failed.
-use Rattle.std.proofs.Common.{◌≡◌, ◌≢◌, ℕ, List, Option, refl, ap, ap₂, sym, ◌∙◌, inl, inr, arith}
+use Rattle.std.proofs.Common.{◌≡◌, ◌≢◌, ℕ, List, Option, refl, ap, ap₂, sym, subst, ◌∙◌, inl, inr, arith}
+use Rattle.pearl_rules.specs.declared.entry.Entry.{Entry}
+use Rattle.pearl_rules.specs.Runs.{source_offers, source_run}
+use Rattle.pearl_rules.proofs.Offered.{source_ends}
+use Rattle.pearl_meaning.specs.Programs.{offer}
 use Rattle.pearl_program.specs.PlainPrograms.{PlainProg}
 use Rattle.pearl_top.specs.declared.status.Status.{Status}
 use Rattle.pearl_top.specs.declared.status.Status.TheVariants.{Done, Usage, Refused, BadObject, BadJournal, ReadFault, WriteFault, NoMemory, TooLong}
+use Rattle.pearl_bench.specs.Texts.{source_of}
+use Rattle.pearl_top.specs.BenchDue.{IsBench}
 use Rattle.pearl_top.specs.CheckDue.{IsAccepted, IsUnaccepted}
-use Rattle.pearl_top.specs.Commands.{Command, Run, Check, Print, NoCommand}
+use Rattle.pearl_top.specs.Commands.{Command, Run, Check, Print, Bench, NoCommand}
 use Rattle.pearl_top.specs.Complete.{AreInOrder, IsInOrder}
 use Rattle.pearl_journal.specs.Entries.{Entries, All, Bad, entries}
 use Rattle.pearl_top.specs.JournalDue.{IsBadJournal}
-use Rattle.pearl_top.specs.Outcome.{Due, IsSource, RunDue}
-use Rattle.pearl_top.specs.PrintDue.{IsPrinted, IsUnspelled}
+use Rattle.pearl_top.specs.Laws.{FilesInOrderEndWell}
+use Rattle.pearl_top.specs.Outcome.{Due, IsOutcome}
+use Rattle.pearl_top.specs.RunDue.{IsSource, RunDue}
+use Rattle.pearl_top.specs.PrintDue.{IsPrinted}
+use Rattle.pearl_top.specs.Runners.{by_rules, ended_of}
+use Rattle.pearl_top.specs.Sources.{IsUnspelled}
+use Rattle.pearl_top.specs.Transcript.{Closed, IsTranscript}
 use Rattle.pearl_top.specs.Taken.{Ends}
 use Rattle.pearl_meaning.specs.ProgramRuns.{setup_of as tables_of}
 use Rattle.pearl_top.proofs.CheckLaws.{never_unaccepted}
@@ -28,7 +39,7 @@ all_and_bad : (line code : ℕ) → All ≡ Bad line code → ⊥
 all_and_bad line code e = cc
 
 -- a journal of which all lines are accepted is not refused
-not_bad : (p : PlainProg) (source journal bytes : List ℕ) → IsSource source p → AreInOrder source journal → IsBadJournal p journal bytes → ⊥
+not_bad : (p : PlainProg) (source journal bytes : List ℕ) → IsSource source p → AreInOrder source journal → IsBadJournal (by_rules p) journal bytes → ⊥
 not_bad p source journal bytes is_source order bad =
     let same : order.p ≡ p = one_meaning source order.p p order.is_source is_source in
     all_and_bad bad.line bad.code
@@ -61,11 +72,75 @@ due_completes (Check source) files rose status bytes order due no_memory no_read
     at_source_completes (files source) (IsAccepted (files source)) (IsUnaccepted (files source)) (rose source) status bytes order.is.within
     (λ line. never_unaccepted (files source) line order) due no_memory no_read
 due_completes (Print source) files rose status bytes order due no_memory no_read =
-    at_source_completes (files source) (IsPrinted (files source)) (IsUnspelled (files source)) (rose source) status bytes order.within
-    (λ line. never_unspelled (files source) line order) due no_memory no_read
+    at_source_completes (files source) (IsPrinted (files source)) (IsUnspelled (files source)) (rose source) status bytes order.1.within
+    (λ line. never_unspelled (files source) line order.0 order.1) due no_memory no_read
+due_completes (Bench n) files rose status bytes order due no_memory no_read =
+    at_source_completes (source_of n) (IsBench n) (IsUnaccepted (source_of n)) ⊥ status bytes order.is_source.is.is.within
+    (λ line. never_unaccepted (source_of n) line order.is_source.is) due no_memory no_read
 
 pub completes : (command : Command) (files : List ℕ → List ℕ) (rose : List ℕ → Type 0) (old new : Option (List ℕ)) (status : Status) →
     Ends old new (Due command files rose) status → IsInOrder command files → status ≢ NoMemory → status ≢ ReadFault → status ≢ WriteFault → status ≡ Done
 completes command files rose old new status ends order no_memory no_read no_write =
     let done = finishes_of old new (Due command files rose) status no_write ends in
     due_completes command files rose status done.bytes order done.is_due no_memory no_read
+
+-- WHAT IS DUE THEN
+
+-- a program writes something over the entries of a journal
+has_transcript : (p : PlainProg) (es : List Entry) → (bytes : List ℕ) × IsTranscript (by_rules p) es Closed bytes
+has_transcript p es =
+    let end = source_ends (offer p) (tables_of p) es in (
+      _,
+      record {
+        end = ended_of (source_run (offer p) (tables_of p) es end.0).core (source_offers (offer p) (source_run (offer p) (tables_of p) es end.0));
+        ends = record { marks = end.0; no_mark = end.1; is = refl };
+        text = refl;
+      },
+    )
+
+has_outcome : (command : Command) (files : List ℕ → List ℕ) → IsInOrder command files → (bytes : List ℕ) × IsOutcome command files Done bytes
+has_outcome NoCommand files order = absurd order
+has_outcome (Run source journal) files order =
+    let written = has_transcript order.p order.es in (
+      written.0,
+      record {
+        memory = λ e. cc;
+        due = inr (order.p, order.is_source, (order.within, record { es = order.es; read = order.read; written = written.1 }));
+      },
+    )
+has_outcome (Check source) files order = (_, record { memory = λ e. cc; due = record { is = order; text = refl } })
+has_outcome (Print source) files order = (_, record { memory = λ e. cc; due = record { tree = order.0; is = order.1; text = refl } })
+has_outcome (Bench n) files order =
+    let written = has_transcript order.p order.es in (
+      _,
+      record {
+        memory = λ e. cc;
+        due = record {
+          p = order.p;
+          is_source = order.is_source;
+          transcript = written.0;
+          run = record { es = order.es; read = order.read; written = written.1 };
+          text = refl;
+        };
+      },
+    )
+
+-- where no count rose, no fault of reading is due
+unread : (command : Command) (files : List ℕ → List ℕ) (bytes : List ℕ) → Due command files (λ name. ⊥) ReadFault bytes → ⊥
+unread NoCommand files bytes due = let e = due.0 in cc
+unread (Run source journal) files bytes (inl due) = due.0
+unread (Run source journal) files bytes (inr (p, is_source, due)) = due.0
+unread (Check source) files bytes due = due.0
+unread (Print source) files bytes due = due.0
+unread (Bench n) files bytes due = due.0
+
+-- and nothing else than the command's end
+only_done : (command : Command) (files : List ℕ → List ℕ) (status : Status) (bytes : List ℕ) → IsInOrder command files → IsOutcome command files status bytes →
+    status ≡ Done
+only_done command files status bytes order is =
+    due_completes command files (λ name. ⊥) status bytes order is.due is.memory (λ e. unread command files bytes (subst (λ s. Due command files (λ name. ⊥) s bytes) e is.due))
+
+pub ends_well : FilesInOrderEndWell
+ends_well command files order =
+    let done = has_outcome command files order in
+    record { bytes = done.0; outcome = done.1; only = λ status others is. only_done command files status others order is }

@@ -8,7 +8,7 @@ use Rattle.pearl_rules.specs.declared.entry.Entry.{Entry}
 use Rattle.pearl_rules.specs.declared.setup.Setup.{Setup}
 use Rattle.pearl_rules.specs.Core.{Report}
 use Rattle.pearl_rules.specs.Entries.{EntryFits, moment_after}
-use Rattle.pearl_instructions.specs.declared.object.Object.{Object}
+use Rattle.pearl_instructions.specs.declared.object.Parts.{Parts as Object}
 use Rattle.pearl_instructions.specs.Setups.{setup_of}
 use Rattle.pearl_script.specs.Lines.{lines_of}
 use Rattle.pearl_script.specs.declared.refusal.Refusal.TheVariants.{Journal}

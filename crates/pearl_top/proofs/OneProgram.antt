@@ -1,5 +1,5 @@
 -- A source means one program, and writes one thing.
-use Rattle.std.proofs.Common.{◌≡◌, ℕ, zero, suc, ◌<◌, List, [], ◌∷◌, ◌++◌, false, Some, None, length, refl, ap, ap₂, sym, ◌∙◌, subst, slice_get, nat_eq, true≢false}
+use Rattle.std.proofs.Common.{◌≡◌, ℕ, zero, suc, ◌<◌, List, [], ◌∷◌, ◌++◌, false, Some, length, refl, ap, ap₂, sym, ◌∙◌, subst, slice_get, nat_eq, true≢false}
 use Rattle.std.specs.List.{IsDistinct}
 use Rattle.std.proofs.lemmas.Bool.{eq-eqb}
 use Rattle.std.proofs.lemmas.List.{ext_get_or}
@@ -14,17 +14,18 @@ use Rattle.pearl_system.specs.Devices.{device_key, IsDevice}
 use Rattle.pearl_system.proofs.Offered.{lists_once}
 use Rattle.pearl_check.specs.Checks.{module_callers}
 use Rattle.pearl_rules.specs.declared.entry.Entry.{Entry}
-use Rattle.pearl_rules.specs.Runs.{Source, source_next}
+use Rattle.pearl_rules.specs.Runs.{Source, source_offers}
 use Rattle.pearl_rules.proofs.Offered.{one_end}
 use Rattle.pearl_program.specs.PlainPrograms.{PlainProg}
 use Rattle.pearl_resolve.specs.Resolve.{resolve}
 use Rattle.pearl_sound_sizes.proofs.Offered.{all_at, some_one, something, placed, numbers_whole, order_differs}
 use Rattle.pearl_top.specs.Programs.{IsProgramOf}
 use Rattle.pearl_meaning.specs.Programs.{offer}
-use Rattle.pearl_meaning.specs.ProgramRuns.{source_run, setup_of}
+use Rattle.pearl_meaning.specs.ProgramRuns.{setup_of}
 use Rattle.pearl_script.specs.Lines.{lines_of}
 use Rattle.pearl_top.specs.Laws.{HasOneMeaning, HasOneTranscript}
-use Rattle.pearl_top.specs.Transcript.{Close, closing, IsLast, IsTranscript}
+use Rattle.pearl_top.specs.Runners.{Ended, by_rules, ended_of}
+use Rattle.pearl_top.specs.Transcript.{Close, closing, IsTranscript}
 use Rattle.pearl_top.proofs.CheckLaws.{shown_once}
 
 -- THE SAME NUMBERS
@@ -66,25 +67,26 @@ one_program tree p q is its =
 
 pub one_meaning : HasOneMeaning
 one_meaning source p q is_source also =
-    one_program (shown_tree also.is.is.tree) p q
-    (subst (λ tree. IsProgramOf tree p) (shown_once source is_source.is.is also.is.is) is_source.program) also.program
+    one_program (shown_tree also.is.tree) p q
+    (subst (λ tree. IsProgramOf tree p) (shown_once source is_source.is.tree also.is.tree is_source.is.is also.is.is) is_source.program) also.program
 
 -- THE SAME RUN
 
-last_same : (p : PlainProg) (es : List Entry) (s t : Source) → IsLast p es s → IsLast p es t → s ≡ t
-last_same p es s t last also =
-    let first : source_next (offer p) (source_run p es last.marks) ≡ None = subst (λ x. source_next (offer p) x ≡ None) last.reached last.no_mark in
-    let second : source_next (offer p) (source_run p es also.marks) ≡ None = subst (λ x. source_next (offer p) x ≡ None) also.reached also.no_mark in
-    last.reached ∙ one_end (offer p) (setup_of p) es last.marks also.marks first second ∙ sym also.reached
+ends_once : (p : PlainProg) (es : List Entry) (end other : Ended) → (by_rules p).ends es end → (by_rules p).ends es other → end ≡ other
+ends_once p es end other one two =
+    one.is
+    ∙ ap (λ (s : Source). ended_of s.core (source_offers (offer p) s)) (one_end (offer p) (setup_of p) es one.marks two.marks one.no_mark two.no_mark)
+    ∙ sym two.is
 
 -- a program writes one thing
 pub transcript_once : (p : PlainProg) (es : List Entry) (close : Close) (bytes others : List ℕ) →
-    IsTranscript p es close bytes → IsTranscript p es close others → bytes ≡ others
+    IsTranscript (by_rules p) es close bytes → IsTranscript (by_rules p) es close others → bytes ≡ others
 transcript_once p es close bytes others is its =
     is.text
-    ∙ ap (λ (s : Source). lines_of (setup_of p) s.core.told ++ closing p s close) (last_same p es is.last its.last is.ends its.ends)
+    ∙ ap (λ (end : Ended). lines_of (setup_of p) end.told ++ closing (setup_of p) end close) (ends_once p es is.end its.end is.ends its.ends)
     ∙ sym its.text
 
 pub one_transcript : HasOneTranscript
 one_transcript source p q is_source also es close bytes others one two =
-    transcript_once p es close bytes others one (subst (λ r. IsTranscript r es close others) (sym (one_meaning source p q is_source also)) two)
+    transcript_once p es close bytes others one
+    (subst (λ r. IsTranscript (by_rules r) es close others) (sym (one_meaning source p q is_source also)) two)

@@ -1,5 +1,6 @@
 -- A source that is printed: what is due for it is determined, and comes to its end where it is spelled.
 use Rattle.std.proofs.Common.{◌≡◌, ◌⊎◌, ℕ, List, length, ap, sym, ◌∙◌, subst, inl, inr, arith}
+use Rattle.pearl_tree.specs.declared.tree.Tree.{Tree}
 use Rattle.pearl_tree.specs.Modules.{Spells}
 use Rattle.pearl_tree.specs.Stops.{NoneBegins, IsFirstStop}
 use Rattle.pearl_tree.proofs.Offered.{one_stop, stops_have_no_tree}
@@ -10,23 +11,24 @@ use Rattle.pearl_print.specs.Spelled.{text_of_tokens}
 use Rattle.pearl_print.proofs.Offered.{source_has_one_text}
 use Rattle.pearl_script.specs.declared.refusal.Refusal.TheVariants as refusal
 use Rattle.pearl_script.specs.Refusals.{refusal_line}
-use Rattle.pearl_top.specs.PrintDue.{HasStop, IsPrinted, IsSpelled, IsUnspelled}
+use Rattle.pearl_top.specs.PrintDue.{IsPrinted}
+use Rattle.pearl_top.specs.Sources.{HasStop, IsTree, IsUnspelled}
 use Rattle.pearl_top.proofs.SourceLaws.{IsSettled}
 
 -- a source has one text
 printed_once : (source bytes others : List ℕ) → IsPrinted source bytes → IsPrinted source others → bytes ≡ others
 printed_once source bytes others one two =
     let same : two.is.tokens ≡ one.is.tokens = one_reading source two.is.tokens one.is.tokens two.is.lexes one.is.lexes in
-    one.text ∙ ap text_of_tokens (source_has_one_text one.is.tokens one.is.tree two.is.tree one.is.spells (subst (Spells two.is.tree) same two.is.spells)) ∙ sym two.text
+    one.text ∙ ap text_of_tokens (source_has_one_text one.is.tokens one.tree two.tree one.is.spells (subst (Spells two.tree) same two.is.spells)) ∙ sym two.text
 
 -- a source that a tree spells is not refused
-pub never_unspelled : (source bytes : List ℕ) → IsSpelled source → IsUnspelled source bytes → ⊥
-never_unspelled source bytes is refused = by refused.fault
+pub never_unspelled : (source bytes : List ℕ) (tree : Tree) → IsTree source tree → IsUnspelled source bytes → ⊥
+never_unspelled source bytes tree is refused = by refused.fault
   where
     by : IsStuck source refused.place ⊎ HasStop source refused.place → ⊥
     by (inl stuck) = never_both source is.tokens refused.place is.lexes stuck
     by (inr stop) =
-        stops_have_no_tree is.tokens stop.refused.token is.tree
+        stops_have_no_tree is.tokens stop.refused.token tree
         (subst (λ tokens. NoneBegins tokens stop.refused.token) (one_reading source stop.tokens is.tokens stop.lexes is.lexes) stop.refused.none)
         is.spells
 
@@ -54,7 +56,7 @@ pub print_settled : (source : List ℕ) → IsSettled source (IsPrinted source) 
 print_settled source = record {
   done_within = λ bytes printed. printed.is.within;
   refused_within = λ bytes refused. refused.within;
-  never_both = λ bytes others printed. never_unspelled source others printed.is;
+  never_both = λ bytes others printed. never_unspelled source others printed.tree printed.is;
   done_once = printed_once source;
   refused_once = unspelled_once source;
 }

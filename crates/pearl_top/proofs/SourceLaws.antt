@@ -7,18 +7,19 @@ use Rattle.pearl_top.specs.declared.status.Status.{Status}
 use Rattle.pearl_top.specs.declared.status.Status.TheVariants.{Done, Usage, Refused, BadObject, BadJournal, ReadFault, WriteFault, NoMemory, TooLong}
 use Rattle.pearl_top.specs.Reading.{DueAtSource, UnreadDue}
 
--- where the count of faults rose from earlier on
-pub at_source_rises : (source : List ℕ) (done refused : List ℕ → Type 0) (rose risen : Type 0) (status : Status) (bytes : List ℕ) → (rose → risen) →
-    DueAtSource source done refused rose status bytes → DueAtSource source done refused risen status bytes
-at_source_rises source done refused rose risen Done bytes on due = due
-at_source_rises source done refused rose risen Usage bytes on due = due
-at_source_rises source done refused rose risen Refused bytes on due = due
-at_source_rises source done refused rose risen BadObject bytes on due = due
-at_source_rises source done refused rose risen BadJournal bytes on due = due
-at_source_rises source done refused rose risen ReadFault bytes on due = (on due.0, due.1)
-at_source_rises source done refused rose risen WriteFault bytes on due = due
-at_source_rises source done refused rose risen NoMemory bytes on due = due
-at_source_rises source done refused rose risen TooLong bytes on due = due
+-- what is due at a source, told otherwise
+pub at_source_as : (source : List ℕ) (done refused finer coarser : List ℕ → Type 0) (rose risen : Type 0) (status : Status) (bytes : List ℕ) →
+    ((bytes : List ℕ) → done bytes → finer bytes) → ((bytes : List ℕ) → refused bytes → coarser bytes) → (rose → risen) →
+    DueAtSource source done refused rose status bytes → DueAtSource source finer coarser risen status bytes
+at_source_as source done refused finer coarser rose risen Done bytes ends breaks on due = ends bytes due
+at_source_as source done refused finer coarser rose risen Usage bytes ends breaks on due = due
+at_source_as source done refused finer coarser rose risen Refused bytes ends breaks on due = breaks bytes due
+at_source_as source done refused finer coarser rose risen BadObject bytes ends breaks on due = due
+at_source_as source done refused finer coarser rose risen BadJournal bytes ends breaks on due = due
+at_source_as source done refused finer coarser rose risen ReadFault bytes ends breaks on due = (on due.0, due.1)
+at_source_as source done refused finer coarser rose risen WriteFault bytes ends breaks on due = due
+at_source_as source done refused finer coarser rose risen NoMemory bytes ends breaks on due = due
+at_source_as source done refused finer coarser rose risen TooLong bytes ends breaks on due = due
 
 -- what comes without a fault of reading comes where no count rose
 pub at_source_unrisen : (source : List ℕ) (done refused : List ℕ → Type 0) (rose : Type 0) (status : Status) (bytes : List ℕ) → status ≢ ReadFault →

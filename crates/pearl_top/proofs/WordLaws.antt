@@ -3,7 +3,7 @@ use Rattle.std.proofs.Common.{◌≡◌, ◌≢◌, ◌⊎◌, ℕ, List, [], �
 use Rattle.std.specs.List.{AllZip, Any}
 use Rattle.pearl_io.specs.Outside.{Files, content}
 use Rattle.pearl_program.specs.PlainPrograms.{PlainProg}
-use Rattle.pearl_instructions.specs.declared.object.Object.{Object}
+use Rattle.pearl_instructions.specs.declared.object.Parts.{Parts as Object}
 use Rattle.pearl_faithful.specs.Faithful.{IsFaithfulTo}
 use Rattle.pearl_machine.specs.Seen.{Seen}
 use Rattle.pearl_script.specs.declared.refusal.Refusal.TheVariants as refusal
@@ -13,17 +13,22 @@ use Rattle.pearl_top.specs.declared.failure.Failure.TheVariants as failure
 use Rattle.pearl_top.specs.declared.limits.TheConstants.{SOURCE_LIMIT}
 use Rattle.pearl_top.specs.declared.status.Status.{Status}
 use Rattle.pearl_top.specs.declared.status.Status.TheVariants.{Done, Usage, Refused, BadObject, BadJournal, ReadFault, WriteFault, NoMemory, TooLong}
+use Rattle.pearl_top.specs.BenchDue.{BenchDue}
 use Rattle.pearl_top.specs.CheckDue.{CheckDue, IsAccepted, IsUnaccepted}
-use Rattle.pearl_top.specs.Commands.{Command, Run, Check, Print, NoCommand, names_of}
+use Rattle.pearl_top.specs.Commands.{Command, Run, Check, Print, Bench, NoCommand, ReadsObject, names_of}
 use Rattle.pearl_top.specs.Failures.{IsDue}
 use Rattle.pearl_top.specs.JournalDue.{JournalDue}
-use Rattle.pearl_top.specs.Outcome.{Due, DueFor, IsOutcome, IsSource, RunDue, SourceDue}
-use Rattle.pearl_top.specs.PrintDue.{IsPrinted, IsUnspelled, PrintDue}
+use Rattle.pearl_top.specs.Outcome.{Due, DueFor, IsOutcome}
+use Rattle.pearl_top.specs.RunDue.{IsSource, RunDue, SourceDue}
+use Rattle.pearl_top.specs.PrintDue.{IsPrinted, PrintDue}
+use Rattle.pearl_top.specs.Sources.{IsUnspelled}
 use Rattle.pearl_top.specs.Reading.{MayHave, UnreadDue}
-use Rattle.pearl_top.specs.Ready.{IsReadyFor}
+use Rattle.pearl_top.specs.Ready.{IsReadyFor, RunsByRules}
+use Rattle.pearl_top.specs.Runners.{Runner, by_code, by_rules}
 use Rattle.pearl_top.specs.Replay.{start_of, started}
 use Rattle.pearl_top.specs.Taken.{Ends, Finishes, OnlyDue}
-use Rattle.pearl_top.proofs.SourceLaws.{at_source_rises, at_source_unread, at_source_unrisen}
+use Rattle.pearl_top.proofs.SourceLaws.{at_source_as, at_source_unread, at_source_unrisen}
+use Rattle.pearl_top.proofs.FaithfulRuns.{journals_alike}
 use Rattle.pearl_top.proofs.TakenLaws.{ends_as, finishes_of}
 
 -- AT THE SOURCE
@@ -33,34 +38,25 @@ pub loaded : (o code : Object) (seen : Seen) → code ≡ o → seen.object ≡ 
 loaded o code seen same object state = rw (sym same) (ap₂ (λ held at. record { object = held; state = at }) object state)
 
 -- a machine that was loaded with a faithful object is ready
-pub ready_of : (p : PlainProg) (o : Object) (seen : Seen) → IsFaithfulTo p o → seen ≡ started o → IsReadyFor p seen
-ready_of p o seen faithful at_start =
-    let same : o ≡ seen.object = ap (λ s. s.object) (sym at_start) in
-    record { faithful = subst (IsFaithfulTo p) same faithful; starts = at_start ∙ ap started same }
-
--- what is due at a source that is refused when it is checked, is due when it is run
-pub refused_alike : (source : List ℕ) (why : Failure) → IsDue (CheckDue source ⊥) why → IsDue (SourceDue source ⊥) why
-refused_alike source (failure.Refused refusal.Usage) due = due
-refused_alike source (failure.Refused (refusal.Syntax place)) due = due
-refused_alike source (failure.Refused (refusal.Source place rule)) due = due
-refused_alike source (failure.Refused (refusal.Journal line code)) due = due
-refused_alike source (failure.Refused refusal.Read) due = due
-refused_alike source (failure.Refused refusal.Memory) due = due
-refused_alike source (failure.Refused (refusal.TooLong count)) due = due
-refused_alike source failure.WriteFault due = due
+pub ready_of : (p : PlainProg) (o : Object) (seen : Seen) → IsFaithfulTo p o → RunsByRules o → seen ≡ started o → IsReadyFor p seen
+ready_of p o seen faithful rules at_start =
+    let same : o ≡ seen.object = ap (λ s. s.object) (sym at_start) in record {
+      faithful = subst (IsFaithfulTo p) same faithful;
+      ready = record { rules = subst RunsByRules same rules; starts = at_start ∙ ap started same };
+    }
 
 -- where the count of faults rose from earlier on
-journal_rises : (p : PlainProg) (journal : List ℕ) (rose risen : Type 0) (status : Status) (bytes : List ℕ) → (rose → risen) → JournalDue p journal rose status bytes →
-    JournalDue p journal risen status bytes
-journal_rises p journal rose risen Done bytes on due = due
-journal_rises p journal rose risen Usage bytes on due = due
-journal_rises p journal rose risen Refused bytes on due = due
-journal_rises p journal rose risen BadObject bytes on due = due
-journal_rises p journal rose risen BadJournal bytes on due = due
-journal_rises p journal rose risen ReadFault bytes on due = (on due.0, due.1)
-journal_rises p journal rose risen WriteFault bytes on due = due
-journal_rises p journal rose risen NoMemory bytes on due = due
-journal_rises p journal rose risen TooLong bytes on due = due
+journal_rises : (runner : Runner) (journal : List ℕ) (rose risen : Type 0) (status : Status) (bytes : List ℕ) → (rose → risen) → JournalDue runner journal rose status bytes →
+    JournalDue runner journal risen status bytes
+journal_rises runner journal rose risen Done bytes on due = due
+journal_rises runner journal rose risen Usage bytes on due = due
+journal_rises runner journal rose risen Refused bytes on due = due
+journal_rises runner journal rose risen BadObject bytes on due = due
+journal_rises runner journal rose risen BadJournal bytes on due = due
+journal_rises runner journal rose risen ReadFault bytes on due = (on due.0, due.1)
+journal_rises runner journal rose risen WriteFault bytes on due = due
+journal_rises runner journal rose risen NoMemory bytes on due = due
+journal_rises runner journal rose risen TooLong bytes on due = due
 
 -- what is due where the source is not read whole
 pub run_unread : (source journal : List ℕ) (rose also : Type 0) (status : Status) (bytes : List ℕ) → UnreadDue source SOURCE_LIMIT rose status bytes →
@@ -71,13 +67,18 @@ run_unread source journal rose also status bytes due = inl (at_source_unread sou
 pub run_refused : (read source journal : List ℕ) (rose also : Type 0) (status : Status) (bytes : List ℕ) → read ≡ source → SourceDue read ⊥ status bytes →
     RunDue source journal rose also status bytes
 run_refused read source journal rose also status bytes same due =
-    inl (subst (λ file. SourceDue file rose status bytes) same (at_source_rises read (λ bytes. ⊥) (IsUnaccepted read) ⊥ rose status bytes absurd due))
+    inl (subst (λ file. SourceDue file rose status bytes) same
+    (at_source_as read (λ bytes. ⊥) (IsUnaccepted read) (λ bytes. ⊥) (IsUnaccepted read) ⊥ rose status bytes (λ b h. h) (λ b h. h) (λ h. absurd h) due))
 
--- what is due where it is accepted
-pub run_accepted : (read source journal : List ℕ) (rose also later : Type 0) (p : PlainProg) (status : Status) (bytes : List ℕ) → read ≡ source → (also → later) →
-    IsSource read p → JournalDue p journal also status bytes → RunDue source journal rose later status bytes
-run_accepted read source journal rose also later p status bytes same on is_source due =
-    inr (p, subst (λ file. IsSource file p) same is_source, journal_rises p journal also later status bytes on due)
+-- what is due where it is accepted, of a machine with an object that does what it means
+pub run_accepted : (read source journal : List ℕ) (rose also later : Type 0) (p : PlainProg) (o : Object) (status : Status) (bytes : List ℕ) → read ≡ source →
+    (also → later) → IsSource read p → IsFaithfulTo p o → JournalDue (by_code o) journal also status bytes → RunDue source journal rose later status bytes
+run_accepted read source journal rose also later p o status bytes same on is_source faithful due =
+    inr (
+      p,
+      subst (λ file. IsSource file p) same is_source,
+      journal_rises (by_rules p) journal also later status bytes on (journals_alike p o faithful journal also status bytes due),
+    )
 
 -- FOR ALL WORDS
 
@@ -130,6 +131,7 @@ unrisen (Check source) files rose status bytes free due =
     at_source_unrisen (files source) (IsAccepted (files source)) (IsUnaccepted (files source)) (rose source) status bytes free due
 unrisen (Print source) files rose status bytes free due =
     at_source_unrisen (files source) (IsPrinted (files source)) (IsUnspelled (files source)) (rose source) status bytes free due
+unrisen (Bench n) files rose status bytes free due = due
 
 -- where the status is none of want of memory, a read fault and a write fault, it is an outcome
 pub settles : (command : Command) (files : List ℕ → List ℕ) (rose : List ℕ → Type 0) (old new : Option (List ℕ)) (status : Status) →
@@ -144,7 +146,7 @@ settles command files rose old new status ends no_memory no_read no_write =
 
 -- WHICH STATUS COMES WHEN
 
--- what is due for `run`, for `check` and for `print` is due for the bytes of their files
+-- what is due for each command is due for the bytes of its files
 run_files : (source journal : List ℕ) (contents : List (List ℕ)) (rose : List ℕ → Type 0) (status : Status) (bytes : List ℕ) →
     DueFor (Run source journal) contents rose status bytes → (first second : List ℕ) × RunDue first second (rose source) (rose journal) status bytes
 run_files source journal [] rose status bytes due = absurd due
@@ -163,6 +165,11 @@ print_file : (source : List ℕ) (contents : List (List ℕ)) (rose : List ℕ �
 print_file source [] rose status bytes due = absurd due
 print_file source (file ∷ []) rose status bytes due = (file, due)
 print_file source (file ∷ other ∷ more) rose status bytes due = absurd due
+
+bench_due : (n : ℕ) (contents : List (List ℕ)) (rose : List ℕ → Type 0) (status : Status) (bytes : List ℕ) → DueFor (Bench n) contents rose status bytes →
+    BenchDue n status bytes
+bench_due n [] rose status bytes due = due
+bench_due n (file ∷ more) rose status bytes due = absurd due
 
 run_usage : (source journal : List ℕ) (a b : Type 0) (bytes : List ℕ) → RunDue source journal a b Usage bytes → ⊥
 run_usage source journal a b bytes (inl due) = due
@@ -183,18 +190,21 @@ usage_due (Run source journal) contents rose bytes due =
     let is = run_files source journal contents rose Usage bytes due in absurd (run_usage is.0 is.1 (rose source) (rose journal) bytes is.2)
 usage_due (Check source) contents rose bytes due = absurd (let is = check_file source contents rose Usage bytes due in is.1)
 usage_due (Print source) contents rose bytes due = absurd (let is = print_file source contents rose Usage bytes due in is.1)
+usage_due (Bench n) contents rose bytes due = absurd (bench_due n contents rose Usage bytes due)
 
 none_due : (contents : List (List ℕ)) (rose : List ℕ → Type 0) (status : Status) (bytes : List ℕ) → DueFor NoCommand contents rose status bytes →
     OnlyDue Usage (refusal_line refusal.Usage) status bytes
 none_due [] rose status bytes due = due
 none_due (file ∷ more) rose status bytes due = absurd due
 
-object_due : (command : Command) (contents : List (List ℕ)) (rose : List ℕ → Type 0) (bytes : List ℕ) → DueFor command contents rose BadObject bytes → ⊥
+object_due : (command : Command) (contents : List (List ℕ)) (rose : List ℕ → Type 0) (bytes : List ℕ) → DueFor command contents rose BadObject bytes →
+    ReadsObject command
 object_due NoCommand contents rose bytes due = let is = none_due contents rose BadObject bytes due in (let e = is.0 in cc)
 object_due (Run source journal) contents rose bytes due =
     let is = run_files source journal contents rose BadObject bytes due in run_object is.0 is.1 (rose source) (rose journal) bytes is.2
 object_due (Check source) contents rose bytes due = let is = check_file source contents rose BadObject bytes due in is.1
 object_due (Print source) contents rose bytes due = let is = print_file source contents rose BadObject bytes due in is.1
+object_due (Bench n) contents rose bytes due = bench_due n contents rose BadObject bytes due
 
 some_rose : (source journal : List ℕ) (rose : List ℕ → Type 0) → rose source ⊎ rose journal → Any rose (source ∷ journal ∷ [])
 some_rose source journal rose (inl first) = (0, source, omega arith, refl, first)
@@ -210,6 +220,7 @@ read_due (Check source) contents rose bytes due =
     let is = check_file source contents rose ReadFault bytes due in (0, source, omega arith, refl, is.1.0)
 read_due (Print source) contents rose bytes due =
     let is = print_file source contents rose ReadFault bytes due in (0, source, omega arith, refl, is.1.0)
+read_due (Bench n) contents rose bytes due = absurd (let is = bench_due n contents rose ReadFault bytes due in is.0)
 
 -- `error usage` is due just where the words are no command
 pub usage_only : (command : Command) (contents : List (List ℕ)) (rose : List ℕ → Type 0) (old new : Option (List ℕ)) (status : Status) → status ≡ Usage →
@@ -236,10 +247,10 @@ just_usage old new line WriteFault ends = inr refl
 just_usage old new line NoMemory ends = inl ends.is_due.0
 just_usage old new line TooLong ends = inl ends.is_due.0
 
--- no object is refused
-pub no_object : (command : Command) (contents : List (List ℕ)) (rose : List ℕ → Type 0) (old new : Option (List ℕ)) (status : Status) →
-    Ends old new (DueFor command contents rose) status → status ≢ BadObject
-no_object command contents rose old new status ends is =
+-- an object is refused only where one is read
+pub bad_object : (command : Command) (contents : List (List ℕ)) (rose : List ℕ → Type 0) (old new : Option (List ℕ)) (status : Status) → status ≡ BadObject →
+    Ends old new (DueFor command contents rose) status → ReadsObject command
+bad_object command contents rose old new status is ends =
     let done : Finishes old new (DueFor command contents rose BadObject) = subst (λ s. Ends old new (DueFor command contents rose) s) is ends in
     object_due command contents rose done.bytes done.is_due
 

@@ -2,6 +2,7 @@
 use Rattle.std.specs.Prelude.{◌≡◌, ℕ, ◌⊎◌, List, [], ◌++◌, Some, codes}
 use Rattle.std.specs.Fmt.{decimal}
 use Rattle.pearl_tree.specs.declared.fault.RuleFault.{RuleFault}
+use Rattle.pearl_tree.specs.declared.tree.Tree.{Tree}
 use Rattle.pearl_tree.specs.ShownModules.{shown_tree}
 use Rattle.pearl_check.specs.declared.sizes.Sizes.{Sizes}
 use Rattle.pearl_check.specs.Checks.{sizes_of}
@@ -9,8 +10,8 @@ use Rattle.pearl_check.specs.Rules.{all_broken, first}
 use Rattle.pearl_script.specs.declared.refusal.Refusal.TheVariants as refusal
 use Rattle.pearl_script.specs.Refusals.{refusal_line}
 use Rattle.pearl_top.specs.declared.status.Status.{Status}
-use Rattle.pearl_top.specs.PrintDue.{IsSpelled, IsUnspelled}
 use Rattle.pearl_top.specs.Reading.{DueAtSource}
+use Rattle.pearl_top.specs.Sources.{IsTree, IsUnspelled}
 
 -- the line of a module that breaks no rule: how many tasks, procedures and slots it has
 abbrev pub accepted_line : Sizes → List ℕ
@@ -19,19 +20,21 @@ accepted_line sizes =
 
 -- these bytes, within the limit, are spelled by a tree that breaks no rule
 pub record BreaksNone (source : List ℕ) : Type 0 where
-  pub is : IsSpelled source
-  pub none : all_broken (shown_tree is.tree) ≡ []
+  pub tree : Tree
+  pub is : IsTree source tree
+  pub none : all_broken (shown_tree tree) ≡ []
 
 -- and this is the line of its sizes
 pub record IsAccepted (source bytes : List ℕ) : Type 0 where
   pub is : BreaksNone source
-  pub text : bytes ≡ accepted_line (sizes_of (shown_tree is.is.tree))
+  pub text : bytes ≡ accepted_line (sizes_of (shown_tree is.tree))
 
 -- these bytes, within the limit, are spelled by a tree that breaks a rule, and this is the line of the first one
 pub record BreaksSome (source bytes : List ℕ) : Type 0 where
-  pub is : IsSpelled source
+  pub tree : Tree
+  pub is : IsTree source tree
   pub fault : RuleFault
-  pub is_first : first (all_broken (shown_tree is.tree)) ≡ Some fault
+  pub is_first : first (all_broken (shown_tree tree)) ≡ Some fault
   pub text : bytes ≡ refusal_line (refusal.Source fault.place fault.rule)
 
 -- these bytes have no tokens, or no tree spells them, or it breaks a rule

@@ -1,31 +1,42 @@
 -- Which words are a command, and which files a command reads.
-use Rattle.std.specs.Prelude.{◌≡◌, ℕ, List, [], ◌∷◌, Bool, true, false, codes, bytes_eq}
+use Rattle.std.specs.Prelude.{◌≡◌, ℕ, zero, suc, ◌≤◌, if◌then◌else◌, List, [], ◌∷◌, codes, bytes_eq}
+use Rattle.std.specs.Fmt.{decimal}
 use Rattle.pearl_top.specs.declared.command.Command as code
 use Rattle.pearl_top.specs.declared.command.Command.TheVariants as borrowed
 
--- `run SOURCE JOURNAL`, `check SOURCE` or `print SOURCE`, the names being those of files; any other words are no command
+-- what is done; the names are those of files, and n is the number of a workload
 pub data Command : Type 0 where
   Run : (source journal : List ℕ) → Command
   Check : (source : List ℕ) → Command
   Print : (source : List ℕ) → Command
+  Bench : (n : ℕ) → Command
   NoCommand : Command
 
-abbrev pub run_if : Bool → List ℕ → List ℕ → Command
-run_if true source journal = Run source journal
-run_if false source journal = NoCommand
+-- the workload of the number that these digits spell, if it is one from 1 to n
+abbrev pub bench_upto : ℕ → List ℕ → Command
+bench_upto zero digits = NoCommand
+bench_upto (suc n) digits = if bytes_eq (decimal (suc n)) digits then Bench (suc n) else bench_upto n digits
 
-abbrev pub print_if : Bool → List ℕ → Command
-print_if true source = Print source
-print_if false source = NoCommand
+abbrev pub bench_of : List ℕ → Command
+bench_of digits = bench_upto 100 digits
 
-abbrev pub check_or_print : (checks prints : Bool) → List ℕ → Command
-check_or_print true prints source = Check source
-check_or_print false prints source = print_if prints source
+-- the words that stand before one more, each with what they ask for
+abbrev pub of_one : List (List ℕ × (List ℕ → Command))
+of_one = (codes "check", Check) ∷ (codes "print", Print) ∷ (codes "bench", bench_of) ∷ []
 
--- the command of the words after the program's name
+-- those that stand before two more
+abbrev pub of_two : List (List ℕ × (List ℕ → List ℕ → Command))
+of_two = (codes "run", Run) ∷ []
+
+-- what a word asks for, or else nothing
+abbrev pub asked : {A : Type 0} → A → List (List ℕ × A) → List ℕ → A
+asked nothing [] word = nothing
+asked nothing (row ∷ rows) word = if bytes_eq word row.0 then row.1 else asked nothing rows word
+
+-- the command of the words after the program's name; any others are no command
 abbrev pub command_of : List (List ℕ) → Command
-command_of (word ∷ source ∷ journal ∷ []) = run_if (bytes_eq word (codes "run")) source journal
-command_of (word ∷ source ∷ []) = check_or_print (bytes_eq word (codes "check")) (bytes_eq word (codes "print")) source
+command_of (word ∷ name ∷ []) = asked (λ name. NoCommand) of_one word name
+command_of (word ∷ name ∷ second ∷ []) = asked (λ name second. NoCommand) of_two word name second
 command_of words = NoCommand
 
 -- the names of the files that a command reads, in order
@@ -33,11 +44,21 @@ abbrev pub names_of : Command → List (List ℕ)
 names_of (Run source journal) = source ∷ journal ∷ []
 names_of (Check source) = source ∷ []
 names_of (Print source) = source ∷ []
+names_of (Bench n) = []
 names_of NoCommand = []
+
+-- the command reads an object; none of these does
+abbrev pub ReadsObject : Command → Type 0
+ReadsObject (Run source journal) = ⊥
+ReadsObject (Check source) = ⊥
+ReadsObject (Print source) = ⊥
+ReadsObject (Bench n) = ⊥
+ReadsObject NoCommand = ⊥
 
 -- the code's command, which borrows the names, is this one
 abbrev pub IsCommand : code.Command → Command → Type 0
 IsCommand (borrowed.Run source journal) command = command ≡ Run source.now journal.now
 IsCommand (borrowed.Check source) command = command ≡ Check source.now
 IsCommand (borrowed.Print source) command = command ≡ Print source.now
+IsCommand (borrowed.Bench n) command = (command ≡ Bench n) × (1 ≤ n) × (n ≤ 100)
 IsCommand borrowed.None command = command ≡ NoCommand

@@ -1,15 +1,17 @@
 -- Which words and files bring a command to its end.
 use Rattle.std.specs.Prelude.{◌≡◌, ℕ, ◌≤◌, List, length}
+use Rattle.pearl_tree.specs.declared.tree.Tree.{Tree}
 use Rattle.pearl_rules.specs.declared.entry.Entry.{Entry}
 use Rattle.pearl_program.specs.PlainPrograms.{PlainProg}
 use Rattle.pearl_top.specs.declared.limits.TheConstants.{JOURNAL_LIMIT}
-use Rattle.pearl_top.specs.Commands.{Command, Run, Check, Print, NoCommand}
+use Rattle.pearl_top.specs.Commands.{Command, Run, Check, Print, Bench, NoCommand}
 use Rattle.pearl_top.specs.CheckDue.{BreaksNone}
 use Rattle.pearl_journal.specs.Entries.{All, entries}
 use Rattle.pearl_journal.specs.Lines.{journal_lines}
 use Rattle.pearl_meaning.specs.ProgramRuns.{setup_of as tables_of}
-use Rattle.pearl_top.specs.Outcome.{IsSource}
-use Rattle.pearl_top.specs.PrintDue.{IsSpelled}
+use Rattle.pearl_bench.specs.Texts.{journal_of, source_of}
+use Rattle.pearl_top.specs.RunDue.{IsSource}
+use Rattle.pearl_top.specs.Sources.{IsTree}
 
 -- an accepted source, and a journal of which all lines are accepted, each within its limit
 pub record AreInOrder (source journal : List ℕ) : Type 0 where
@@ -24,4 +26,5 @@ abbrev pub IsInOrder : Command → (List ℕ → List ℕ) → Type 0
 IsInOrder NoCommand files = ⊥
 IsInOrder (Run source journal) files = AreInOrder (files source) (files journal)
 IsInOrder (Check source) files = BreaksNone (files source)
-IsInOrder (Print source) files = IsSpelled (files source)
+IsInOrder (Print source) files = (tree : Tree) × IsTree (files source) tree
+IsInOrder (Bench n) files = AreInOrder (source_of n) journal_of

@@ -1,7 +1,13 @@
 -- The definitions determine the answer, and printing a printed text changes nothing.
 use Rattle.std.specs.Prelude.{◌≡◌, ℕ, ◌≤◌, List, length}
 use Rattle.pearl_rules.specs.declared.entry.Entry.{Entry}
+use Rattle.pearl_rules.specs.Entries.{AreFitting}
 use Rattle.pearl_program.specs.PlainPrograms.{PlainProg}
+use Rattle.pearl_instructions.specs.declared.object.Parts.{Parts as Object}
+use Rattle.pearl_instructions.specs.Lawful.{IsObject}
+use Rattle.pearl_instructions.specs.Setups.{setup_of}
+use Rattle.pearl_instructions.specs.Valid.{IsValid}
+use Rattle.pearl_faithful.specs.Faithful.{IsFaithfulTo}
 use Rattle.pearl_tree.specs.declared.token.Token.{Token}
 use Rattle.pearl_tree.specs.declared.tree.Tree.{Tree}
 use Rattle.pearl_tree.specs.Modules.{Spells}
@@ -11,7 +17,11 @@ use Rattle.pearl_top.specs.declared.limits.TheConstants.{SOURCE_LIMIT}
 use Rattle.pearl_top.specs.declared.status.Status.{Status}
 use Rattle.pearl_top.specs.declared.status.Status.TheVariants.{Done}
 use Rattle.pearl_top.specs.Commands.{Command, Print}
-use Rattle.pearl_top.specs.Outcome.{IsSource, IsOutcome}
+use Rattle.pearl_top.specs.Outcome.{IsOutcome}
+use Rattle.pearl_top.specs.RunDue.{IsSource}
+use Rattle.pearl_top.specs.Complete.{IsInOrder}
+use Rattle.pearl_top.specs.Ready.{RunsByRules}
+use Rattle.pearl_top.specs.Runners.{by_code, by_rules}
 use Rattle.pearl_top.specs.Transcript.{Close, IsTranscript}
 
 -- a source means one program
@@ -21,12 +31,36 @@ HasOneMeaning = (source : List ℕ) (p q : PlainProg) → IsSource source p → 
 -- a source writes one thing over the entries of a journal
 abbrev pub HasOneTranscript : Type 0
 HasOneTranscript = (source : List ℕ) (p q : PlainProg) → IsSource source p → IsSource source q → (es : List Entry) (close : Close) (bytes others : List ℕ) →
-    IsTranscript p es close bytes → IsTranscript q es close others → bytes ≡ others
+    IsTranscript (by_rules p) es close bytes → IsTranscript (by_rules q) es close others → bytes ≡ others
 
--- a command and its files have at most one status, and at most one list of bytes
-abbrev pub HasOneOutcome : Type 0
-HasOneOutcome = (command : Command) (files : List ℕ → List ℕ) (status other : Status) (bytes others : List ℕ) →
-    IsOutcome command files status bytes → IsOutcome command files other others → (status ≡ other) × (bytes ≡ others)
+-- an object that does what a program means writes the program's transcript over any entries that fit
+abbrev pub ObjectsWriteAlike : Type 0
+ObjectsWriteAlike = (p : PlainProg) (o : Object) → IsFaithfulTo p o → (es : List Entry) → AreFitting (setup_of o) es → (close : Close) (bytes : List ℕ) →
+    IsTranscript (by_code o) es close bytes → IsTranscript (by_rules p) es close bytes
+
+-- a valid object runs as some task rules say, and its runs come to their ends
+abbrev pub ValidObjectsRun : Type 0
+ValidObjectsRun = (o : Object) → IsValid o → IsObject o → RunsByRules o
+
+-- a command and its files have at most one status
+abbrev pub HasOneStatus : Type 0
+HasOneStatus = (command : Command) (files : List ℕ → List ℕ) (status other : Status) (bytes others : List ℕ) →
+    IsOutcome command files status bytes → IsOutcome command files other others → status ≡ other
+
+-- and with it at most one list of bytes
+abbrev pub HasOneText : Type 0
+HasOneText = (command : Command) (files : List ℕ → List ℕ) (status : Status) (bytes others : List ℕ) →
+    IsOutcome command files status bytes → IsOutcome command files status others → bytes ≡ others
+
+-- there is an outcome in which the command is carried out to its end, and it is carried out to its end in each one
+pub record EndsWell (command : Command) (files : List ℕ → List ℕ) : Type 0 where
+  pub bytes : List ℕ
+  pub outcome : IsOutcome command files Done bytes
+  pub only : (status : Status) (others : List ℕ) → IsOutcome command files status others → status ≡ Done
+
+-- so it is where its files are in order
+abbrev pub FilesInOrderEndWell : Type 0
+FilesInOrderEndWell = (command : Command) (files : List ℕ → List ℕ) → IsInOrder command files → EndsWell command files
 
 -- no duration of the source has 2^63 hours or more, once its minutes and seconds are carried into them
 abbrev pub HoursFit : List ℕ → Type 0

@@ -10,23 +10,31 @@ pub mod Commands
 pub mod Failures
 -- what a sink took in a call, measured against what was due
 pub mod Taken
--- what a program's run over the entries of a journal writes
+-- what runs over the entries of a journal, and where that ends
+pub mod Runners
+-- what a run over the entries of a journal writes
 pub mod Transcript
 -- how a machine goes over a journal
 pub mod Replay
--- what is due at and after the journal of an accepted source
+-- what is due at and after a journal, for whatever runs over it
 pub mod JournalDue
 -- what is due where a file is not read whole and at a source, and what a file of an untold shelf may have
 pub mod Reading
+-- the way of a source from its bytes to the module that is asked
+pub mod Sources
 -- what is due for a source that is printed
 pub mod PrintDue
 -- what is due for a source that is checked
 pub mod CheckDue
+-- what is due for a source that is run over a journal
+pub mod RunDue
+-- what is due for the workload of a number
+pub mod BenchDue
 -- which status and which bytes belong to some words and files
 pub mod Outcome
 -- which words and files bring a command to its end
 pub mod Complete
 -- the definitions determine the answer, and printing a printed text changes nothing
 pub mod Laws
--- when a machine is ready to run a program from its start
+-- when a machine is ready to run from its start
 pub mod Ready

@@ -1,36 +1,15 @@
 -- Which status and which bytes belong to some words and files.
-use Rattle.std.specs.Prelude.{◌≢◌, ◌⊎◌, ℕ, List, [], ◌∷◌, map}
-use Rattle.pearl_tree.specs.ShownModules.{shown_tree}
-use Rattle.pearl_program.specs.PlainPrograms.{PlainProg}
-use Rattle.pearl_top.specs.Programs.{IsProgramOf}
+use Rattle.std.specs.Prelude.{◌≢◌, ℕ, List, [], ◌∷◌, map}
 use Rattle.pearl_script.specs.declared.refusal.Refusal.TheVariants as refusal
 use Rattle.pearl_script.specs.Refusals.{refusal_line}
 use Rattle.pearl_top.specs.declared.status.Status.{Status}
 use Rattle.pearl_top.specs.declared.status.Status.TheVariants.{Usage, NoMemory}
-use Rattle.pearl_top.specs.Commands.{Command, Run, Check, Print, NoCommand, names_of}
-use Rattle.pearl_top.specs.CheckDue.{BreaksNone, CheckDue, IsUnaccepted}
-use Rattle.pearl_top.specs.JournalDue.{JournalDue}
+use Rattle.pearl_top.specs.BenchDue.{BenchDue}
+use Rattle.pearl_top.specs.CheckDue.{CheckDue}
+use Rattle.pearl_top.specs.Commands.{Command, Run, Check, Print, Bench, NoCommand, names_of}
 use Rattle.pearl_top.specs.PrintDue.{PrintDue}
-use Rattle.pearl_top.specs.Reading.{DueAtSource}
+use Rattle.pearl_top.specs.RunDue.{RunDue}
 use Rattle.pearl_top.specs.Taken.{OnlyDue}
-
--- THE SOURCE
-
--- these bytes, within the limit, are a module that breaks no rule; it means this program
-pub record IsSource (source : List ℕ) (p : PlainProg) : Type 0 where
-  pub is : BreaksNone source
-  pub program : IsProgramOf (shown_tree is.is.tree) p
-
--- what is due at a source that is run, with which no command is done: the line of what it lacks or breaks
-abbrev pub SourceDue : List ℕ → Type 0 → Status → List ℕ → Type 0
-SourceDue source = DueAtSource source (λ bytes. ⊥) (IsUnaccepted source)
-
--- THE WHOLE
-
--- what is due at the source, or where it is accepted at its journal; each file with the cause of a fault of reading it
-abbrev pub RunDue : List ℕ → List ℕ → Type 0 → Type 0 → Status → List ℕ → Type 0
-RunDue source journal source_rose journal_rose status bytes =
-    SourceDue source source_rose status bytes ⊎ ((p : PlainProg) × IsSource source p × JournalDue p journal journal_rose status bytes)
 
 -- What is due for a command, where these are the bytes of the files that it names, in order. `rose` tells of each name whether its
 -- count of faults rose.
@@ -39,6 +18,7 @@ DueFor NoCommand [] rose = OnlyDue Usage (refusal_line refusal.Usage)
 DueFor (Run source_name journal_name) (source ∷ journal ∷ []) rose = RunDue source journal (rose source_name) (rose journal_name)
 DueFor (Check source_name) (source ∷ []) rose = CheckDue source (rose source_name)
 DueFor (Print source_name) (source ∷ []) rose = PrintDue source (rose source_name)
+DueFor (Bench n) [] rose = BenchDue n
 DueFor _ contents rose = λ status bytes. ⊥
 
 -- the same where `files` tells the bytes of each name

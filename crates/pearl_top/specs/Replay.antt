@@ -5,7 +5,7 @@ use Rattle.pearl_rules.specs.declared.entry.Entry.{Entry}
 use Rattle.pearl_rules.specs.declared.setup.Setup.{Setup}
 use Rattle.pearl_rules.specs.Core.{Report}
 use Rattle.pearl_rules.specs.Runs.{Machine, machine_start}
-use Rattle.pearl_instructions.specs.declared.object.Object.{Object}
+use Rattle.pearl_instructions.specs.declared.object.Parts.{Parts as Object}
 use Rattle.pearl_stack.specs.Frames.{Frame}
 use Rattle.pearl_instructions.specs.Engines.{engine}
 use Rattle.pearl_instructions.specs.Setups.{setup_of}

@@ -7,12 +7,11 @@ ghost use Rattle.pearl_top.specs.Failures.{IsDue};
 
 use crate::failure::Failure;
 use crate::limits::SOURCE_LIMIT;
+use crate::source::tree_of;
 use arrayvec::ArrayVec;
 use itoa::Buffer;
 use pearl_check::check;
 use pearl_check::sizes::Sizes;
-use pearl_lex::lexer::tokens;
-use pearl_parse::parse::parse;
 use std::alloc::Global;
 
 /// The sizes of a source in which no rule is broken.
@@ -21,8 +20,7 @@ pub fn sizes_of(alloc: Global, source: &[u8]) -> Result<Sizes, Failure>
     ensures ok { IfOk result (λ sizes. IsAccepted source.now (accepted_line sizes)) }
     ensures err { IfErr result (IsDue (CheckDue source.now ⊥)) }
 {
-    let tokens = tokens(alloc, source)?;
-    let tree = parse(alloc, tokens.as_slice(), source.len() as u32)?;
+    let tree = tree_of(alloc, source)?;
     let sizes = check(alloc, &tree)?;
     Ok(sizes)
 }

@@ -1,7 +1,10 @@
 // The commands.
 
-ghost use Rattle.std.specs.Prelude.{◌≡◌, List, map, string_bytes};
-ghost use Rattle.pearl_top.specs.Commands.{command_of, IsCommand};
+ghost use Rattle.std.specs.Prelude.{◌≡◌, List, bytes_eq, map, string_bytes};
+ghost use Rattle.std.specs.Fmt.{decimal};
+ghost use Rattle.pearl_top.specs.Commands.{NoCommand, asked, bench_of as bench_of_digits, command_of, of_one as of_one_word, of_two as of_two_words, IsCommand};
+
+use itoa::Buffer;
 
 /// What the words ask for.
 pub enum Command<'a> {
@@ -11,6 +14,8 @@ pub enum Command<'a> {
     Check { source: &'a str },
     /// `print SOURCE`.
     Print { source: &'a str },
+    /// `bench N`, N from 1 to 100 without leading zeros.
+    Bench { n: u8 },
     /// The words are none of the listed forms.
     None,
 }
@@ -20,16 +25,59 @@ pub fn command_of_words(words: &[String]) -> Command<'_>
     ensures { IsCommand result (command_of (map string_bytes words.now)) }
 {
     match words {
-        [word, source, journal] if word.as_str() == "run" => Command::Run {
-            source: source.as_str(),
-            journal: journal.as_str(),
-        },
-        [word, source] if word.as_str() == "check" => Command::Check {
-            source: source.as_str(),
-        },
-        [word, source] if word.as_str() == "print" => Command::Print {
-            source: source.as_str(),
-        },
+        [word, name] => of_one(word.as_str(), name.as_str()),
+        [word, name, second] => of_two(word.as_str(), name.as_str(), second.as_str()),
         _ => Command::None,
     }
+}
+
+// The command of a word and one more.
+fn of_one<'a>(word: &str, name: &'a str) -> Command<'a>
+    ensures { IsCommand result (asked (λ name. NoCommand) of_one_word word.now name.now) }
+{
+    if word == "check" {
+        Command::Check { source: name }
+    } else if word == "print" {
+        Command::Print { source: name }
+    } else if word == "bench" {
+        bench_of(name)
+    } else {
+        Command::None
+    }
+}
+
+// The command of a word and two more.
+fn of_two<'a>(word: &str, name: &'a str, second: &'a str) -> Command<'a>
+    ensures { IsCommand result (asked (λ name second. NoCommand) of_two_words word.now name.now second.now) }
+{
+    if word == "run" {
+        Command::Run {
+            source: name,
+            journal: second,
+        }
+    } else {
+        Command::None
+    }
+}
+
+// The workload of the number that these digits spell, if it is one from 1 to 100.
+fn bench_of(digits: &str) -> Command<'_>
+    ensures { IsCommand result (bench_of_digits digits.now) }
+{
+    let mut n = 100;
+    'numbers: while n > 0 {
+        if spells(digits, n) {
+            return Command::Bench { n };
+        }
+        n -= 1;
+    }
+    Command::None
+}
+
+// Whether these digits spell this number.
+fn spells(digits: &str, n: u8) -> bool
+    ensures { result ≡ bytes_eq (decimal n) digits.now }
+{
+    let mut buffer = Buffer::new();
+    buffer.format(n) == digits
 }

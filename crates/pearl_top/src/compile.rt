@@ -3,18 +3,17 @@
 ghost use Rattle.std.specs.Prelude.{◌≤◌, length, IfOk, IfErr};
 ghost use Rattle.pearl_program.specs.PlainPrograms.{PlainProg, plain_prog};
 ghost use Rattle.pearl_top.specs.Failures.{IsDue};
-ghost use Rattle.pearl_top.specs.Outcome.{IsSource, SourceDue};
+ghost use Rattle.pearl_top.specs.RunDue.{IsSource, SourceDue};
 ghost use Rattle.pearl_top.specs.Ready.{IsReadyFor};
 
 use crate::failure::Failure;
+use crate::laws::valid_objects_run;
 use crate::limits::SOURCE_LIMIT;
 use crate::program::program_of;
-use pearl_faithful::laws::{faithful_programs, generated_is_valid};
+use crate::source::tree_of;
 use pearl_generate::generate;
 use pearl_instructions::valid::Valid;
-use pearl_lex::lexer::tokens;
 use pearl_machine::Machine;
-use pearl_parse::parse::parse;
 use pearl_program::prog::Prog;
 use std::alloc::{AllocError as NoMemory, Global};
 
@@ -35,8 +34,7 @@ fn program(alloc: Global, source: &[u8]) -> Result<Prog, Failure>
     ensures source { IfOk result (λ program. IsSource source.now (plain_prog program)) }
     ensures err { IfErr result (IsDue (SourceDue source.now ⊥)) }
 {
-    let tokens = tokens(alloc, source)?;
-    let tree = parse(alloc, tokens.as_slice(), source.len() as u32)?;
+    let tree = tree_of(alloc, source)?;
     let program = program_of(alloc, &tree)?;
     Ok(program)
 }
@@ -45,10 +43,8 @@ fn program(alloc: Global, source: &[u8]) -> Result<Prog, Failure>
 fn machine(alloc: Global, program: &Prog) -> Result<Machine, NoMemory>
     ensures { IfOk result (IsReadyFor (plain_prog program.now)) }
 {
-    let _sound = program.parts();
     let object = generate(alloc, program)?;
-    generated_is_valid();
-    faithful_programs();
+    valid_objects_run();
     let code = Valid::new(alloc, object)?;
     let machine = Machine::load(alloc, code)?;
     Ok(machine)

@@ -1,8 +1,11 @@
 // The program of a module is sound, the definitions determine what a call brings about, and printing a printed text
 // changes nothing.
 
-ghost use Rattle.pearl_top.specs.Laws.{HasOneMeaning, HasOneTranscript, HasOneOutcome, PrintsItsText};
+ghost use Rattle.pearl_top.specs.Laws.{HasOneMeaning, HasOneTranscript, HasOneStatus, HasOneText};
+ghost use Rattle.pearl_top.specs.Laws.{FilesInOrderEndWell, ObjectsWriteAlike, PrintsItsText, ValidObjectsRun};
 ghost use Rattle.pearl_top.specs.SoundPrograms.{BodiesRenewRight, ProgramsAreSound};
+
+use pearl_instructions::runs;
 
 /// What goes into the variables of tasks and procedures as first values suits them.
 pub fn bodies_renew_right()
@@ -24,9 +27,36 @@ pub fn one_transcript()
     ensures { HasOneTranscript }
 {}
 
-/// A command and its files have at most one status and one list of bytes, where nothing outside fails and memory is there.
-pub fn one_outcome()
-    ensures { HasOneOutcome }
+/// The own machine of an object that does what a program means writes what the program's task rules write, over any
+/// entries that fit.
+pub fn objects_write_alike()
+    ensures { ObjectsWriteAlike }
+{}
+
+/// A valid object runs as its own code offers, and its run over any entries that fit comes to its end.
+pub fn valid_objects_run()
+    ensures { ValidObjectsRun }
+{
+    runs::tables_are_lawful();
+    runs::code_stands();
+    runs::actions_are_offered_soon();
+    runs::objects_run_as_they_offer();
+}
+
+/// A command and its files have at most one status, where nothing outside fails and memory is there.
+pub fn one_status()
+    ensures { HasOneStatus }
+{}
+
+/// And with it they have at most one list of bytes.
+pub fn one_text()
+    ensures { HasOneText }
+{}
+
+/// Where the files that a command names are in order, it is carried out to its end: there is something that it writes
+/// then, and it ends in no other way, where nothing outside fails and memory is there.
+pub fn files_in_order_end_well()
+    ensures { FilesInOrderEndWell }
 {}
 
 /// What `print` writes of a source, it writes again of a file that holds just that, where no duration of the source has 2^63

@@ -1,6 +1,7 @@
 // The top call: words and files to a status and bytes.
 #![tactic(auto)]
 
+mod bench;
 mod check;
 mod command;
 mod compile;
@@ -12,5 +13,6 @@ pub mod program;
 mod read;
 mod refuse;
 mod replay;
+mod source;
 pub mod status;
 pub mod top;

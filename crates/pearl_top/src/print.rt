@@ -6,8 +6,7 @@ ghost use Rattle.pearl_top.specs.PrintDue.{IsPrinted, PrintDue};
 
 use crate::failure::Failure;
 use crate::limits::SOURCE_LIMIT;
-use pearl_lex::lexer::tokens;
-use pearl_parse::parse::parse;
+use crate::source::tree_of;
 use pearl_print::print::print;
 use std::alloc::Global;
 
@@ -17,8 +16,7 @@ pub fn canonical_text(alloc: Global, source: &[u8]) -> Result<Vec<u8>, Failure>
     ensures ok { IfOk result (λ text. IsPrinted source.now text.items) }
     ensures err { IfErr result (IsDue (PrintDue source.now ⊥)) }
 {
-    let tokens = tokens(alloc, source)?;
-    let tree = parse(alloc, tokens.as_slice(), source.len() as u32)?;
+    let tree = tree_of(alloc, source)?;
     let text = print(alloc, &tree)?;
     Ok(text)
 }

@@ -2,12 +2,12 @@
 
 ghost use Rattle.std.specs.Prelude.{◌≡◌, ◌+◌, ◌^◌, ◌<◌, ◌≤◌, ℕ, List, [], length, false, IfErr, OnOk};
 ghost use Rattle.pearl_io.specs.Outside.{CountRose, WriteFailed};
-ghost use Rattle.pearl_program.specs.PlainPrograms.{PlainProg};
 ghost use Rattle.pearl_journal.specs.Pieces.{HasNoWhole, begin};
 ghost use Rattle.pearl_top.specs.JournalDue.{JournalDue};
 ghost use Rattle.pearl_top.specs.Reading.{MayHave};
-ghost use Rattle.pearl_top.specs.Ready.{IsReadyFor};
+ghost use Rattle.pearl_top.specs.Ready.{IsReady};
 ghost use Rattle.pearl_top.specs.Replay.{Carried, CarriesOut, IsFailure};
+ghost use Rattle.pearl_top.specs.Runners.{by_code};
 ghost use Rattle.pearl_top.specs.Taken.{Leaves};
 
 use crate::failure::Failure;
@@ -33,8 +33,8 @@ pub fn replay<S: Shelf, K: Sink>(
     requires moment { machine.old.state.core.moment ≡ 0 }
     ensures ends { let rose = CountRose (S.faults shelf.old journal.now) (S.faults shelf.new journal.now) in
         let failed = WriteFailed (K.faults sink.old) (K.faults sink.new) (K.full sink.new) in
-        (p : PlainProg) → IsReadyFor p machine.old → (file : List ℕ) × MayHave (S.holds shelf.old) journal.now file
-        × Leaves (K.taken sink.old) (K.taken sink.new) failed (JournalDue p file rose) result }
+        IsReady machine.old → (file : List ℕ) × MayHave (S.holds shelf.old) journal.now file
+        × Leaves (K.taken sink.old) (K.taken sink.new) failed (JournalDue (by_code machine.old.object) file rose) result }
     ensures held { S.holds shelf.new ≡ S.holds shelf.old }
     ensures shelf_later { (name : List ℕ) → S.faults shelf.old name ≤ S.faults shelf.new name }
     ensures sink_later { K.faults sink.old ≤ K.faults sink.new }

@@ -14,7 +14,7 @@ pub enum Status {
     Usage,
     /// The source is refused.
     Refused,
-    /// The object is refused. No command reads an object yet.
+    /// The object is refused, where a command reads one.
     BadObject,
     /// A line of the journal is refused.
     BadJournal,

@@ -4,14 +4,17 @@ ghost use Rattle.std.specs.Prelude.{◌≡◌, ◌≢◌, ◌≤◌, ◌⊎◌, 
 ghost use Rattle.std.specs.List.{AllZip};
 ghost use Rattle.pearl_io.specs.Outside.{Files, CountRose, WriteFailed, content};
 ghost use Rattle.pearl_script.specs.Refusals.{refusal_line};
+ghost use Rattle.pearl_top.specs.BenchDue.{BenchDue};
 ghost use Rattle.pearl_top.specs.CheckDue.{CheckDue};
-ghost use Rattle.pearl_top.specs.Commands.{NoCommand, command_of, names_of};
+ghost use Rattle.pearl_top.specs.Commands.{NoCommand, ReadsObject, command_of, names_of};
 ghost use Rattle.pearl_top.specs.Complete.{IsInOrder};
-ghost use Rattle.pearl_top.specs.Outcome.{Due, DueFor, IsOutcome, RunDue};
+ghost use Rattle.pearl_top.specs.Outcome.{Due, DueFor, IsOutcome};
+ghost use Rattle.pearl_top.specs.RunDue.{RunDue};
 ghost use Rattle.pearl_top.specs.PrintDue.{PrintDue};
 ghost use Rattle.pearl_top.specs.Reading.{MayHave};
 ghost use Rattle.pearl_top.specs.Taken.{Ends, Finishes, OnlyDue, Leaves};
 
+use crate::bench::bench_line;
 use crate::check::{line_of, sizes_of};
 use crate::command::{Command, command_of_words};
 use crate::compile::compile;
@@ -30,8 +33,9 @@ use std::alloc::Global;
 /// Carries out the command of the words after the program's name: reads the files that it names from the shelf, and
 /// writes what is due to the sink. Tests hold that each line is one piece.
 ///
-/// Memory may run out before a text is printed, while a source is checked, and before the first line of a run is
-/// written, and then the line `error memory` alone is due. What is due otherwise, and with which status, is `Due`.
+/// Memory may run out before a text is printed, while a source is checked, before the first line of a run is written,
+/// and while the workload runs, and then the line `error memory` alone is due. What is due otherwise, and with which
+/// status, is `Due`.
 pub fn pearl<S: Shelf, K: Sink>(
     alloc: Global,
     words: &[String],
@@ -50,7 +54,7 @@ pub fn pearl<S: Shelf, K: Sink>(
         Ends (K.taken sink.old) (K.taken sink.new) (Due command (content files) rose) result }
 
     // Where the status is none of those for which the outside or memory is the cause, what was taken is, with the status, an
-    // outcome. That it is the only one says `laws::one_outcome`.
+    // outcome. That it is the only one say `laws::one_status` and `laws::one_text`.
     ensures outcome { let command = command_of (map string_bytes words.now) in
         (files : Files) → S.holds shelf.old ≡ Some files →
         result ≢ Status.NoMemory → result ≢ Status.ReadFault → result ≢ Status.WriteFault →
@@ -68,7 +72,7 @@ pub fn pearl<S: Shelf, K: Sink>(
         (result ≡ Status.Usage) ⊎ (result ≡ Status.WriteFault) }
     ensures no_line { command_of (map string_bytes words.now) ≡ NoCommand →
         Ends (K.taken sink.old) (K.taken sink.new) (OnlyDue Status.Usage (refusal_line Refusal.Usage)) result }
-    ensures object { result ≢ Status.BadObject }
+    ensures object { result ≡ Status.BadObject → ReadsObject (command_of (map string_bytes words.now)) }
     ensures read { let rose = λ (name : List ℕ). CountRose (S.faults shelf.old name) (S.faults shelf.new name) in
         result ≡ Status.ReadFault → Any rose (names_of (command_of (map string_bytes words.now))) }
     ensures write { result ≡ Status.WriteFault → WriteFailed (K.faults sink.old) (K.faults sink.new) (K.full sink.new) }
@@ -102,6 +106,7 @@ fn carry_out<S: Shelf, K: Sink>(
         Command::Run { source, journal } => run(alloc, source, journal, shelf, sink),
         Command::Check { source } => check(alloc, source, shelf, sink),
         Command::Print { source } => print(alloc, source, shelf, sink),
+        Command::Bench { n } => bench(alloc, n, sink),
         Command::None => Err(Failure::Refused(Refusal::Usage)),
     }
 }
@@ -167,5 +172,18 @@ fn print<S: Shelf, K: Sink>(
     let bytes = read_whole(alloc, shelf, source, SOURCE_LIMIT)?;
     let text = canonical_text(alloc, bytes.as_slice())?;
     put_all(sink, text.as_slice())?;
+    Ok(())
+}
+
+// Carries out `bench N`.
+fn bench<K: Sink>(alloc: Global, n: u8, sink: &mut K) -> Result<(), Failure>
+    requires some { 1 ≤ n }
+    requires few { n ≤ 100 }
+    ensures ends { let failed = WriteFailed (K.faults sink.old) (K.faults sink.new) (K.full sink.new) in
+        Leaves (K.taken sink.old) (K.taken sink.new) failed (BenchDue n) result }
+    ensures sink_later { K.faults sink.old ≤ K.faults sink.new }
+{
+    let line = bench_line(alloc, n)?;
+    put_all(sink, line.as_slice())?;
     Ok(())
 }

@@ -38,7 +38,7 @@ fn modules() -> &'static [(&'static str, &'static str)] {
 fn told(alloc: Global, parts: &str) -> Result<String, AllocError> {
     let source = format!(in alloc; "MODULE;{parts}MODEND")?;
     match made_of(alloc, source.as_str().as_bytes())? {
-        Made::Object(object) => code_text(alloc, &object),
+        Made::Object(object) => code_text(alloc, object.parts()),
         _ => String::from_str(alloc, "no object"),
     }
 }

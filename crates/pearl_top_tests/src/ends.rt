@@ -2,7 +2,7 @@
 
 use crate::case::{Case, Fault, Long, RUN, Table, ends_so, fails_so, first_other, long_ends_so};
 use crate::mark::joined;
-use crate::{check, print, run, tasks, timed, typed, whole};
+use crate::{bench, check, print, run, tasks, timed, typed, whole};
 use pearl_top::status::Status;
 use std::alloc::{AllocError, Global};
 use std::process::Abort;
@@ -267,7 +267,24 @@ fn are_no_commands(rt: &impl Abort, alloc: Global, table: &[&[&str]]) -> Result<
 #[test]
 fn other_words_are_no_command(rt: HostRuntime) -> Result<(), Fail> {
     are_no_commands(&rt, rt.alloc(), &check::OTHER_WORDS)?;
-    are_no_commands(&rt, rt.alloc(), &print::OTHER_WORDS)
+    are_no_commands(&rt, rt.alloc(), &print::OTHER_WORDS)?;
+    are_no_commands(&rt, rt.alloc(), &bench::OTHER_WORDS)
+}
+
+#[test]
+fn workloads_are_summed_up(rt: HostRuntime) -> Result<(), Fail> {
+    for (number, line) in bench::LINES {
+        assert!(rt; bench::writes(rt.alloc(), number, line)?, "{number}");
+    }
+    Ok(())
+}
+
+#[test]
+fn workloads_are_accepted(rt: HostRuntime) -> Result<(), Fail> {
+    for n in 1..=100 {
+        assert!(rt; bench::is_accepted(rt.alloc(), n)?, "{n}");
+    }
+    Ok(())
 }
 
 #[test]

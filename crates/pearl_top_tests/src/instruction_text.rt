@@ -1,7 +1,7 @@
 // What instructions say, as text: each is followed by a semicolon.
 
 use pearl_instructions::instr::{Activation, Bounds, Continuation, Instr, Reading};
-use pearl_instructions::object::{Code, Object};
+use pearl_instructions::object::{Code, Parts};
 use pearl_value::cell::Cell;
 use pearl_value::kind::Kind;
 use std::alloc::{AllocError, Global};
@@ -93,7 +93,7 @@ fn put_reading(into: &mut String, part: &Reading) -> Result<(), AllocError> {
 // Values and cells.
 fn put_simple(into: &mut String, instr: &Instr) -> Result<(), AllocError> {
     match instr {
-        Instr::Const(value) => put_value(into, value),
+        Instr::Const(value) => put_value(into, value.get()),
         Instr::Load(cell) => put_number(into, "load ", *cell),
         Instr::Store(cell) => put_number(into, "store ", *cell),
         Instr::Fill { first, count, kind } => {
@@ -103,7 +103,7 @@ fn put_simple(into: &mut String, instr: &Instr) -> Result<(), AllocError> {
         }
         Instr::Drop => into.push_str("drop"),
         Instr::Conv(kind) => put_of_kind(into, "conv", *kind),
-        Instr::Index(bounds) => put_bounds(into, bounds.as_slice()),
+        Instr::Index(bounds) => put_bounds(into, bounds.get().as_slice()),
         Instr::LoadAt { first, count } => put_cells(into, "loadat ", *first, *count),
         Instr::StoreAt { first, count } => put_cells(into, "storeat ", *first, *count),
         Instr::Monadic(op) => write!(into, "{op:?}"),
@@ -136,7 +136,7 @@ fn put_flow(into: &mut String, instr: &Instr) -> Result<(), AllocError> {
     match instr {
         Instr::Jump(to) => put_number(into, "jump ", *to),
         Instr::JumpZero(to) => put_number(into, "jumpzero ", *to),
-        Instr::Case(list) => put_numbers(into, "case", list.as_slice()),
+        Instr::Case(list) => put_numbers(into, "case", list.get().as_slice()),
         Instr::Turn => into.push_str("turn"),
         Instr::Call(procedure) => put_number(into, "call ", *procedure),
         Instr::Return => into.push_str("return"),
@@ -152,22 +152,22 @@ fn put_flow(into: &mut String, instr: &Instr) -> Result<(), AllocError> {
 fn put_transfer(into: &mut String, instr: &Instr) -> Result<(), AllocError> {
     match instr {
         Instr::Put { device, format } => put_numbers(into, "put", &[*device, *format]),
-        Instr::Get(reading) => put_reading(into, reading),
+        Instr::Get(reading) => put_reading(into, reading.get()),
         Instr::Take(device) => put_number(into, "take ", *device),
         Instr::Send(device) => put_number(into, "send ", *device),
         Instr::Enable(device) => put_number(into, "enable ", *device),
         Instr::Disable(device) => put_number(into, "disable ", *device),
         Instr::Trigger(device) => put_number(into, "trigger ", *device),
-        Instr::Request(list) => put_numbers(into, "request", list.as_slice()),
-        Instr::Release(list) => put_numbers(into, "release", list.as_slice()),
+        Instr::Request(list) => put_numbers(into, "request", list.get().as_slice()),
+        Instr::Release(list) => put_numbers(into, "release", list.get().as_slice()),
         _ => put_tasking(into, instr),
     }
 }
 
 fn put_tasking(into: &mut String, instr: &Instr) -> Result<(), AllocError> {
     match instr {
-        Instr::Activate(activation) => put_activation(into, activation),
-        Instr::Continue(continuation) => put_continuation(into, continuation),
+        Instr::Activate(activation) => put_activation(into, activation.get()),
+        Instr::Continue(continuation) => put_continuation(into, continuation.get()),
         Instr::Resume(once) => write!(into, "resume {once:?}"),
         Instr::Suspend(task) => put_number(into, "suspend ", *task),
         Instr::Terminate(task) => put_number(into, "terminate ", *task),
@@ -188,7 +188,7 @@ fn put_code(into: &mut String, code: &Code) -> Result<(), AllocError> {
 }
 
 /// The code of all procedures, and then of all tasks, with a stroke behind each.
-pub fn code_text(alloc: Global, object: &Object) -> Result<String, AllocError> {
+pub fn code_text(alloc: Global, object: &Parts) -> Result<String, AllocError> {
     let mut text = String::new(alloc);
     for procedure in object.procedures.as_slice() {
         put_code(&mut text, &procedure.code)?;

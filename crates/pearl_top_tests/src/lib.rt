@@ -12,6 +12,8 @@ macro_rules! runs {
 }
 
 #[cfg(test)]
+mod bench;
+#[cfg(test)]
 mod case;
 #[cfg(test)]
 mod check;

@@ -67,7 +67,7 @@ pub fn judged(alloc: Global, source: &[u8]) -> Result<String, AllocError> {
         Made::Broken { rule, place } => return format!(in alloc; "S{rule} at {place}"),
         Made::Object(object) => object,
     };
-    match judge_object(alloc, &object) {
+    match judge_object(alloc, object.parts()) {
         Ok(()) => String::from_str(alloc, "valid"),
         Err(
             VerifyFault::Unsound {

@@ -1,25 +1,14 @@
-use Rattle.std.proofs.Common.{refl, subst, sym}
 use Rattle.std.proofs.lemmas.Result.{err_from_is_err_and}
-use Rattle.pearl_lex.specs.Lexes.{Lexes}
-use Rattle.pearl_tree.specs.Modules.{Spells}
-use Rattle.pearl_top.proofs.PrintEnds.{print_stopped}
+use Rattle.pearl_top.specs.PrintDue.{IsPrinted}
+use Rattle.pearl_top.specs.Sources.{IsUnspelled}
+use Rattle.pearl_top.proofs.SourceEnds.{unspelled}
 use Rattle.pearl_top.proofs.print.canonical_text.Goals as goal
 
 pub returns-in_err-tree-clause-err : goal.returns-in_err-tree-clause-err
 returns-in_err-tree-clause-err c =
     let source = c.args.source.now in
-    let p = err_from_is_err_and c.from_residual-in_err-tree.result c.from_residual-in_err-tree.ensures.1 in
-    rw (p.1, p.2) (print_stopped source c.as_slice.result.now _ c.in_err-tree.field-0.0 c.requires refl
-    (subst (Lexes source) (sym c.as_slice.ensures.value) c.in_ok-tokens.ensures.tokens) c.in_err-tree.ensures.refused)
+    let p = err_from_is_err_and c.from_residual.result c.from_residual.ensures.1 in
+    rw (p.1, p.2) (unspelled source (IsPrinted source) (IsUnspelled source) c.in_err-tree.field-0.0 (λ bytes h. h) c.in_err-tree.ensures.err)
 
 pub returns-clause-ok : goal.returns-clause-ok
-returns-clause-ok c = record {
-  is = record {
-    within = c.requires;
-    tokens = c.in_ok-tokens.tokens.items;
-    lexes = c.in_ok-tokens.ensures.tokens;
-    tree = c.in_ok-tree.tree;
-    spells = subst (Spells c.in_ok-tree.tree) c.as_slice.ensures.value c.in_ok-tree.ensures.spells;
-  };
-  text = c.in_ok-text.ensures.spells;
-}
+returns-clause-ok c = record { tree = c.in_ok-tree.tree; is = c.in_ok-tree.ensures.tree; text = c.in_ok-text.ensures.spells }

@@ -3,7 +3,7 @@ use Rattle.std.specs.Prelude.{Err}
 use Rattle.pearl_io.specs.Outside.{CountRose, WriteFailed}
 use Rattle.pearl_script.specs.declared.refusal.Refusal.TheVariants as refusal
 use Rattle.pearl_top.specs.declared.failure.Failure.TheVariants as failure
-use Rattle.pearl_top.specs.Commands.{Run, Check, Print, NoCommand}
+use Rattle.pearl_top.specs.Commands.{Run, Check, Print, Bench, NoCommand}
 use Rattle.pearl_top.specs.Taken.{Leaves}
 use Rattle.pearl_top.proofs.TakenLaws.{takes_none}
 use Rattle.pearl_top.proofs.WordLaws.{due_as}
@@ -32,6 +32,13 @@ returns-in-Print-clause-ends g c =
     let ends = c.print.ensures.ends in
     due_as _ (Print c.in-Print.source.now) (g.S.Shelf.holds c.args.shelf.now) (ends.0 ∷ []) rose
     (λ due. Leaves (g.K.Sink.taken c.args.sink.now) (g.K.Sink.taken c.print.new.sink) failed due c.print.result) c.in-Print.ensures (ends.1, tt) ends.2
+
+pub returns-in-Bench-clause-ends : goal.returns-in-Bench-clause-ends
+returns-in-Bench-clause-ends g c =
+    let rose : List ℕ → Type 0 = λ name. CountRose (g.S.Shelf.faults c.args.shelf.now name) (g.S.Shelf.faults c.args.shelf.now name) in
+    let failed : Type 0 = WriteFailed (g.K.Sink.faults c.args.sink.now) (g.K.Sink.faults c.bench.new.sink) (g.K.Sink.full c.bench.new.sink) in
+    due_as _ (Bench c.in-Bench.n) (g.S.Shelf.holds c.args.shelf.now) [] rose
+    (λ due. Leaves (g.K.Sink.taken c.args.sink.now) (g.K.Sink.taken c.bench.new.sink) failed due c.bench.result) c.in-Bench.ensures.0 tt c.bench.ensures.ends
 
 pub returns-in-None-clause-ends : goal.returns-in-None-clause-ends
 returns-in-None-clause-ends g c =

@@ -5,7 +5,7 @@ use Rattle.pearl_top.specs.Commands.{command_of}
 use Rattle.pearl_top.specs.Outcome.{DueFor}
 use Rattle.pearl_top.proofs.Completeness.{completes}
 use Rattle.pearl_top.proofs.TakenLaws.{concluded}
-use Rattle.pearl_top.proofs.WordLaws.{due_told, just_usage, no_object, only_usage, read_rose, settles, usage_only}
+use Rattle.pearl_top.proofs.WordLaws.{bad_object, due_told, just_usage, only_usage, read_rose, settles, usage_only}
 use Rattle.pearl_top.proofs.top.pearl.Goals as goal
 
 pub returns-clause-due : goal.returns-clause-due
@@ -61,11 +61,11 @@ pub returns-clause-no_command : goal.returns-clause-no_command
 returns-clause-no_command g c none = just_usage (g.K.Sink.taken c.args.sink.now) (g.K.Sink.taken c.conclude.new.sink) _ c.conclude.result (returns-clause-no_line g c none)
 
 pub returns-clause-object : goal.returns-clause-object
-returns-clause-object g c =
+returns-clause-object g c is =
     let command = command_of (map string_bytes c.args.words.now) in
     let rose : List ℕ → Type 0 = λ name. CountRose (g.S.Shelf.faults c.args.shelf.now name) (g.S.Shelf.faults c.carry_out-ended.new.shelf name) in
     let due = returns-clause-due g c in
-    no_object command due.0 rose (g.K.Sink.taken c.args.sink.now) (g.K.Sink.taken c.conclude.new.sink) c.conclude.result due.2
+    bad_object command due.0 rose (g.K.Sink.taken c.args.sink.now) (g.K.Sink.taken c.conclude.new.sink) c.conclude.result is due.2
 
 pub returns-clause-read : goal.returns-clause-read
 returns-clause-read g c is =

@@ -1,9 +1,9 @@
 use Rattle.std.proofs.Common.{subst, sym, ◌∙◌}
 use Rattle.std.proofs.lemmas.Result.{err_from_is_err_and}
 use Rattle.pearl_io.specs.Outside.{CountRose, WriteFailed}
-use Rattle.pearl_top.specs.PrintDue.{IsPrinted, PrintDue}
-use Rattle.pearl_top.proofs.PrintEnds.{print_rises, text_cut}
-use Rattle.pearl_top.proofs.TakenLaws.{is_due_as, leaves_due}
+use Rattle.pearl_top.specs.PrintDue.{IsPrinted}
+use Rattle.pearl_top.specs.Sources.{IsUnspelled}
+use Rattle.pearl_top.proofs.SourceEnds.{cut_at_source, refused_whole}
 use Rattle.pearl_top.proofs.top.print.Goals as goal
 
 pub returns-in_err-text-clause-ends : goal.returns-in_err-text-clause-ends
@@ -11,14 +11,11 @@ returns-in_err-text-clause-ends g c =
     let rose : Type 0 = CountRose (g.S.Shelf.faults c.args.shelf.now c.args.source.now) (g.S.Shelf.faults c.read_whole.new.shelf c.args.source.now) in
     let failed : Type 0 = WriteFailed (g.K.Sink.faults c.args.sink.now) (g.K.Sink.faults c.args.sink.now) (g.K.Sink.full c.args.sink.now) in
     let read = c.in_ok-bytes.ensures.read in
-    let why = c.in_err-text.field-0.0 in
     let e = err_from_is_err_and c.from_residual-in_err-text.result c.from_residual-in_err-text.ensures.1 in (
       read.0,
       read.1,
-      rw (e.1, e.2) (leaves_due (g.K.Sink.taken c.args.sink.now) failed (PrintDue read.0 rose) why
-          (is_due_as (PrintDue c.as_slice.result.now ⊥) (PrintDue read.0 rose) why
-          (λ s bytes due. print_rises read.0 ⊥ rose s bytes absurd (subst (λ file. PrintDue file ⊥ s bytes) (c.as_slice.ensures.value ∙ read.2.0) due))
-          c.in_err-text.ensures.err)),
+      rw (e.1, e.2) (refused_whole c.as_slice.result.now read.0 IsPrinted IsUnspelled rose failed (g.K.Sink.taken c.args.sink.now)
+          c.in_err-text.field-0.0 (c.as_slice.ensures.value ∙ read.2.0) c.in_err-text.ensures.err),
     )
 
 pub returns-in_err-put_all-clause-ends : goal.returns-in_err-put_all-clause-ends
@@ -29,8 +26,8 @@ returns-in_err-put_all-clause-ends g c =
     let e = err_from_is_err_and c.from_residual-in_err-put_all.result c.from_residual-in_err-put_all.ensures.1 in (
       read.0,
       read.1,
-      rw (e.1, e.2) (text_cut read.0 c.as_slice-2.result.now rose failed (g.K.Sink.taken c.args.sink.now) (g.K.Sink.taken c.put_all.new.sink)
-          c.in_err-put_all.ensures.cause
+      rw (e.1, e.2) (cut_at_source read.0 c.as_slice-2.result.now (IsPrinted read.0) (IsUnspelled read.0) rose failed
+          (g.K.Sink.taken c.args.sink.now) (g.K.Sink.taken c.put_all.new.sink) c.in_err-put_all.ensures.cause
           (subst (IsPrinted read.0) (sym c.as_slice-2.ensures.value)
           (subst (λ file. IsPrinted file c.in_ok-text.text.items) (c.as_slice.ensures.value ∙ read.2.0) c.in_ok-text.ensures.ok))
           c.in_err-put_all.ensures.err),

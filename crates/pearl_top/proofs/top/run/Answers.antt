@@ -9,8 +9,9 @@ use Rattle.pearl_top.specs.declared.failure.Failure.TheVariants as failure
 use Rattle.pearl_top.specs.declared.status.Status.TheVariants.{NoMemory}
 use Rattle.pearl_top.specs.declared.limits.TheConstants.{SOURCE_LIMIT}
 use Rattle.pearl_top.specs.JournalDue.{JournalDue}
-use Rattle.pearl_top.specs.Outcome.{RunDue, SourceDue}
+use Rattle.pearl_top.specs.RunDue.{RunDue, SourceDue}
 use Rattle.pearl_top.specs.Reading.{UnreadDue}
+use Rattle.pearl_top.specs.Runners.{by_code}
 use Rattle.pearl_top.proofs.Explained.{explained, may_have}
 use Rattle.pearl_top.proofs.TakenLaws.{is_due_as, leaves_as, leaves_due}
 use Rattle.pearl_top.proofs.WordLaws.{may_have_before, run_accepted, run_refused, run_unread}
@@ -73,7 +74,7 @@ returns-in_err-lines-clause-ends g c =
     )
 
 pub replay-requires-clause-moment : goal.replay-requires-clause-moment
-replay-requires-clause-moment g c = ap (λ (seen : Seen). seen.state.core.moment) c.in_ok-machine.ensures.ok.2.starts
+replay-requires-clause-moment g c = ap (λ (seen : Seen). seen.state.core.moment) c.in_ok-machine.ensures.ok.2.ready.starts
 
 pub returns-clause-ends : goal.returns-clause-ends
 returns-clause-ends g c =
@@ -84,13 +85,13 @@ returns-clause-ends g c =
     let failed : Type 0 = WriteFailed (g.K.Sink.faults c.args.sink.now) (g.K.Sink.faults c.replay.new.sink) (g.K.Sink.full c.replay.new.sink) in
     let read = c.in_ok-bytes.ensures.read in
     let ready = c.in_ok-machine.ensures.ok in
-    let ends = c.replay.ensures.ends ready.0 ready.2 in (
+    let ends = c.replay.ensures.ends ready.2.ready in (
       read.0,
       ends.0,
       read.1,
       may_have_before held _ c.args.journal.now ends.0 c.read_whole.ensures.held ends.1,
-      leaves_as (g.K.Sink.taken c.args.sink.now) (g.K.Sink.taken c.replay.new.sink) failed (JournalDue ready.0 ends.0 also)
+      leaves_as (g.K.Sink.taken c.args.sink.now) (g.K.Sink.taken c.replay.new.sink) failed (JournalDue (by_code c.in_ok-machine.machine.object) ends.0 also)
           (RunDue read.0 ends.0 source_rose journal_rose) c.replay.result
-          (λ s bytes. run_accepted c.as_slice.result.now read.0 ends.0 source_rose also journal_rose ready.0 s bytes (c.as_slice.ensures.value ∙ read.2.0)
-          (rose_since _ _ _ (c.read_whole.ensures.later c.args.journal.now)) ready.1) ends.2,
+          (λ s bytes. run_accepted c.as_slice.result.now read.0 ends.0 source_rose also journal_rose ready.0 c.in_ok-machine.machine.object s bytes (c.as_slice.ensures.value ∙ read.2.0)
+          (rose_since _ _ _ (c.read_whole.ensures.later c.args.journal.now)) ready.1 ready.2.faithful) ends.2,
     )

@@ -1,0 +1,5 @@
+use Rattle.pearl_top.proofs.OneOutcome.{one_status}
+use Rattle.pearl_top.proofs.laws.one_status.Goals as goal
+
+pub returns : goal.returns
+returns c = one_status

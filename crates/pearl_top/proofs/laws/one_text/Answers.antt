@@ -1,0 +1,5 @@
+use Rattle.pearl_top.proofs.OneOutcome.{one_text}
+use Rattle.pearl_top.proofs.laws.one_text.Goals as goal
+
+pub returns : goal.returns
+returns c = one_text
