@@ -86,7 +86,7 @@ WORK = [
     ("a day, 198 plans of a second each, all at once", planned(198, lambda _: 1, lambda _: 1), "pass 86400000 1000\n",
      86_399 * 198, "start"),
     ("1,000 lines, 198 tasks wait in a GET of F(4)", gets(198, "F(4)"), "line 1 '1'\n" * 1000, 1000, "line"),
-    ("1,000 lines, 198 tasks wait in a GET of 2,040 lines", gets(198, "SKIP(255), " * 8 + "F(4)"), "line 1 '1'\n" * 1000,
+    ("1,000 lines, 198 tasks wait in a GET of 1,020 lines", gets(198, "SKIP(255), " * 4 + "F(4)"), "line 1 '1'\n" * 1000,
      1000, "line"),
     ("1,000 lines of a byte, 198 tasks wait in a GET", gets(198, "SKIP(1), F(4)"), "chars 1 '1'\n" * 1000, 1000, "line"),
     ("1,000 states, 199 tasks, all ready", ready(199), "state\n" * 1000, 1000, "state"),
