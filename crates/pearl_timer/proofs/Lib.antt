@@ -3,3 +3,5 @@ mod TimetableLaws
 mod PlaceLaws
 mod WheelLaws
 mod KeptLaws
+mod TaskLaws
+pub mod Offered

@@ -8,7 +8,7 @@ use Rattle.std.proofs.lemmas.Nat.Bits.{same_from_bits, bit_at_xor, bit_at-zero, 
 use Rattle.std.proofs.lemmas.List.{get_or_past}
 use Rattle.std.proofs.lemmas.Option.{same_Some, none-some}
 use Rattle.pearl_timer.specs.Places.{place_of, IsEmpty, IsNextIn, IsFirstPlace}
-use Rattle.pearl_timer.specs.Wheel.{tick, IsLevelFor, IsAheadAt, start_of, Agree, IsLaidOut, IsSound, IsWheel, IsSoundBut, IsLeastIn}
+use Rattle.pearl_timer.specs.Wheel.{tick, IsLevelFor, IsAheadAt, IsPlaceFor, start_of, Agree, IsLaidOut, IsSound, IsWheel, IsSoundBut, IsLeastIn}
 
 -- LEVELS
 
@@ -157,6 +157,20 @@ module _ {elapsed when other place after : ℕ} where
             lt_from_tick (after / 64) when other (rw kept placed.level.ahead)
       ]
 
+-- a moment that lies ahead has one place
+same_place : {elapsed when place other : ℕ} → IsAheadAt elapsed when place → IsAheadAt elapsed when other → place ≡ other
+same_place {elapsed} {when} {place} {other} first second = elim (cases_lt place other) [
+  | inl less ↦ let no : when < when = in_order first second less in absurd (omega (arith, no))
+  | inr up ↦ elim (cases_lt other place) [
+    | inl more ↦ let no : when < when = in_order second first more in absurd (omega (arith, no))
+    | inr down ↦ omega arith
+  ]
+]
+
+strictly_ahead : (elapsed when place : ℕ) → elapsed < when → IsPlaceFor elapsed when place → IsAheadAt elapsed when place
+strictly_ahead elapsed when place ahead (inl due) = absurd (omega (arith, due.1, ahead))
+strictly_ahead elapsed when place ahead (inr placed) = placed
+
 pub placed_within : (places : List (Option ℕ)) (t p : ℕ) → place_of places t ≡ Some p → t < length places
 placed_within places t p is = elim (cases_lt t (length places)) [
   | inl less ↦ less
@@ -216,6 +230,12 @@ module _ (elapsed : ℕ) (places moments : List (Option ℕ)) (sound : IsSound e
   past_is_due key placed =
       let found = moment_of_placed sound key 448 placed in
       (found.0, found.1, elim found.2 [ inl due ↦ due.1 | inr ahead ↦ absurd (omega (arith, ahead.within)) ])
+
+  -- all keys with a moment that lies ahead are in one place
+  pub placed_there : (when place : ℕ) → elapsed < when → IsPlaceFor elapsed when place → (key : ℕ) → get_or moments key None ≡ Some when → place_of places key ≡ Some place
+  placed_there when place ahead is key kept =
+      let found = place_of_kept sound key when kept in
+      found.1 ∙ ap Some (same_place (strictly_ahead elapsed when found.0 ahead found.2) (strictly_ahead elapsed when place ahead is))
 
   -- with no key in a place of a level, each key's moment has come
   pub all_due : ((place : ℕ) → place < 448 → IsEmpty places place) → (key when : ℕ) → get_or moments key None ≡ Some when → when ≤ elapsed

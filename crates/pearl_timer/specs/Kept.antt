@@ -61,6 +61,12 @@ pub record IsMoving (timetable : Timetable) (wheel : Moments) (far : Bool) (afte
   pub forward : wheel.elapsed ≤ after
   pub right : (key : ℕ) → key < 400 → IsRightOrDue (FiresOf timetable key) after far (moment_of wheel key)
 
+-- the moment of a key of this task
+pub record HasKeyAt (wheel : Moments) (when task : ℕ) : Type 0 where
+  pub small : task < 200
+  pub which : Which
+  pub its : moment_of wheel (key_of which task) ≡ Some when
+
 -- whether a moment isn't behind another
 abbrev pub is_due : ℕ → Option ℕ → Bool
 is_due after None = false

@@ -1,4 +1,4 @@
--- which moment comes next
+-- which moment comes next, and which number is the first one for which something holds
 pub mod Next
 -- which series a timer keeps, and when one of them fires
 pub mod Timetable

@@ -22,6 +22,10 @@ pub record IsLeastMoment (w : Moments) (t : ℕ) : Type 0 where
   pub its : moment_of w key ≡ Some t
   pub least : (other when : ℕ) → moment_of w other ≡ Some when → t ≤ when
 
+-- a key before another one has this moment
+abbrev pub HasMoment : List (Option ℕ) → ℕ → ℕ → ℕ → Type 0
+HasMoment moments when stop key = (key < stop) × (slice_index_or moments key None ≡ Some when)
+
 -- the key's moment isn't behind this one
 pub record IsDueBy (w : Moments) (now key : ℕ) : Type 0 where
   pub moment : ℕ

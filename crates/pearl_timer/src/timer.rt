@@ -1,9 +1,10 @@
 // The series that are kept of tasks, and when one of them fires.
 
-ghost use Rattle.std.specs.Prelude.{◌≡◌, ◌<◌, ◌≤◌, ◌||◌, List, Option, Some, None, IfOk, MatchOption, length, replicate, slice_set};
-ghost use Rattle.pearl_timer.specs.Next.{IsNext, NoneIsNext, earlier};
-ghost use Rattle.pearl_timer.specs.Timetable.{Timetable, FiresIn, IsDue, changed, due, of_kind};
-ghost use Rattle.pearl_timer.specs.Kept.{both, FiresOf, IsKept, near, is_far};
+ghost use Rattle.std.specs.Prelude.{◌≡◌, ◌<◌, ◌≤◌, ◌^◌, ◌↔◌, ◌||◌, List, Option, Some, None, IsTrue, IfOk, MatchOption, length, replicate, slice_index_or, slice_set};
+ghost use Rattle.pearl_rules.specs.Series.{fires_if};
+ghost use Rattle.pearl_timer.specs.Next.{IsNext, NoneIsNext, IsFirstFrom, NoneFrom, earlier};
+ghost use Rattle.pearl_timer.specs.Timetable.{Timetable, FiresIn, IsTaskDue, IsDue, changed, due, of_kind};
+ghost use Rattle.pearl_timer.specs.Kept.{both, FiresOf, HasKeyAt, IsKept, near, is_far};
 ghost use Rattle.pearl_timer.specs.Wheel.{Moments, EachMoment};
 
 use crate::next::next_after;
@@ -133,6 +134,24 @@ impl Timer {
         );
         soonest(&self.wheel, self.far, continuations, activations, after)
     }
+
+    /// The first task from one on of which a kept series fires at a moment. Right behind the moment up to which
+    /// [`Timer::next_due`] has come, it finds the task in a few words, else it looks at the series of each.
+    pub fn next_task(&self, from: usize, moment: u64) -> Option<usize>
+        ensures { MatchOption result (NoneFrom (IsTaskDue self.now moment) from)
+            (IsFirstFrom (IsTaskDue self.now moment) from) }
+    {
+        let elapsed = self.wheel.elapsed();
+        if from < 200 && moment < FAR && elapsed < moment && moment - elapsed == 1 {
+            return next_kept(&self.wheel, from, moment);
+        }
+        first_due(
+            self.continuations.as_slice(),
+            self.activations.as_slice(),
+            from,
+            moment,
+        )
+    }
 }
 
 // Keeps the next moment of a series, or notes that it is far.
@@ -231,6 +250,64 @@ fn scan(continuations: &[Option<Series>], activations: &[Option<Series>], after:
     earlier(continuation, activation)
 }
 
+// The first task from one on of which a key has this moment, which lies ahead.
+fn next_kept(wheel: &Wheel, from: usize, moment: u64) -> Option<usize>
+    requires from { from < 200 }
+    requires ahead { wheel.now.elapsed < moment }
+    requires near { moment < 2 ^ 42 }
+    ensures { MatchOption result (NoneFrom (HasKeyAt wheel.now moment) from)
+        (IsFirstFrom (HasKeyAt wheel.now moment) from) }
+{
+    let continuation = wheel.next_at(moment, from, 200);
+    let end = continuation.unwrap_or(200);
+    match wheel.next_at(moment, from + 200, end + 200) {
+        Some(key) => Some(key - 200),
+        None => continuation,
+    }
+}
+
+// The first task from one on of which one of these series fires, by a look at each.
+fn first_due(
+    continuations: &[Option<Series>],
+    activations: &[Option<Series>],
+    from: usize,
+    moment: u64,
+) -> Option<usize>
+    ensures { let timetable : Timetable = both continuations.now activations.now in
+        MatchOption result (NoneFrom (IsTaskDue timetable moment) from)
+        (IsFirstFrom (IsTaskDue timetable moment) from) }
+{
+    let tasks = continuations.len().max(activations.len());
+    for task in from..tasks {
+        if is_due(continuations, activations, task, moment) {
+            return Some(task);
+        }
+    }
+    None
+}
+
+// Whether a series of the task fires.
+fn is_due(
+    continuations: &[Option<Series>],
+    activations: &[Option<Series>],
+    task: usize,
+    moment: u64,
+) -> bool
+    ensures { IsTrue result ↔ IsTaskDue (both continuations.now activations.now) moment task }
+{
+    fires_in(continuations, task, moment) || fires_in(activations, task, moment)
+}
+
+// Whether the series of a task fires, where it has one.
+fn fires_in(kept: &[Option<Series>], task: usize, moment: u64) -> bool
+    ensures { result ≡ fires_if (slice_index_or kept.now task None) moment }
+{
+    match kept.get(task) {
+        Some(Some(series)) => series.fires(moment),
+        _ => false,
+    }
+}
+
 fn none_kept(alloc: Global, tasks: usize) -> Result<Vec<Option<Series>>, NoMemory>
     ensures { IfOk result (λ kept. kept.items ≡ replicate tasks None) }
 {
@@ -286,6 +363,9 @@ mod tests {
         timer.set(1, Which::Continuation, once);
         assert!(rt; timer.due(0, Which::Activation, 1500));
         assert_eq!(rt; timer.next_due(1500), Some(1700));
+        assert_eq!(rt; timer.next_task(0, 1700), Some(1));
+        assert_eq!(rt; timer.next_due(1699), Some(1700));
+        assert_eq!(rt; timer.next_task(0, 1700), Some(1));
         timer.clear(1, Which::Continuation);
         assert_eq!(rt; timer.next_due(1500), Some(2000));
         assert_eq!(rt; timer.next_due(2000), None);
