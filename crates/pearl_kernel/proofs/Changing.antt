@@ -1,12 +1,12 @@
 -- What each step changes of all that offers wait for.
 use Rattle.std.proofs.Common.{◌≡◌, ◌≢◌, ℕ, zero, suc, List, [], ◌∷◌, Bool, false, Option, Some, None}
-use Rattle.std.proofs.Common.{◌+◌, ◌∙◌, drop, nat_eq, length, slice_get, slice_set, refl, sym, subst, ap}
+use Rattle.std.proofs.Common.{◌∙◌, drop, nat_eq, length, slice_get, slice_set, refl, sym, subst, ap}
 use Rattle.std.proofs.lemmas.Bool.{eqb-false}
 use Rattle.pearl_rules.specs.declared.row.TaskRow.{TaskRow}
 use Rattle.pearl_rules.specs.Core.{Core, Channel, Switch, Bytes, Values, Outward, note, row_of, with_row}
 use Rattle.pearl_rules.specs.Devices.{bytes_in, values_in, channel_of, with_channel}
 use Rattle.pearl_rules.specs.Devices.{without_value, without_value_by}
-use Rattle.pearl_rules.specs.Plans.{on_row, each_task, served, millisecond, reached, occurred}
+use Rattle.pearl_rules.specs.Plans.{on_row, each_task, reached, occurred}
 use Rattle.pearl_kernel.specs.declared.changes.Changed.{Changed}
 use Rattle.pearl_kernel.specs.declared.changes.Changed.TheVariants as changed
 use Rattle.pearl_kernel.specs.Kept.{Kept}
@@ -48,20 +48,12 @@ less c old core only = record {
   formats = only.formats;
 }
 
--- TIME AND INTERRUPTS
+-- INTERRUPTS
 
 each_kept : (P : Core → Type 0) (change : Core → ℕ → Core) → ((core : Core) (u : ℕ) → P core → P (change core u)) →
     (n : ℕ) (core : Core) → P core → P (each_task change n core)
 each_kept P change step zero core p = p
 each_kept P change step (suc n) core p = step (each_task change n core) n (each_kept P change step n core p)
-
-pub millisecond-changes : (core : Core) → ChangesOnly changed.Nothing core (millisecond core)
-millisecond-changes core =
-    let next : Core = record core { moment = core.moment + 1 } in
-    each_kept (ChangesOnly changed.Nothing core) served
-    (λ c u. one.served-kept (ChangesOnly changed.Nothing core) u (closed changed.Nothing core u) c)
-    (length core.tasks) next
-    (same_but changed.Nothing core core next (unchanged core) refl refl refl)
 
 occurred_changes : (old core : Core) (d : ℕ) → ChangesOnly changed.Nothing old core →
     ChangesOnly changed.Nothing old (occurred core d)

@@ -11,11 +11,14 @@ mod Entries
 mod Changing
 mod Touching
 mod Renewing
+mod Serving
 mod Quiet
 mod Told
 mod Lawful
 mod Picking
 mod Acting
 mod Offering
+mod Unsettling
+mod SameReads
 mod AtStart
 pub mod Offered

@@ -1,9 +1,10 @@
 -- Milliseconds in which no plan fires change the moment alone.
-use Rattle.std.proofs.Common.{◌≡◌, ℕ, zero, suc, ◌+◌, ◌≤◌, List, [], ◌∷◌, Bool, true, false, Option, Some, None}
+use Rattle.std.proofs.Common.{◌≡◌, ℕ, zero, suc, ◌+◌, ◌≤◌, List, [], ◌∷◌, Bool, false, Option, Some, None}
 use Rattle.std.proofs.Common.{length, map, slice_get, slice_index_or, refl, ap, sym, ◌∙◌, arith, if◌then◌else◌}
 use Rattle.pearl_timer.specs.declared.timer.Which.TheVariants as which
 use Rattle.pearl_rules.specs.Series.{fires_if}
-use Rattle.pearl_timer.specs.Timetable.{due, IsDue}
+use Rattle.pearl_timer.specs.Timetable.{IsDue, IsTaskDue}
+use Rattle.pearl_timer.proofs.Offered.{none_fires}
 use Rattle.pearl_rules.specs.declared.row.Plan.{Plan}
 use Rattle.pearl_rules.specs.declared.row.Activation.{Activation}
 use Rattle.pearl_rules.specs.declared.row.TaskRow.{TaskRow}
@@ -33,27 +34,21 @@ serves-plan : (core : Core) (plan : Option Plan) → serves_if core plan ≡ fir
 serves-plan core None = refl
 serves-plan core (Some plan) = refl
 
-is-false : (b : Bool) → (b ≡ true → ⊥) → b ≡ false
-is-false true never = absurd (never refl)
-is-false false never = refl
-
 -- NO PLAN FIRES AT THIS MOMENT
 
-module _ (core : Core) (silent : IsDue (timetable core.tasks) core.moment → ⊥) (t : ℕ) where
+module _ (core : Core) (t : ℕ) (silent : IsTaskDue (timetable core.tasks) core.moment t → ⊥) where
   silent-continuation : serves_if core (continuation_of core t) ≡ false
-  silent-continuation = is-false (serves_if core (continuation_of core t)) (λ serves.
-      let fires : due (timetable core.tasks) t which.Continuation core.moment ≡ true =
-      ap (λ series. fires_if series core.moment) (kept-continuation core.tasks t)
-      ∙ sym (serves-plan core (continuation_of core t)) ∙ serves in
-      silent (record { task = t; which = which.Continuation; fires = fires }))
+  silent-continuation =
+      serves-plan core (continuation_of core t)
+      ∙ ap (λ series. fires_if series core.moment) (sym (kept-continuation core.tasks t))
+      ∙ none_fires (timetable core.tasks) core.moment t silent which.Continuation
 
   silent-activation : fires_if (series_of_activation (activation_of core t)) core.moment ≡ false
-  silent-activation = is-false (fires_if (series_of_activation (activation_of core t)) core.moment) (λ serves.
-      let fires : due (timetable core.tasks) t which.Activation core.moment ≡ true =
-      ap (λ series. fires_if series core.moment) (kept-activation core.tasks t) ∙ serves in
-      silent (record { task = t; which = which.Activation; fires = fires }))
+  silent-activation =
+      ap (λ series. fires_if series core.moment) (sym (kept-activation core.tasks t))
+      ∙ none_fires (timetable core.tasks) core.moment t silent which.Activation
 
-  served-silent : served core t ≡ core
+  pub served-silent : served core t ≡ core
   served-silent =
       ap (λ c. serve_activation c t) (ap (λ (b : Bool). if b then continued core t else core) silent-continuation)
       ∙ by_plan (activation_of core t) silent-activation
@@ -65,7 +60,9 @@ module _ (core : Core) (silent : IsDue (timetable core.tasks) core.moment → �
 
 each-silent : (core : Core) → (IsDue (timetable core.tasks) core.moment → ⊥) → (n : ℕ) → each_task served n core ≡ core
 each-silent core silent zero = refl
-each-silent core silent (suc n) = ap (λ c. served c n) (each-silent core silent n) ∙ served-silent core silent n
+each-silent core silent (suc n) =
+    ap (λ c. served c n) (each-silent core silent n)
+    ∙ served-silent core n (λ is. silent (record { task = n; which = is.which; fires = is.fires }))
 
 -- MILLISECONDS
 

@@ -85,10 +85,10 @@ leaves-switch own k new d enabled switch is = subst (λ (x : Kept). Leaves own k
 
 -- ANOTHER TASK'S ROW
 
-abbrev IsRowOf : Core → ℕ → Core → Type 0
+abbrev pub IsRowOf : Core → ℕ → Core → Type 0
 IsRowOf old t core = row_of core t ≡ row_of old t
 
-row_closed : (old : Core) (u t : ℕ) → t ≢ u → one.Closed (IsRowOf old t) u
+pub row_closed : (old : Core) (u t : ℕ) → t ≢ u → one.Closed (IsRowOf old t) u
 row_closed old u t other = record {
   row = λ core change is. by_row core change is (row_of core u);
   tell = λ core e of is. is;

@@ -18,3 +18,5 @@ pub mod Changes
 pub mod Requests
 -- which tasks besides its own an action touches
 pub mod Touched
+-- the bits that tell which tasks are active and have offered nothing
+pub mod Unsettled

@@ -20,7 +20,7 @@ ghost use Rattle.pearl_kernel.specs.Eligible.{possible, entry};
 ghost use Rattle.pearl_rules.specs.Laws.{passed};
 ghost use Rattle.pearl_kernel.specs.Timing.{timetable, IsQuiet};
 
-use crate::changes::Changed;
+use crate::due::serve_due;
 use crate::standing::Standing;
 use crate::state::State;
 use pearl_exchange::heard::{Beside, Heard};
@@ -84,13 +84,7 @@ impl Kernel {
     pub fn unsettled(&self) -> Option<u32>
         ensures { MatchOption result (AllSettled self.now) (IsFirst self.now) }
     {
-        let count = self.state.tasks() as u32;
-        for task in 0..count {
-            if self.state.is_unsettled(task) {
-                return Some(task);
-            }
-        }
-        None
+        self.state.unsettled()
     }
 
     /// A task offers its next action.
@@ -208,8 +202,8 @@ impl Kernel {
         ensures passed { self.new ≡ record self.old { core = millisecond self.old.core } }
         ensures lawful { (setup : Tables.Setup) → IsLawful setup self.old → IsLawful setup self.new }
     {
-        self.state.millisecond();
-        self.standing.renew_all(&self.state, Changed::Nothing);
+        self.state.set_moment(self.state.now() + 1);
+        serve_due(&mut self.state, &mut self.standing);
     }
 
     /// So many milliseconds pass, in which no plan fires.

@@ -8,9 +8,11 @@
 //! waits there ([`Kernel::input`]).
 #![tactic(auto)]
 
+mod alike;
 mod bid;
 mod changes;
 mod channel;
+mod due;
 mod happened;
 mod inputs;
 mod kernel;
@@ -21,5 +23,6 @@ mod plans;
 mod standing;
 mod state;
 mod timing;
+mod unsettled;
 
 pub use kernel::{Acted, Kernel};

@@ -1,11 +1,11 @@
 // When the tasks' plans serve, and what comes of it.
 
-ghost use Rattle.std.specs.Prelude.{◌≡◌, ◌+◌, ◌^◌, ◌<◌, ◌≤◌, [], Some, length};
+ghost use Rattle.std.specs.Prelude.{◌≡◌, ◌^◌, ◌<◌, ◌≤◌, [], Some, length};
 ghost use Rattle.pearl_rules.specs.Plans.{time_at, next_at, milliseconds, interrupt_of, after_of, period_of, end_of};
 ghost use Rattle.pearl_rules.specs.Plans.{written, last_moment, series_from, begun};
 ghost use Rattle.pearl_rules.specs.Plans.{first_moment, planned, started, with_mark};
 ghost use Rattle.pearl_rules.specs.Plans.{with_continuation, with_activation, continued, serves_if, serve_continuation};
-ghost use Rattle.pearl_rules.specs.Plans.{serve_activation, plan_continuation, plan_activation, served, millisecond};
+ghost use Rattle.pearl_rules.specs.Plans.{serve_activation, plan_continuation, plan_activation, served};
 ghost use Rattle.pearl_rules.specs.Plans.{waits_for, continuation_began, begin_activation, activation_of, reached, occurred};
 ghost use Rattle.pearl_rules.specs.Devices.{interrupted};
 ghost use Rattle.pearl_kernel.specs.Changes.{Stirs};
@@ -314,25 +314,11 @@ impl State {
     }
 }
 
-// MILLISECONDS AND INTERRUPTS
+// PLANS THAT FIRE, AND INTERRUPTS
 
 impl State {
-    /// A millisecond passes: the plans that fire then serve.
-    pub fn millisecond(&mut self)
-        requires few { length self.old.core.tasks ≤ 200 }
-        requires told { self.old.core.told ≡ [] }
-        requires later { self.old.core.moment + 1 ≤ 2 ^ 40 }
-        ensures { self.new ≡ record self.old { core = millisecond self.old.core } }
-    {
-        self.set_moment(self.now() + 1);
-        let count = self.tasks() as u32;
-        for task in 0..count {
-            self.serve(task);
-        }
-    }
-
-    // The plans of a task that fire now serve.
-    fn serve(&mut self, task: u32)
+    /// The plans of a task that fire now serve.
+    pub fn serve(&mut self, task: u32)
         requires there { task < length self.old.core.tasks }
         requires room { length self.old.core.told < 200 }
         ensures { self.new ≡ record self.old { core = served self.old.core task } }

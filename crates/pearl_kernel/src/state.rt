@@ -1,12 +1,12 @@
 // The core's state with the offered actions, and its small changes.
 
 ghost use Rattle.std.specs.Prelude.{◌≡◌, ◌≢◌, ◌<◌, ◌≤◌, [], ◌∷◌, ◌++◌, Some, None, true, false};
-ghost use Rattle.std.specs.Prelude.{All, IsTrue, IfOk, MatchOption, length, nat_le, nat_lt, slice_get, slice_set, if◌then◌else◌};
+ghost use Rattle.std.specs.Prelude.{All, IsTrue, IfOk, IfSome, MatchOption, length, nat_le, nat_lt, slice_get, slice_set, if◌then◌else◌};
 ghost use Rattle.std.specs.List.{AllByRecursion};
 ghost use Rattle.pearl_rules.specs.declared.action.Action as Acting;
 ghost use Rattle.pearl_rules.specs.declared.event.Event.TheVariants.{Out};
-ghost use Rattle.pearl_timer.specs.Next.{IsNext, NoneIsNext};
-ghost use Rattle.pearl_timer.specs.Timetable.{IsDue};
+ghost use Rattle.pearl_timer.specs.Next.{IsNext, NoneIsNext, IsFirstFrom, NoneFrom};
+ghost use Rattle.pearl_timer.specs.Timetable.{IsDue, IsTaskDue};
 ghost use Rattle.pearl_rules.specs.Core.{Happened, note as noted, is_active as is_active_in, mode_of, row_of, value_at};
 ghost use Rattle.pearl_rules.specs.Core.{Switch, Bytes, with_row};
 ghost use Rattle.pearl_rules.specs.Counts.{all_free, all_below_most, lowered, raised};
@@ -23,13 +23,14 @@ ghost use Rattle.pearl_exchange.specs.Offers.{action_of};
 ghost use Rattle.pearl_kernel.specs.Channels.{HasSwitch, HasBytes, HasValuesFor, taken_in_of};
 ghost use Rattle.pearl_scan.specs.Answers.{told};
 ghost use Rattle.pearl_kernel.specs.Kept.{at_start, offered as offered_of, taken, IsToldNext};
-ghost use Rattle.pearl_kernel.specs.Kept.{is_silent as is_silent_in, is_unsettled as is_unsettled_in};
+ghost use Rattle.pearl_kernel.specs.Kept.{is_silent as is_silent_in, AllSettled, IsFirst as IsFirstUnsettled};
 ghost use Rattle.pearl_kernel.specs.Names.{Names};
 ghost use Rattle.pearl_kernel.specs.Timing.{timetable};
 ghost use Rattle.pearl_kernel.specs.Requests.{requests};
 ghost use Rattle.pearl_kernel.specs.Eligible.{entry_if};
-ghost use Rattle.pearl_kernel.specs.Changes.{renewed, renewed_offer};
+ghost use Rattle.pearl_kernel.specs.Changes.{renewed, renewed_offer, IsKnown, IsAsked};
 
+use crate::alike::{are_same_items, are_same_kinds};
 use crate::bid::Bid;
 use crate::changes::{Changed, looks_at};
 use crate::channel::Channel;
@@ -38,7 +39,9 @@ use crate::mirror::{keep_request, keep_row};
 use crate::opening::{
     copied_formats, first_channels, first_rows, first_values, no_offers, tell_starts,
 };
+use crate::unsettled::{first_bits, is_awake, put};
 use arrayvec::ArrayVec;
+use pearl_bits::words::{first, lower};
 use pearl_cells::put::put_copy;
 use pearl_exchange::offer::{Offer, What};
 use pearl_format::item::Item;
@@ -61,6 +64,8 @@ pub struct State {
     // The series of the rows' plans.
     timer: Timer,
     offers: Vec<Bid>,
+    // A bit for each task, which is set where it is active and has offered nothing.
+    unsettled: Vec<u64>,
     slots: Vec<Cell>,
     // Of each task it notes the semaphores that its request names.
     semas: Semas,
@@ -77,6 +82,7 @@ impl Model for State {
     ghost use Rattle.pearl_kernel.specs.Kept.{Kept, stamped};
     ghost use Rattle.pearl_kernel.specs.Timing.{timetable};
     ghost use Rattle.pearl_kernel.specs.Requests.{requests};
+    ghost use Rattle.pearl_kernel.specs.Unsettled.{AreUnsettled};
 
     ghost Value = { Kept };
 
@@ -95,7 +101,8 @@ impl Model for State {
       offers = s.offers.items;
     } };
 
-    ghost invariant = { λ s. (s.timer ≡ timetable s.rows.items) × (s.semas.waiting ≡ requests s.offers.items) };
+    ghost invariant = { λ s. (s.timer ≡ timetable s.rows.items) × (s.semas.waiting ≡ requests s.offers.items)
+        × AreUnsettled s.rows.items s.offers.items s.unsettled.items };
 }
 
 impl State {
@@ -109,6 +116,7 @@ impl State {
         let rows = first_rows(alloc, tasks)?;
         let timer = Timer::new(alloc, tasks.len())?;
         let offers = no_offers(alloc, tasks.len())?;
+        let unsettled = first_bits(alloc, rows.as_slice())?;
         let slots = first_values(alloc, setup.slots.as_slice())?;
         let semas = Semas::new(alloc, setup.semaphores.as_slice(), tasks.len())?;
         let channels = first_channels(alloc, setup.devices.as_slice())?;
@@ -119,6 +127,7 @@ impl State {
             rows,
             timer,
             offers,
+            unsettled,
             slots,
             semas,
             channels,
@@ -157,11 +166,14 @@ impl State {
         }
     }
 
-    /// Whether a task is active and has offered nothing.
-    pub fn is_unsettled(&self, task: u32) -> bool
-        ensures { result ≡ is_unsettled_in self.now task }
+    /// The first task that is active and has offered nothing. It looks at four words, however many tasks there are.
+    pub fn unsettled(&self) -> Option<u32>
+        ensures { MatchOption result (AllSettled self.now) (IsFirstUnsettled self.now) }
     {
-        self.is_active(task) && self.is_silent(task)
+        match first(self.unsettled.as_slice(), 0, 4) {
+            None => None,
+            Some(task) => Some(task as u32),
+        }
     }
 
     fn is_silent(&self, task: u32) -> bool
@@ -194,8 +206,11 @@ impl State {
         requires { task < length self.old.core.tasks }
         ensures { self.new ≡ record self.old { core = with_row self.old.core task row } }
     {
-        keep_row(&mut self.timer, task as usize, &row);
-        self.rows[task as usize] = row;
+        let place = task as usize;
+        let silent = self.is_silent(task);
+        keep_row(&mut self.timer, place, &row);
+        put(&mut self.unsettled, place, is_awake(row.mode), silent);
+        self.rows[place] = row;
     }
 
     /// A task stands so from now on.
@@ -216,6 +231,15 @@ impl State {
         ensures same { self.new ≡ self.old }
     {
         self.timer.next_due(self.moment)
+    }
+
+    /// The first task from one on of which a plan fires now.
+    pub fn due_task(&self, from: usize) -> Option<usize>
+        ensures { let core = self.now.core in
+            MatchOption result (NoneFrom (IsTaskDue (timetable core.tasks) core.moment) from)
+            (IsFirstFrom (IsTaskDue (timetable core.tasks) core.moment) from) }
+    {
+        self.timer.next_task(from, self.moment)
     }
 
     /// One more event.
@@ -246,8 +270,10 @@ impl State {
         requires names { Names self.old.core (action_of offer.now) }
         ensures { self.new ≡ record self.old { offers = slice_set self.old.offers task (Some (action_of offer.now)) } }
     {
-        keep_request(&mut self.semas, task as usize, offer);
-        self.offers[task as usize].put(offer);
+        let place = task as usize;
+        keep_request(&mut self.semas, place, offer);
+        lower(&mut self.unsettled, place);
+        self.offers[place].put(offer);
     }
 
     /// What a task has offered is gone.
@@ -255,7 +281,9 @@ impl State {
         requires { task < length self.old.offers }
         ensures { self.new ≡ record self.old { offers = slice_set self.old.offers task None } }
     {
+        let active = self.is_active(task);
         self.semas.forget(task as usize);
+        put(&mut self.unsettled, task as usize, active, true);
         self.offers[task as usize].clear();
     }
 
@@ -267,7 +295,9 @@ impl State {
         ensures rest { self.new ≡ record self.old { offers = slice_set self.old.offers task None } }
     {
         let place = task as usize;
+        let active = self.is_active(task);
         self.semas.forget(place);
+        put(&mut self.unsettled, place, active, true);
         self.offers[place].take(into)
     }
 
@@ -372,6 +402,66 @@ impl State {
         } else {
             before
         }
+    }
+
+    /// Whether what a task has offered can be done, where it waits for what changed, and none where it doesn't. What
+    /// is known of another task's offer is asked no second time.
+    pub fn asked(&self, task: u32, changed: Changed, known: Option<(u32, bool)>) -> Option<bool>
+        requires names { (a : Acting.Action) → offered_of self.now task ≡ Some a → Names self.now.core a }
+        requires known { IsKnown self.now known }
+        ensures { IfSome result (IsAsked self.now changed task) }
+    {
+        let Some(offer) = self.offer(task) else {
+            return None;
+        };
+        if !looks_at(changed, offer) {
+            return None;
+        }
+        Some(self.can_do_as(offer, known))
+    }
+
+    // Whether an offer can be done, where this is known of another task's offer.
+    fn can_do_as(&self, offer: &Offer, known: Option<(u32, bool)>) -> bool
+        requires names { Names self.now.core (action_of offer.now) }
+        requires known { IsKnown self.now known }
+        ensures { result ≡ guard self.now.core (action_of offer.now) }
+    {
+        if let Some((task, able)) = known {
+            if self.waits_as(offer, task) {
+                return able;
+            }
+        }
+        self.can_do(offer)
+    }
+
+    // Whether an offer waits for the same bytes as that of a task.
+    fn waits_as(&self, offer: &Offer, task: u32) -> bool
+        ensures { result ≡ true → is_possible_in self.now.core (offered_of self.now task) ≡ guard self.now.core (action_of offer.now) }
+    {
+        match self.offer(task) {
+            None => false,
+            Some(other) => self.are_alike(offer, other),
+        }
+    }
+
+    // Whether two offers wait for the same bytes of a terminal, and read the same of them.
+    fn are_alike(&self, offer: &Offer, other: &Offer) -> bool
+        ensures { result ≡ true → guard self.now.core (action_of other.now) ≡ guard self.now.core (action_of offer.now) }
+    {
+        let What::Get { device, format } = offer.what else {
+            return false;
+        };
+        let What::Get {
+            device: terminal,
+            format: read,
+        } = other.what
+        else {
+            return false;
+        };
+        if device != terminal || !are_same_items(self.items(format), self.items(read)) {
+            return false;
+        }
+        are_same_kinds(offer.kinds.as_slice(), other.kinds.as_slice())
     }
 
     /// The priority number of a task that can act, where `able` is whether what it has offered can be done.

@@ -1,14 +1,25 @@
-use Rattle.std.proofs.Common.{length, sym, ap, ◌∙◌}
+use Rattle.std.proofs.Common.{◌≡◌, ◌≤◌, length, sym, ap, subst, ◌∙◌, arith}
+use Rattle.std.proofs.lemmas.List.{length-map}
+use Rattle.pearl_rules.specs.Core.{first_row}
 use Rattle.pearl_sema.specs.Waiting.{Sema}
 use Rattle.pearl_kernel.specs.Requests.{requests}
+use Rattle.pearl_kernel.specs.Unsettled.{AreActive}
 use Rattle.pearl_kernel.proofs.Rows.{timetable-opening}
 use Rattle.pearl_kernel.proofs.Requesting.{requests-opening}
+use Rattle.pearl_kernel.proofs.Unsettling.{unsettled-opening}
 use Rattle.pearl_kernel.proofs.state.State.new.Goals as goal
 
 pub invariant_of-result : goal.invariant_of-result
-invariant_of-result c = (
-  timetable-opening c.args.setup.now.tasks c.in_ok-timer.timer c.in_ok-rows.rows.items
-      (cc (c.in_ok-timer.ensures, c.as_slice-tasks.ensures)) (cc (c.in_ok-rows.ensures, c.as_slice-tasks.ensures)),
-  ap (λ (x : Sema). x.waiting) c.in_ok-semas.ensures ∙ sym (requests-opening (length c.as_slice-tasks.result.now))
-      ∙ ap requests (sym c.in_ok-offers.ensures),
-)
+invariant_of-result c =
+    let tasks = c.as_slice-tasks.result.now in
+    let rows = c.in_ok-rows.rows.items in
+    let few : length tasks ≤ 200 = omega (arith, c.requires.tasks, ap (λ xs. length xs) c.as_slice-tasks.ensures) in
+    let same : length rows ≡ length tasks = ap (λ xs. length xs) c.in_ok-rows.ensures ∙ length-map tasks first_row in (
+      timetable-opening c.args.setup.now.tasks c.in_ok-timer.timer c.in_ok-rows.rows.items
+          (cc (c.in_ok-timer.ensures, c.as_slice-tasks.ensures)) (cc (c.in_ok-rows.ensures, c.as_slice-tasks.ensures)),
+      ap (λ (x : Sema). x.waiting) c.in_ok-semas.ensures ∙ sym (requests-opening (length c.as_slice-tasks.result.now))
+          ∙ ap requests (sym c.in_ok-offers.ensures),
+      unsettled-opening rows c.in_ok-offers.offers.items c.in_ok-unsettled.unsettled.items (length tasks)
+          (subst (λ xs. AreActive xs c.in_ok-unsettled.unsettled.items) c.as_slice.ensures.value c.in_ok-unsettled.ensures)
+          (omega (arith, few, same)) few c.in_ok-offers.ensures,
+    )

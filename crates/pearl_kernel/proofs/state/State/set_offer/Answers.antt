@@ -4,6 +4,7 @@ use Rattle.pearl_exchange.specs.Offers.{action_of}
 use Rattle.pearl_kernel.specs.Kept.{Kept}
 use Rattle.pearl_kernel.specs.Requests.{requested_by, requests}
 use Rattle.pearl_kernel.proofs.Requesting.{requests-length, requests-set, request-there}
+use Rattle.pearl_kernel.proofs.Unsettling.{unsettled-offer}
 use Rattle.pearl_kernel.proofs.state.State.set_offer.Goals as goal
 
 pub keep_request-requires-clause-task : goal.keep_request-requires-clause-task
@@ -22,10 +23,13 @@ keep_request-requires-clause-list c =
 pub invariant_of-self : goal.invariant_of-self
 invariant_of-self c =
     let s = c.self.inside in
+    let there = subst (λ (k : Kept). c.args.task < length k.offers) (sym c.self.view_is) c.requires.task in
     let a = action_of c.args.offer.now in (
       c.self.invariant.0,
       ap (λ (x : Sema). x.waiting) c.keep_request.ensures
           ∙ ap (λ xs. slice_set xs c.args.task (requested_by a)) c.self.invariant.1
           ∙ sym (requests-set s.offers.items c.args.task (Some a))
           ∙ ap (λ o. requests (slice_set s.offers.items c.args.task o)) (sym c.put.ensures),
+      unsettled-offer s.rows.items s.offers.items s.unsettled.items c.self.invariant.2 c.args.task c.put.new.self a
+          c.lower.new.words.items there c.lower.ensures.bits c.lower.ensures.words c.put.ensures,
     )
