@@ -493,6 +493,7 @@ impl Machine {
     }
 
     // Hands the sink the line of all that is told and not written.
+    #[inline]
     fn tell<K: Sink>(&mut self, sink: &mut K) -> Result<(), WriteFault>
         ensures same { self.new ≡ retold self.old self.new.state.core.told }
         ensures ok { OnOk result (Takes (K.taken sink.old) (K.taken sink.new)
@@ -506,6 +507,21 @@ impl Machine {
         if self.is_told() {
             return Ok(());
         }
+        self.tell_lines(sink)
+    }
+
+    // The same, where something may be told. Out of line, so that a mark that tells nothing costs little.
+    #[inline(never)]
+    fn tell_lines<K: Sink>(&mut self, sink: &mut K) -> Result<(), WriteFault>
+        ensures same { self.new ≡ retold self.old self.new.state.core.told }
+        ensures ok { OnOk result (Takes (K.taken sink.old) (K.taken sink.new)
+            (lines_of (setup_of self.old.object) self.old.state.core.told)) }
+        ensures all { OnOk result (self.new.state.core.told ≡ []) }
+        ensures err { OnErr result (IsCutOff (setup_of self.old.object) (K.taken sink.old) (K.taken sink.new)
+            self.old.state.core.told self.new.state.core.told) }
+        ensures cause { OnErr result (WriteFailed (K.faults sink.old) (K.faults sink.new) (K.full sink.new)) }
+        ensures later { K.faults sink.old ≤ K.faults sink.new }
+    {
         let mut line = ArrayVec::new();
         while self.next_line(&mut line) {
             put_all(sink, line.as_slice())?;

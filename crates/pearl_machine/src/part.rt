@@ -133,6 +133,7 @@ fn settle_here(code: &Valid, task: u32, part: &mut Part, into: &mut Offer)
 }
 
 /// A task that has offered nothing goes on to its next action.
+#[inline(never)]
 pub fn settle_part(code: &Valid, parts: &mut Vec<Part>, task: u32, into: &mut Offer)
     requires there { task < length code.now.tasks }
     requires same { length parts.old.items ≡ length code.now.tasks }

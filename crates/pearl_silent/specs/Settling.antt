@@ -1,5 +1,5 @@
 -- Silent rows, one after the other, and where they end.
-use Rattle.std.specs.Prelude.{◌≡◌, ◌≤◌, ℕ, zero, suc, List, [], ◌∷◌, Option, Some, None, option_map}
+use Rattle.std.specs.Prelude.{◌≡◌, ◌≤◌, ℕ, zero, suc, List, [], ◌∷◌, Option, Some, None, option_map, Result, Ok, Err}
 use Rattle.pearl_value.specs.declared.trap.Trap.{Trap}
 use Rattle.pearl_rules.specs.declared.action.Action.TheVariants as action
 use Rattle.pearl_rules.specs.declared.action.Answer.{Answer}
@@ -20,6 +20,11 @@ Silently o (suc n) frames last = (middle : List Frame) × Silently o n frames mi
 abbrev pub Ends : Object → List Frame → Option Trap → Type 0
 Ends o last (Some trap) = (go : Answer → List Frame) × (row o last ≡ Offers (action.Trap trap) go)
 Ends o last None = (instr : Instr) × (instr_of o last ≡ Some instr) × (2 ≤ family instr)
+
+-- the trap at which instructions ended, none where it is something else
+abbrev pub trap_of : {A : Type 0} → Result A Trap → Option Trap
+trap_of (Ok x) = None
+trap_of (Err trap) = Some trap
 
 -- silent rows lead from one stack to another, where they end so
 pub record RunsTo (o : Object) (frames last : List Frame) (end : Option Trap) : Type 0 where

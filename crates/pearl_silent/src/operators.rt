@@ -25,6 +25,7 @@ use pearl_value::kind::Kind;
 use pearl_value::operator::{Dyad, Monad};
 
 // Monadic.
+#[inline(never)]
 pub fn monadic(stack: &mut Loaded, op: Monad) -> Did
     requires next { HasNext stack.old.frames }
     requires formed { AllByRecursion IsFormed (top_operands stack.old.frames) }
@@ -55,6 +56,20 @@ fn small_of(op: Dyad, x: &Cell, y: &Cell) -> Option<Made>
     }
 }
 
+// Dyadic, whatever the operands are. Out of line, since what is made may be large.
+#[inline(never)]
+fn dyadic_of_all(stack: &mut Loaded, op: Dyad) -> Did
+    requires next { HasNext stack.old.frames }
+    requires formed { AllByRecursion IsFormed (top_operands stack.old.frames) }
+    requires ready { Applies (on_top (λ f lower. dyadic_row op f lower) stack.old.frames) stack.old.room }
+    ensures { Does (on_top (λ f lower. dyadic_row op f lower) stack.old.frames) stack.old stack.new (told result) }
+{
+    let right = stack.top(0);
+    let left = stack.top(1);
+    let made = apply2(op, left, right);
+    leave(stack, 2, made)
+}
+
 // Dyadic.
 pub fn dyadic(stack: &mut Loaded, op: Dyad) -> Did
     requires next { HasNext stack.old.frames }
@@ -66,10 +81,7 @@ pub fn dyadic(stack: &mut Loaded, op: Dyad) -> Did
     let left = stack.top(1);
     match small_of(op, left, right) {
         Some(made) => leave_made(stack, 2, made),
-        None => {
-            let made = apply2(op, left, right);
-            leave(stack, 2, made)
-        }
+        None => dyadic_of_all(stack, op),
     }
 }
 
@@ -97,6 +109,20 @@ fn length_in(x: &Cell, to: Kind) -> Option<u8>
     }
 }
 
+// Conv, whatever the operand is. Out of line, since what is made may be large.
+#[inline(never)]
+fn converting_all(stack: &mut Loaded, to: Kind) -> Did
+    requires next { HasNext stack.old.frames }
+    requires formed { AllByRecursion IsFormed (top_operands stack.old.frames) }
+    requires kind { IsKind to }
+    requires ready { Applies (on_top (λ f lower. convert_row to f lower) stack.old.frames) stack.old.room }
+    ensures { Does (on_top (λ f lower. convert_row to f lower) stack.old.frames) stack.old stack.new (told result) }
+{
+    let x = stack.top(0);
+    let made = convert(x, to);
+    leave(stack, 1, made)
+}
+
 // Conv.
 pub fn converting(stack: &mut Loaded, to: Kind) -> Did
     requires next { HasNext stack.old.frames }
@@ -110,10 +136,7 @@ pub fn converting(stack: &mut Loaded, to: Kind) -> Did
         Some(made) => leave_made(stack, 1, made),
         None => match length_in(x, to) {
             Some(len) => leave_filled(stack, len),
-            None => {
-                let made = convert(x, to);
-                leave(stack, 1, made)
-            }
+            None => converting_all(stack, to),
         },
     }
 }

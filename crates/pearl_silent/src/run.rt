@@ -1,11 +1,12 @@
 // Instructions that offer no action but a trap, one after the other.
 
-ghost use Rattle.std.specs.Prelude.{◌≡◌, ◌≤◌, ◌<◌, ◌+◌, ◌^◌, length, slice_get, Some, None};
+ghost use Rattle.std.specs.Prelude.{◌≡◌, ◌≤◌, ◌<◌, ◌+◌, ◌^◌, length, slice_get, Some, None, IfOk};
 ghost use Rattle.pearl_instructions.specs.Rows.{row};
 ghost use Rattle.pearl_instructions.specs.Stacks.{IsStack, task_of, room};
 ghost use Rattle.pearl_instructions.specs.declared.instr.Instr.{Instr};
-ghost use Rattle.pearl_silent.specs.Steps.{Tries};
-ghost use Rattle.pearl_silent.specs.Settling.{RunsTo, Ends, instructions_of};
+ghost use Rattle.pearl_silent.specs.Standing.{family, instr_of};
+ghost use Rattle.pearl_silent.specs.Steps.{HasNext, Tries};
+ghost use Rattle.pearl_silent.specs.Settling.{RunsTo, Ends, instructions_of, trap_of};
 
 use crate::known::laws_hold;
 use crate::step::on_silent;
@@ -53,12 +54,15 @@ fn instructions_after<'a>(
     }
 }
 
-/// Carries out instructions that offer no action but a trap, up to one that may offer another action, or to a trap, which is
-/// the answer.
-pub fn run_silent(code: &Valid, stack: &mut Loaded) -> Option<Trap>
+/// Carries out instructions that offer no action but a trap, up to one that may offer another action, which is the answer, or
+/// to a trap.
+pub fn run_silent<'a>(code: &'a Valid, stack: &mut Loaded) -> Result<&'a Instr, Trap>
     requires stack { IsStack code.now stack.old.frames }
     requires room { room code.now stack.old.frames ≤ stack.old.room }
-    ensures runs { RunsTo code.now stack.old.frames stack.new.frames result }
+    ensures runs { RunsTo code.now stack.old.frames stack.new.frames (trap_of result) }
+    ensures there { IfOk result (λ instr. instr_of code.now stack.new.frames ≡ Some instr.now) }
+    ensures family { IfOk result (λ instr. 2 ≤ family instr.now) }
+    ensures next { IfOk result (λ _. HasNext stack.new.frames) }
     ensures memory { (stack.new.room ≡ stack.old.room) × (stack.new.most ≡ stack.old.most) }
     ensures stack { IsStack code.now stack.new.frames }
     ensures room { room code.now stack.new.frames ≤ stack.new.room }
@@ -73,9 +77,9 @@ pub fn run_silent(code: &Valid, stack: &mut Loaded) -> Option<Trap>
                 Did::Silent => {
                     instructions = instructions_after(code, stack, instr, instructions);
                 }
-                Did::Trapped(trap) => return Some(trap),
+                Did::Trapped(trap) => return Err(trap),
             },
-            None => return None,
+            None => return Ok(instr),
         }
     }
 }

@@ -16,3 +16,4 @@ mod Small
 mod Settling
 mod Answering
 mod Writing
+mod Sized

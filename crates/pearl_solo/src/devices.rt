@@ -69,6 +69,7 @@ fn offer_text(items: &[Item], values: &[Cell], device: u32, into: &mut Offer)
 }
 
 // Offers the text of the top operands, which are copied into a row, since they stay up to the answer.
+#[inline(never)]
 fn offer_texts(
     stack: &Loaded,
     here: &Frame,
@@ -88,6 +89,7 @@ fn offer_texts(
 }
 
 // Put.
+#[inline(never)]
 pub fn put(
     code: &Valid,
     stack: &Loaded,
@@ -128,6 +130,7 @@ fn kinds_from(stack: &Loaded, here: &Frame, first: u64, count: u32, kinds: &mut 
 }
 
 // Get.
+#[inline(never)]
 pub fn get_values(
     code: &Valid,
     stack: &Loaded,

@@ -80,6 +80,7 @@ fn task_routine(code: &Valid, task: u32) -> u32
 }
 
 /// Leaves the one frame of a task's routine at its first instruction, with unset cells.
+#[inline(never)]
 pub fn begin(code: &Valid, task: u32, stack: &mut Loaded)
     requires task { task < length code.now.tasks }
     requires room { room code.now (begun code.now (length code.now.procedures + task)) ≤ stack.old.room }

@@ -285,6 +285,7 @@ fn activation(a: &Activation, values: &[Cell], into: &mut Offer) -> Result<(), T
 }
 
 // Activate.
+#[inline(never)]
 pub fn activate(stack: &Loaded, here: &Frame, a: &Activation, into: &mut Offer) -> Gave
     requires here { IsHere here.now stack.now.frames }
     requires task { a.now.task < 2 ^ 32 }

@@ -5,7 +5,7 @@ ghost use Rattle.pearl_instructions.specs.Stacks.{IsStack, task_of, room};
 ghost use Rattle.pearl_exchange.specs.Offers.{action_of};
 ghost use Rattle.pearl_solo.specs.Settling.{Settles};
 
-use crate::step::step_other;
+use crate::step::step_at;
 use crate::stepped::Gave;
 use pearl_exchange::offer::{Offer, What};
 use pearl_instructions::valid::Valid;
@@ -26,11 +26,11 @@ pub fn settle(code: &Valid, stack: &mut Loaded, into: &mut Offer)
     laws_hold(code);
     loop {
         match run_silent(code, stack) {
-            Some(trap) => {
+            Err(trap) => {
                 into.what = What::Trap(trap);
                 return;
             }
-            None => match step_other(code, stack, into) {
+            Ok(instr) => match step_at(code, stack, instr, into) {
                 Gave::Silent => {}
                 Gave::Offered => return,
             },

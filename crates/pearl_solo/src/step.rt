@@ -1,11 +1,11 @@
 // One instruction.
 
-ghost use Rattle.std.specs.Prelude.{◌≡◌, ◌≤◌, None};
+ghost use Rattle.std.specs.Prelude.{◌≡◌, ◌≤◌, None, Some};
 ghost use Rattle.pearl_instructions.specs.Rows.{row};
 ghost use Rattle.pearl_instructions.specs.Stacks.{IsStack, task_of, room};
 ghost use Rattle.pearl_silent.specs.Settling.{Ends};
-ghost use Rattle.pearl_silent.specs.Standing.{act_on, family, StandsAt};
-ghost use Rattle.pearl_silent.specs.Steps.{Does};
+ghost use Rattle.pearl_silent.specs.Standing.{act_on, family, instr_of, StandsAt};
+ghost use Rattle.pearl_silent.specs.Steps.{Does, HasNext};
 ghost use Rattle.pearl_exchange.specs.Offers.{action_of};
 ghost use Rattle.pearl_solo.specs.Gives.{gave};
 
@@ -142,9 +142,26 @@ fn on_devices(
     }
 }
 
-// Carries out one instruction that may offer another action than a trap, or leaves the action beside the stack and changes
-// nothing else.
-pub(crate) fn step_other(code: &Valid, stack: &mut Loaded, into: &mut Offer) -> Gave
+// Carries out this instruction, at which the stack stands and which may offer another action than a trap, or leaves the
+// action beside the stack and changes nothing else.
+pub(crate) fn step_at(code: &Valid, stack: &mut Loaded, instr: &Instr, into: &mut Offer) -> Gave
+    requires stack { IsStack code.now stack.old.frames }
+    requires room { room code.now stack.old.frames ≤ stack.old.room }
+    requires there { instr_of code.now stack.old.frames ≡ Some instr.now }
+    requires family { 2 ≤ family instr.now }
+    requires next { HasNext stack.old.frames }
+    ensures does { Does (row code.now stack.old.frames) stack.old stack.new (gave result (action_of into.new)) }
+    ensures stack { IsStack code.now stack.new.frames }
+    ensures room { room code.now stack.new.frames ≤ stack.new.room }
+    ensures task { task_of code.now stack.new.frames ≡ task_of code.now stack.old.frames }
+{
+    laws_hold(code);
+    let here = stack.frame(stack.frames() - 1);
+    on_ways(code, stack, &here, instr, into)
+}
+
+// The same for the instruction at which the stack stands.
+fn step_other(code: &Valid, stack: &mut Loaded, into: &mut Offer) -> Gave
     requires stack { IsStack code.now stack.old.frames }
     requires room { room code.now stack.old.frames ≤ stack.old.room }
     requires other { Ends code.now stack.old.frames None }
@@ -156,7 +173,7 @@ pub(crate) fn step_other(code: &Valid, stack: &mut Loaded, into: &mut Offer) -> 
     laws_hold(code);
     let here = stack.frame(stack.frames() - 1);
     let instr = instr_at(code, &here);
-    on_ways(code, stack, &here, instr, into)
+    step_at(code, stack, instr, into)
 }
 
 /// Carries out one instruction, or leaves the action at which the task stands beside it and changes nothing else.

@@ -10,6 +10,7 @@ use pearl_stack::stack::{Frame, Loaded};
 use pearl_value::cell::{Cell, copy_of};
 
 // The top operands, so many, in the order in which they were pushed.
+#[inline(never)]
 pub fn top_values(stack: &Loaded, here: &Frame, count: u32) -> ArrayVec<Cell, 64>
     requires here { IsHere here.now stack.now.frames }
     requires there { count ≤ length (top_operands stack.now.frames) }

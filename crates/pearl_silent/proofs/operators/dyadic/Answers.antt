@@ -16,15 +16,6 @@ small_of-requires-clause-left c = (dyadic_applies c.args.op c.args.stack.now.fra
 pub small_of-requires-clause-right : goal.small_of-requires-clause-right
 small_of-requires-clause-right c = (dyadic_applies c.args.op c.args.stack.now.frames c.args.stack.now.room c.top-left.result.now c.top-right.result.now c.requires.ready c.requires.formed c.top-right.ensures c.top-left.ensures).right
 
-pub apply2-made-requires-clause-left : goal.apply2-made-requires-clause-left
-apply2-made-requires-clause-left c = (dyadic_applies c.args.op c.args.stack.now.frames c.args.stack.now.room c.top-left.result.now c.top-right.result.now c.requires.ready c.requires.formed c.top-right.ensures c.top-left.ensures).left
-
-pub apply2-made-requires-clause-right : goal.apply2-made-requires-clause-right
-apply2-made-requires-clause-right c = (dyadic_applies c.args.op c.args.stack.now.frames c.args.stack.now.room c.top-left.result.now c.top-right.result.now c.requires.ready c.requires.formed c.top-right.ensures c.top-left.ensures).right
-
-pub apply2-made-requires-clause-row : goal.apply2-made-requires-clause-row
-apply2-made-requires-clause-row c = (dyadic_applies c.args.op c.args.stack.now.frames c.args.stack.now.room c.top-left.result.now c.top-right.result.now c.requires.ready c.requires.formed c.top-right.ensures c.top-left.ensures).row
-
 pub leave_made-requires-clause-there : goal.leave_made-requires-clause-there
 leave_made-requires-clause-there c = let there = dyadic_there c.args.op c.args.stack.now.frames c.args.stack.now.room c.requires.ready in omega (arith, there)
 
@@ -38,17 +29,3 @@ returns-in-Some c =
     let at = dyadic_applies c.args.op c.args.stack.now.frames c.args.stack.now.room c.top-left.result.now c.top-right.result.now c.requires.ready c.requires.formed c.top-right.ensures c.top-left.ensures in
     same_does _ _ c.args.stack.now c.leave_made.new.stack (told c.leave_made.result)
     (at.is ∙ ap (λ m. made_on 2 m c.args.stack.now.frames) (sym c.in-Some.ensures)) c.leave_made.ensures
-
-pub leave-requires-clause-there : goal.leave-requires-clause-there
-leave-requires-clause-there c = let there = dyadic_there c.args.op c.args.stack.now.frames c.args.stack.now.room c.requires.ready in omega (arith, there)
-
-pub leave-requires-clause-ready : goal.leave-requires-clause-ready
-leave-requires-clause-ready c =
-    let at = dyadic_applies c.args.op c.args.stack.now.frames c.args.stack.now.room c.top-left.result.now c.top-right.result.now c.requires.ready c.requires.formed c.top-right.ensures c.top-left.ensures in
-    same_applies _ _ c.args.stack.now.room (at.is ∙ ap (λ m. made_on 2 m c.args.stack.now.frames) (sym c.apply2-made.ensures.value)) c.requires.ready
-
-pub returns-in-None : goal.returns-in-None
-returns-in-None c =
-    let at = dyadic_applies c.args.op c.args.stack.now.frames c.args.stack.now.room c.top-left.result.now c.top-right.result.now c.requires.ready c.requires.formed c.top-right.ensures c.top-left.ensures in
-    same_does _ _ c.args.stack.now c.leave.new.stack (told c.leave.result)
-    (at.is ∙ ap (λ m. made_on 2 m c.args.stack.now.frames) (sym c.apply2-made.ensures.value)) c.leave.ensures

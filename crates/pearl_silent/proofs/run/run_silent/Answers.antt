@@ -6,7 +6,7 @@ use Rattle.pearl_instructions.specs.Rows.{row}
 use Rattle.pearl_instructions.specs.Stacks.{IsStack, task_of, room, all_rows}
 use Rattle.pearl_silent.specs.Settling.{Silently}
 use Rattle.pearl_silent.specs.Standing.{act_on, instr_of}
-use Rattle.pearl_silent.specs.Steps.{GoesOn, Halts, told, Does}
+use Rattle.pearl_silent.specs.Steps.{GoesOn, Halts, told, Does, HasNext}
 use Rattle.pearl_silent.proofs.Places.{stack_some, place_within, here_at, instructions_stay}
 use Rattle.pearl_silent.proofs.Settling.{falls}
 use Rattle.pearl_silent.proofs.Stands.{kept, same_task}
@@ -262,3 +262,32 @@ returns-in-None-clause-task c =
     c.instruction_in-instr.ensures.instr c.instruction_in-instr.ensures.next in
     let same = c.in-None.ensures.1 in
     ap (λ (s : Stack). task_of o s.frames) same ∙ inv.task
+
+pub returns-in-None-clause-there : goal.returns-in-None-clause-there
+returns-in-None-clause-there c =
+    let o = c.args.code.now in
+    let now : Stack = c.rows.stack in
+    let k = c.laws_hold.ensures.laws in
+    let v = c.laws_hold.ensures.valid in
+    let w = c.laws_hold.ensures.object in
+    let inv = c.rows.invariant in
+    let here = here_at k o now c.rows.instructions.now c.place.result c.instruction_in-instr.result.now v w inv.stack inv.room inv.instructions c.place.ensures
+    c.instruction_in-instr.ensures.instr c.instruction_in-instr.ensures.next in
+    let same = c.in-None.ensures.1 in
+    ap (λ (s : Stack). instr_of o s.frames) same ∙ here.there
+
+pub returns-in-None-clause-family : goal.returns-in-None-clause-family
+returns-in-None-clause-family c = c.in-None.ensures.0
+
+pub returns-in-None-clause-next : goal.returns-in-None-clause-next
+returns-in-None-clause-next c =
+    let o = c.args.code.now in
+    let now : Stack = c.rows.stack in
+    let k = c.laws_hold.ensures.laws in
+    let v = c.laws_hold.ensures.valid in
+    let w = c.laws_hold.ensures.object in
+    let inv = c.rows.invariant in
+    let here = here_at k o now c.rows.instructions.now c.place.result c.instruction_in-instr.result.now v w inv.stack inv.room inv.instructions c.place.ensures
+    c.instruction_in-instr.ensures.instr c.instruction_in-instr.ensures.next in
+    let same = c.in-None.ensures.1 in
+    subst (λ (s : Stack). HasNext s.frames) (sym same) here.at.next

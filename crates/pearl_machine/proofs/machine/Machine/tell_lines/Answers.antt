@@ -4,7 +4,7 @@ use Rattle.pearl_instructions.specs.Setups.{setup_of}
 use Rattle.pearl_script.specs.Lines.{report_line}
 use Rattle.pearl_machine.specs.Seen.{Seen}
 use Rattle.pearl_machine.proofs.Taken.{takes_nothing, takes_line, told_on, cut_here, retold_on}
-use Rattle.pearl_machine.proofs.machine.Machine.tell.Goals as goal
+use Rattle.pearl_machine.proofs.machine.Machine.tell_lines.Goals as goal
 
 pub loop-line-init : goal.loop-line-init
 loop-line-init g c = record { same = refl; goes = ([], refl, takes_nothing (g.K.Sink.taken c.args.sink.now)); later = omega arith }

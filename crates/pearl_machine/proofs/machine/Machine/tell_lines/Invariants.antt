@@ -4,7 +4,7 @@ use Rattle.pearl_instructions.specs.Setups.{setup_of}
 use Rattle.pearl_io.specs.Outside.{Takes}
 use Rattle.pearl_script.specs.Lines.{lines_of}
 use Rattle.pearl_machine.specs.Seen.{retold}
-use Rattle.pearl_machine.proofs.machine.Machine.tell.Given as goal
+use Rattle.pearl_machine.proofs.machine.Machine.tell_lines.Given as goal
 
 -- the first lines are written
 abbrev pub invariant-loop-line : goal.invariant-loop-line
