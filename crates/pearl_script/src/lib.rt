@@ -1,7 +1,7 @@
 // The lines that are written: those of a transcript, and those that tell why nothing more was done.
 #![tactic(auto)]
 
-mod literal;
+pub mod literal;
 mod piece;
 pub mod refusal;
 pub mod transcript;

@@ -13,7 +13,7 @@ use itoa::Buffer;
 use pearl_value::cell::Cell;
 
 /// Appends a value as a literal.
-pub(crate) fn push_literal(value: &Cell, into: &mut ArrayVec<u8, 2304>)
+pub fn push_literal(value: &Cell, into: &mut ArrayVec<u8, 2304>)
     requires value { IsValue value.now }
     requires room { length into.old.items + 600 ≤ 2304 }
     ensures text { into.new.items ≡ into.old.items ++ literal value.now }

@@ -15,9 +15,23 @@ pub enum Refusal {
     /// At this byte the source is no program.
     Syntax(u32),
     /// At this byte a rule of this number is broken.
-    Source { place: u32, rule: u8 },
+    Source {
+        place: u32,
+        rule: u8,
+    },
+    /// At this byte the bytes are no object.
+    Object(u32),
+    /// In an object the rule of this number fails at this instruction of this routine, both counted from 0.
+    Unsound {
+        routine: u32,
+        instruction: u64,
+        rule: u8,
+    },
     /// A journal's line, the first being 1, is refused for the reason with this number.
-    Journal { line: u64, code: u8 },
+    Journal {
+        line: u64,
+        code: u8,
+    },
     /// A file could not be read.
     Read,
     /// There is no memory left.
@@ -35,13 +49,20 @@ pub fn refusal_line(refusal: &Refusal, into: &mut ArrayVec<u8, 2304>)
         Refusal::Usage => push_bytes(b"error usage\n", into),
         Refusal::Syntax(place) => push_told(b"error syntax ", u64::from(place), into),
         Refusal::Source { place, rule } => {
-            push_bytes(b"error source ", into);
-            push_number(u64::from(place), into);
+            push_named(b"error source ", u64::from(place), into);
             push_told(b" S", u64::from(rule), into);
         }
+        Refusal::Object(place) => push_told(b"error object ", u64::from(place), into),
+        Refusal::Unsound {
+            routine,
+            instruction,
+            rule,
+        } => {
+            push_instruction(routine, instruction, into);
+            push_told(b" V", u64::from(rule), into);
+        }
         Refusal::Journal { line, code } => {
-            push_bytes(b"error journal ", into);
-            push_number(line, into);
+            push_named(b"error journal ", line, into);
             push_told(b" ", u64::from(code), into);
         }
         Refusal::Read => push_bytes(b"error read\n", into),
@@ -50,12 +71,32 @@ pub fn refusal_line(refusal: &Refusal, into: &mut ArrayVec<u8, 2304>)
     }
 }
 
+// Appends where an object has an instruction.
+fn push_instruction(routine: u32, instruction: u64, into: &mut ArrayVec<u8, 2304>)
+    requires { length into.old.items + 80 ≤ 2304 }
+    ensures text { into.new.items ≡
+        into.old.items ++ codes "error object routine " ++ decimal routine ++ codes " instruction " ++ decimal instruction }
+    ensures len { length into.new.items ≤ length into.old.items + 80 }
+{
+    push_named(b"error object routine ", u64::from(routine), into);
+    push_named(b" instruction ", instruction, into);
+}
+
+// Appends a word and a number.
+fn push_named(word: &[u8], number: u64, into: &mut ArrayVec<u8, 2304>)
+    requires { length into.old.items + length word.now + 20 ≤ 2304 }
+    ensures text { into.new.items ≡ into.old.items ++ word.now ++ decimal number }
+    ensures len { length into.new.items ≤ length into.old.items + length word.now + 20 }
+{
+    push_bytes(word, into);
+    push_number(number, into);
+}
+
 // Appends a word, a number and the line end.
 fn push_told(word: &[u8], number: u64, into: &mut ArrayVec<u8, 2304>)
     requires { length into.old.items + length word.now + 21 ≤ 2304 }
     ensures { into.new.items ≡ into.old.items ++ word.now ++ decimal number ++ codes "\n" }
 {
-    push_bytes(word, into);
-    push_number(number, into);
+    push_named(word, number, into);
     push_bytes(b"\n", into);
 }
