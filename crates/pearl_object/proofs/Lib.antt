@@ -11,3 +11,5 @@ mod Fitting
 mod Standing
 mod Reading
 mod CodeTable
+mod Lines
+pub mod Offered

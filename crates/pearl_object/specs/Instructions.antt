@@ -140,11 +140,19 @@ operand_bytes (OfStart form) = start.bytes form
 operand_bytes (OfRepeat form) = repetition.bytes form
 operand_bytes (OfFlag given) = flag.bytes given
 
--- the bytes of the operands, one behind the other
+-- what is written of the operands, one behind the other
+abbrev pub joined : (Operand → List ℕ) → List Operand → List ℕ
+joined text [] = []
+joined text (o ∷ []) = text o
+joined text (o ∷ p ∷ more) = text o ++ joined text (p ∷ more)
+
 abbrev pub row_bytes : List Operand → List ℕ
-row_bytes [] = []
-row_bytes (o ∷ []) = operand_bytes o
-row_bytes (o ∷ p ∷ more) = operand_bytes o ++ row_bytes (p ∷ more)
+row_bytes operands = joined operand_bytes operands
+
+-- the instruction's literal, if it has one, is such a cell
+abbrev pub literal_suits : (Cell → Type 0) → Instr → Type 0
+literal_suits suits (Const x) = suits x
+literal_suits suits _ = Unit {0}
 
 -- the operands, each of the form that is asked for
 abbrev pub number_in_row : List Operand → ℕ

@@ -16,3 +16,5 @@ pub mod Codes
 pub mod Tables
 -- how an object is spelled, and what its bytes are read as
 pub mod Objects
+-- the text that an object is listed as
+pub mod Listing

@@ -1,21 +1,18 @@
 // The bytes of instructions, both ways.
 
 ghost use Rattle.std.specs.Prelude.{◌≡◌, ◌≤◌, ◌-◌, ◌++◌, OnOk};
-ghost use Rattle.pearl_object.specs.Instructions.{instr, operands_at, on_cells, on_variables, on_flow, operators, on_tasks, on_devices, activation_fields, activation_in_row, made_activation, continuation_fields, continuation_in_row, made_continuation, reading_fields, reading_in_row, made_reading, from_row, opcode_of, monad_code, dyad_code, row_bytes, row};
+ghost use Rattle.pearl_object.specs.Instructions.{instr, operands_at, on_cells, on_variables, on_flow, operators, on_tasks, on_devices, activation_fields, activation_in_row, made_activation, continuation_fields, continuation_in_row, made_continuation, reading_fields, reading_in_row, made_reading, from_row, opcode_of, monad_code, dyad_code};
 ghost use Rattle.pearl_fields.specs.Codec.{arm_at, list_of, number};
 ghost use Rattle.pearl_fields.specs.Reads.{Reads};
 
-use crate::kinds::{put_kind, read_kind};
-use crate::literals::{put_literal, read_literal};
-use crate::operands::{
-    put_flag, put_maybe_once, put_once, put_repeat, put_start, put_trap, read_flag,
-    read_maybe_once, read_once, read_repeat, read_start, read_trap,
-};
+use crate::kinds::read_kind;
+use crate::literals::read_literal;
+use crate::operands::{read_flag, read_maybe_once, read_once, read_repeat, read_start, read_trap};
+use crate::spelling::{Bytes, put_operands};
 use crate::states::Alone;
 use pearl_fields::fault::ReadFault;
-use pearl_fields::part::{Part, list, put_list};
+use pearl_fields::part::{Part, list};
 use pearl_fields::reader::Reader;
-use pearl_fields::writer::put_number;
 use pearl_instructions::boxed::Boxed;
 use pearl_instructions::instr::{Activation, Bounds, Continuation, Instr, Reading};
 use pearl_value::listing::Listing;
@@ -336,83 +333,13 @@ pub fn opcode_of(instr: &Instr) -> u8
     )
 }
 
-macro_rules! with_number {
-    ($number:ident; $($name:ident),*) => { $(Instr::$name($number))|* };
-}
-
-fn put_operands(out: &mut Vec<u8>, instr: &Instr) -> Result<(), AllocError>
-    ensures { OnOk result (out.new.items ≡ out.old.items ++ row_bytes (row instr.now).operands) }
-{
-    match instr {
-        with_number!(n; Load, Store, Read, Write, ReadAt, WriteAt, RefSlot, RefSlotAt, RefCell, Jump, JumpZero,
-            Call, Within, Try, Suspend, Terminate, Prevent, Enable, Disable, Trigger, Take, Send) =>
-            { put_number(out, *n)? }
-        Instr::LoadAt { first: m, count: n }
-        | Instr::StoreAt { first: m, count: n }
-        | Instr::RefCellAt { first: m, count: n }
-        | Instr::Advance { first: m, past: n }
-        | Instr::Put {
-            device: m,
-            format: n,
-        } => {
-            put_number(out, *m)?;
-            put_number(out, *n)?;
-        }
-        Instr::Const(value) => put_literal(out, value.get())?,
-        Instr::Fill { first, count, kind } => {
-            put_number(out, *first)?;
-            put_number(out, *count)?;
-            put_kind(out, *kind)?;
-        }
-        Instr::Conv(kind) => put_kind(out, *kind)?,
-        Instr::Index(bounds) => put_list::<Alone, Bounds>(bounds.get().as_slice(), out)?,
-        Instr::Case(list) | Instr::Request(list) | Instr::Release(list) => {
-            put_list::<(), u64>(list.get().as_slice(), out)?
-        }
-        Instr::Trap(trap) => put_trap(out, *trap)?,
-        Instr::Activate(activation) => put_activation(out, activation.get())?,
-        Instr::Continue(continuation) => put_continuation(out, continuation.get())?,
-        Instr::Resume(form) => put_once(out, *form)?,
-        Instr::Get(reading) => put_reading(out, reading.get())?,
-        _ => {}
-    }
-    Ok(())
-}
-
-fn put_activation(out: &mut Vec<u8>, activation: &Activation) -> Result<(), AllocError>
-    ensures { OnOk result (out.new.items ≡ out.old.items ++ activation_fields.bytes (activation.now.task, (activation.now.start, (activation.now.repeat, activation.now.priority)))) }
-{
-    put_number(out, activation.task)?;
-    put_start(out, activation.start)?;
-    put_repeat(out, activation.repeat)?;
-    put_flag(out, activation.priority)?;
-    Ok(())
-}
-
-fn put_continuation(out: &mut Vec<u8>, continuation: &Continuation) -> Result<(), AllocError>
-    ensures { OnOk result (out.new.items ≡ out.old.items ++ continuation_fields.bytes (continuation.now.task, continuation.now.once)) }
-{
-    put_number(out, continuation.task)?;
-    put_maybe_once(out, continuation.once)?;
-    Ok(())
-}
-
-fn put_reading(out: &mut Vec<u8>, reading: &Reading) -> Result<(), AllocError>
-    ensures { OnOk result (out.new.items ≡ out.old.items ++ reading_fields.bytes (reading.now.device, (reading.now.format, reading.now.first))) }
-{
-    put_number(out, reading.device)?;
-    put_number(out, reading.format)?;
-    put_number(out, reading.first)?;
-    Ok(())
-}
-
 /// Appends an instruction.
 #[tactic(auto, using(crate::proofs::Spellings::instr_bytes))]
 pub fn put_instr(out: &mut Vec<u8>, value: &Instr) -> Result<(), AllocError>
     ensures { OnOk result (out.new.items ≡ out.old.items ++ instr.bytes value.now) }
 {
     out.push(opcode_of(value))?;
-    put_operands(out, value)?;
+    put_operands::<Bytes>(out, value)?;
     Ok(())
 }
 

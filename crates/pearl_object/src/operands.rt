@@ -131,7 +131,7 @@ fn trap_at(_reader: &mut Reader, tag: u8) -> Result<Trap, ReadFault>
     }
 }
 
-fn trap_tag(trap: Trap) -> u8
+pub(crate) fn trap_tag(trap: Trap) -> u8
     ensures { result ≡ trap_tag trap }
 {
     match trap {

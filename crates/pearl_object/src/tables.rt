@@ -65,7 +65,7 @@ fn sort_rank(device: Device) -> u8
     }
 }
 
-fn own_number(device: Device) -> u8
+pub(crate) fn own_number(device: Device) -> u8
     ensures { result ≡ own_number device }
 {
     match device {
