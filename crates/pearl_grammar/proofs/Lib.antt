@@ -1,0 +1,11 @@
+pub mod Rests
+pub mod States
+pub mod Joins
+pub mod Tokens
+pub mod RuleFacts
+pub mod Walk
+pub mod Told
+pub mod Said
+pub mod Leaves
+pub mod Productions
+pub mod DeclarationFacts

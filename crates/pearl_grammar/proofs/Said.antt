@@ -1,0 +1,78 @@
+-- The tokens that each production spells are those that its definition says.
+use Rattle.std.proofs.Common.{rules, ◌+◌, refl, subst}
+use Rattle.pearl_tree.specs.Standing.{SpellsBracketedNumber}
+use Rattle.pearl_tree.specs.Expressions.{SpellsConst}
+use Rattle.pearl_tree.specs.Types.{SpellsNames, SpellsInt, SpellsUpper, SpellsBound, SpellsBounds, SpellsBasic}
+use Rattle.pearl_tree.specs.Declarations.{SpellsDevice, SpellsPrio, SpellsItem, SpellsSema, SpellsDeclared, SpellsClass}
+use Rattle.pearl_tree.specs.Declarations.{SpellsControl, SpellsSpec, SpellsParam}
+use Rattle.pearl_tree.specs.Modules.{SpellsReturns}
+use Rattle.pearl_tree.specs.Standing.{SpellsName, SpellsList}
+use Rattle.pearl_grammar.specs.Laws.{IsSaid, SemasAreActedOn}
+use Rattle.pearl_grammar.specs.Declarations as rule
+
+pub names_said : IsSaid SpellsNames rule.names_rule rule.names_parts
+names_said = search rules
+
+pub bracketed_number_said : IsSaid SpellsBracketedNumber rule.bracketed_number_rule rule.bracketed_number_parts
+bracketed_number_said = search rules
+
+pub constant_said : IsSaid SpellsConst rule.constant_rule rule.constant_parts
+constant_said = search rules
+
+pub int_said : IsSaid SpellsInt rule.int_rule rule.int_parts
+int_said = search rules
+
+pub upper_said : IsSaid SpellsUpper rule.upper_rule rule.upper_parts
+upper_said = search rules
+
+pub bound_said : IsSaid SpellsBound rule.bound_rule rule.bound_parts
+bound_said = search rules
+
+pub bounds_said : IsSaid SpellsBounds rule.bounds_rule rule.bounds_parts
+bounds_said = search rules
+
+pub basic_said : IsSaid SpellsBasic rule.basic_rule rule.basic_parts
+basic_said = search rules
+
+pub item_said : IsSaid SpellsItem rule.item_rule rule.item_parts
+item_said = search rules
+
+pub sema_said : IsSaid SpellsSema rule.sema_rule rule.sema_parts
+sema_said = search rules
+
+pub declared_said : IsSaid SpellsDeclared rule.declared_rule rule.declared_parts
+declared_said = search rules
+
+pub class_said : IsSaid SpellsClass rule.class_rule rule.class_parts
+class_said = search rules
+
+pub control_said : IsSaid SpellsControl rule.control_rule rule.control_parts
+control_said = search rules
+
+pub spec_said : IsSaid SpellsSpec rule.spec_rule rule.spec_parts
+spec_said = search rules
+
+pub device_said : IsSaid SpellsDevice rule.device_rule rule.device_parts
+device_said = search rules
+
+pub param_said : IsSaid SpellsParam rule.param_rule rule.param_parts
+param_said = search rules
+
+pub prio_said : IsSaid SpellsPrio rule.prio_rule rule.prio_parts
+prio_said = search rules
+
+pub returns_said : IsSaid SpellsReturns rule.returns_rule rule.returns_parts
+returns_said = search rules
+
+pub semas_said : SemasAreActedOn
+semas_said depth tokens from x to = (
+  λ h. (h.1, (from + 1, (h.2, refl), (h.0, h.3, (h.4, h.5)))),
+  λ h. (
+    h.1.2.0,
+    h.0,
+    h.1.1.0,
+    subst (λ k. SpellsList tokens (SpellsName tokens) k x.value.names.items.items h.1.2.0) h.1.1.1 h.1.2.1,
+    h.1.2.2.0,
+    h.1.2.2.1,
+  ),
+)

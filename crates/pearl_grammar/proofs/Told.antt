@@ -1,0 +1,190 @@
+-- What the contracts of readers say of a part, as it is taken into a rule; and what is known at the end of a rule, as the
+-- contracts of readers say it.
+use Rattle.std.proofs.Common.{◌≡◌, ℕ, ◌+◌, ◌<◌, ◌≤◌, ◌⊎◌, inl, inr, max, Bool, true, false, List, length, Option, Vec}
+use Rattle.std.proofs.Common.{Result, Ok, Err, refl, sym, subst, arith}
+use Rattle.pearl_tree.specs.declared.token.What.{What}
+use Rattle.pearl_tree.specs.declared.token.Token.{Token}
+use Rattle.pearl_tree.specs.Standing.{Spelling, what_at}
+use Rattle.pearl_parse_expr.specs.declared.reading.Halt.{Halt}
+use Rattle.pearl_parse_expr.specs.declared.reading.Halt.TheVariants.{Refused, NoMemory}
+use Rattle.pearl_parse_expr.specs.declared.reading.Reading.{Reading}
+use Rattle.pearl_parse_expr.specs.Stops.{IsLongest, IsOnly, IsHalted, EndsEarly}
+use Rattle.pearl_parse_expr.specs.Least.{ReachesIn, GoesIn, HaltsIn}
+use Rattle.pearl_parse_expr.specs.Reads.{ReadsOnlyAs, ReadsAs, ReadsMaybe, Reads, ReadsOnly, ReadsList, ReadsOnlyList}
+use Rattle.pearl_parse_expr.specs.Reads.{ReadsMaybeList}
+use Rattle.pearl_parse_expr.proofs.Offered.{clash, shorter}
+use Rattle.pearl_grammar.specs.Rules.{End}
+use Rattle.pearl_grammar.specs.Reached.{GoesBehind, HaltsBehind, IsStopped}
+use Rattle.pearl_grammar.proofs.Rests.{Ends}
+use Rattle.pearl_grammar.proofs.States as states
+use Rattle.pearl_grammar.proofs.RuleFacts.{Left}
+use Rattle.pearl_grammar.proofs.Walk.{Walk, Took, Lacks, never, state_as}
+
+-- ---- parts that were read, behind what was stopped at `low`
+
+took : {Y : Type 0} {inner : ℕ} {spells : List Token → Spelling Y} {extends : Option What → Bool} {tokens : List Token}
+    {at low : ℕ} {y : Y} {end : ℕ} (stop new : ℕ) → spells tokens at y end → IsLongest spells extends tokens at end stop →
+    (at ≤ end) × (end ≤ stop) × (stop ≤ length tokens) → GoesIn inner spells tokens at end stop → new ≡ max stop low →
+    low ≤ length tokens → Took inner spells extends tokens at low y end new
+took {tokens = tokens} stop new spelled longest bounds least is within = record {
+  spelled = spelled;
+  longest = λ others agree y to h. longest others (shorter tokens others stop new (omega (arith, is)) agree) y to h;
+  bounds = omega (arith, bounds, is, within);
+  least = (stop, omega (arith, bounds), least, is);
+}
+
+module _ {Y : Type 0} {inner : ℕ} {spells : List Token → Spelling Y} {tokens : List Token} {at low new : ℕ}
+    {x : Reading Y} where
+  pub took_only : ReadsOnly inner spells tokens at (Ok x) → new ≡ max x.stop low → low ≤ length tokens →
+      Took inner spells never tokens at low x.part x.end new
+  took_only read is within = took {extends = never} x.stop new read.spells
+      (λ others agree y to h. inl (read.only others agree y to h)) (omega (arith, read.ahead)) read.least is within
+
+  pub took_longest : {extends : Option What → Bool} → Reads inner spells extends tokens at (Ok x) →
+      new ≡ max x.stop low → low ≤ length tokens → Took inner spells extends tokens at low x.part x.end new
+  took_longest {extends} read is within = took {extends = extends} x.stop new read.spells read.longest
+      (omega (arith, read.ahead)) read.least is within
+
+  pub took_maybe : {extends : Option What → Bool} → ReadsMaybe inner spells spells spells extends tokens at (Ok x) →
+      new ≡ max x.stop low → low ≤ length tokens → Took inner spells extends tokens at low x.part x.end new
+  took_maybe {extends} read is within = took {extends = extends} x.stop new read.spells read.longest
+      (omega (arith, read.bounds)) read.least is within
+
+module _ {Y A : Type 0} {inner : ℕ} {spells : List Token → Spelling (List Y)} {extends : Option What → Bool}
+    {tokens : List Token} {at low new : ℕ} {x : Reading (Vec Y A)} where
+  pub took_list : ReadsList inner spells extends tokens at (Ok x) → new ≡ max x.stop low → low ≤ length tokens →
+      Took inner spells extends tokens at low x.part.items x.end new
+  took_list read is within = took {extends = extends} x.stop new read.spells read.longest (omega (arith, read.ahead))
+      read.least is within
+
+  pub took_maybe_list : ReadsMaybeList inner spells extends tokens at (Ok x) → new ≡ max x.stop low →
+      low ≤ length tokens → Took inner spells extends tokens at low x.part.items x.end new
+  took_maybe_list read is within = took {extends = extends} x.stop new read.spells read.longest
+      (omega (arith, read.bounds)) read.least is within
+
+-- ---- parts that were not read
+
+-- a part is refused where another one before it was stopped
+abbrev pub behind : Halt → ℕ → Halt
+behind NoMemory stop = NoMemory
+behind (Refused at) stop = Refused (max at stop)
+
+module _ {Y : Type 0} {inner : ℕ} {spells : List Token → Spelling Y} {tokens : List Token} {at low : ℕ} where
+  pub lacks : (halt result : Halt) → IsHalted spells tokens at halt → HaltsIn inner spells tokens at halt →
+      result ≡ behind halt low → low ≤ length tokens → Lacks inner spells tokens at low result
+  lacks NoMemory result refused least is within =
+      subst (λ e. Lacks inner spells tokens at low e) (sym is) (record { refused = tt; least = tt })
+  lacks (Refused k) result refused least is within =
+      subst (λ e. Lacks inner spells tokens at low e) (sym is) (record {
+        refused = (
+          λ others agree y to g. refused.0 others (shorter tokens others k (max k low) (omega arith) agree) y to g,
+          omega (arith, refused.1),
+          omega arith,
+          omega (arith, refused.2, within),
+        );
+        least = (k, refused.1, refused.2, least, refl);
+      })
+
+  -- nothing before it was stopped behind it
+  pub lacks_first : (halt : Halt) → IsHalted spells tokens at halt → HaltsIn inner spells tokens at halt → low ≤ at →
+      Lacks inner spells tokens at low halt
+  lacks_first NoMemory refused least below = record { refused = tt; least = tt }
+  lacks_first (Refused k) refused least below = record {
+    refused = (refused.0, refused.1, omega (arith, refused.1), refused.2);
+    least = (k, refused.1, refused.2, least, omega (arith, refused.1));
+  }
+
+-- ---- the end of a rule
+
+halted : {X : Type 0} (whole : List Token → Spelling X) (tokens : List Token) (from : ℕ) (halt : Halt) →
+    IsStopped whole tokens from 0 halt → IsHalted whole tokens from halt
+halted whole tokens from NoMemory h = tt
+halted whole tokens from (Refused k) h = (h.0, h.1, h.3)
+
+module _ {X : Type 0} {room : ℕ} {whole : List Token → Spelling X} {tokens : List Token} {from : ℕ} where
+  done : {early : Option What → Bool} {low : ℕ} (at stop new : ℕ) → Walk room whole tokens from low End tt early at stop →
+      new ≡ max stop at → GoesBehind room whole tokens from low at new
+  done {early} {low} at stop new a is = states.done room whole tokens from low at stop new
+      (state_as room whole tokens from low (Left End) Ends at at stop stop a.level (omega arith) a.level.inside (inl refl)
+      (λ others alike end h. (tt, h))) is
+
+  longest_of : {early : Option What → Bool} {low : ℕ} (extends : Option What → Bool) (at stop new : ℕ) →
+      Walk room whole tokens from low End tt early at stop → new ≡ max stop at →
+      ((token : Option What) → early token ≡ true → extends token ≡ true) → IsLongest whole extends tokens from at new
+  longest_of {early} {low} extends at stop new a is more = λ others agree x to h.
+      by others to (a.goes others (shorter tokens others stop new (omega (arith, is)) agree) x to h)
+    where
+      by : (others : List Token) (to : ℕ) → Left End others at to ⊎ EndsEarly early others at to →
+          (to ≡ at) ⊎ EndsEarly extends others at to
+      by others to (inl g) = inl g.1
+      by others to (inr e) = inr (e.0, more (what_at others to) e.1)
+
+module _ {X Y : Type 0} {room : ℕ} {whole : List Token → Spelling X} {told : List Token → Spelling Y}
+    {tokens : List Token} {from : ℕ} where
+  -- a part that has one end
+  pub only : (y : Y) {at stop new : ℕ} → Walk room whole tokens from 0 End tt never at stop → new ≡ max stop at →
+      from < at → told tokens from y at →
+      ReadsOnlyAs room told whole tokens from (Ok (record { part = y; end = at; stop = new }))
+  only y {at} {stop} {new} a is ahead spelled = record {
+    spells = spelled;
+    only = λ others agree x to h.
+        by others to (a.goes others (shorter tokens others stop new (omega (arith, is)) agree) x to h);
+    ahead = omega (arith, ahead, is, a.inside, a.level.inside);
+    refused = tt;
+    least = states.goes_in_told room whole tokens from 0 (omega arith) at new (omega (arith, a.level.near))
+        (done at stop new a is);
+  }
+    where
+      by : (others : List Token) (to : ℕ) → Left End others at to ⊎ EndsEarly never others at to → to ≡ at
+      by others to (inl g) = g.1
+      by others to (inr e) = absurd (clash _ e.1 refl)
+
+  -- a part that a token of `extends` may go on with
+  pub longest : {early extends : Option What → Bool} (y : Y) {at stop new : ℕ} →
+      Walk room whole tokens from 0 End tt early at stop → new ≡ max stop at →
+      ((token : Option What) → early token ≡ true → extends token ≡ true) → from < at → told tokens from y at →
+      ReadsAs room told whole extends tokens from (Ok (record { part = y; end = at; stop = new }))
+  longest {early} {extends} y {at} {stop} {new} a is more ahead spelled = record {
+    spells = spelled;
+    longest = longest_of extends at stop new a is more;
+    ahead = omega (arith, ahead, is, a.inside, a.level.inside);
+    refused = tt;
+    least = states.goes_in_told room whole tokens from 0 (omega arith) at new (omega (arith, a.level.near))
+        (done at stop new a is);
+  }
+
+  -- a part that may be empty
+  pub maybe : {early extends : Option What → Bool} (y : Y) {at stop new : ℕ} →
+      Walk room whole tokens from 0 End tt early at stop → new ≡ max stop at →
+      ((token : Option What) → early token ≡ true → extends token ≡ true) → told tokens from y at →
+      ReadsMaybe room told whole whole extends tokens from (Ok (record { part = y; end = at; stop = new }))
+  maybe {early} {extends} y {at} {stop} {new} a is more spelled = record {
+    spells = spelled;
+    longest = longest_of extends at stop new a is more;
+    bounds = omega (arith, a.level.near, is, a.near, a.inside, a.level.inside);
+    refused = tt;
+    least = states.goes_in_told room whole tokens from 0 (omega arith) at new (omega (arith, a.level.near))
+        (done at stop new a is);
+  }
+
+  -- ---- nothing is read
+
+  pub none_only : (halt : Halt) → Lacks room whole tokens from 0 halt →
+      ReadsOnlyAs room told whole tokens from (Err halt)
+  none_only halt t = record {
+    spells = tt;
+    only = tt;
+    ahead = tt;
+    refused = halted whole tokens from halt t.refused;
+    least = states.halts_in room whole tokens from 0 (omega arith) halt t.least;
+  }
+
+  pub none_longest : {extends : Option What → Bool} (halt : Halt) → Lacks room whole tokens from 0 halt →
+      ReadsAs room told whole extends tokens from (Err halt)
+  none_longest halt t = record {
+    spells = tt;
+    longest = tt;
+    ahead = tt;
+    refused = halted whole tokens from halt t.refused;
+    least = states.halts_in room whole tokens from 0 (omega arith) halt t.least;
+  }

@@ -1,0 +1,58 @@
+// What the productions spell.
+
+ghost use Rattle.pearl_tree.specs.Standing.{SpellsBracketedNumber};
+ghost use Rattle.pearl_tree.specs.Expressions.{SpellsConst};
+ghost use Rattle.pearl_tree.specs.Types as types;
+ghost use Rattle.pearl_tree.specs.Declarations as grammar;
+ghost use Rattle.pearl_tree.specs.Modules as modules;
+ghost use Rattle.pearl_grammar.specs.Declarations as rules;
+ghost use Rattle.pearl_grammar.specs.Laws.{IsSaid, Exits, TasksAreActedOn, SemasAreActedOn, InterruptsAreActedOn, Sends, Takes, Returns};
+
+/// The productions of names, numbers in brackets and constants spell what their definitions say.
+pub fn names_are_said()
+    ensures names { IsSaid types.SpellsNames rules.names_rule rules.names_parts }
+    ensures number { IsSaid SpellsBracketedNumber rules.bracketed_number_rule rules.bracketed_number_parts }
+    ensures constant { IsSaid SpellsConst rules.constant_rule rules.constant_parts }
+{}
+
+/// Those of bounds and basic types do.
+pub fn types_are_said()
+    ensures int { IsSaid types.SpellsInt rules.int_rule rules.int_parts }
+    ensures upper { IsSaid types.SpellsUpper rules.upper_rule rules.upper_parts }
+    ensures bound { IsSaid types.SpellsBound rules.bound_rule rules.bound_parts }
+    ensures bounds { IsSaid types.SpellsBounds rules.bounds_rule rules.bounds_parts }
+    ensures basic { IsSaid types.SpellsBasic rules.basic_rule rules.basic_parts }
+{}
+
+/// Those of variables and semaphores do.
+pub fn items_are_said()
+    ensures item { IsSaid grammar.SpellsItem rules.item_rule rules.item_parts }
+    ensures sema { IsSaid grammar.SpellsSema rules.sema_rule rules.sema_parts }
+    ensures declared { IsSaid grammar.SpellsDeclared rules.declared_rule rules.declared_parts }
+{}
+
+/// Those of specifications and devices do.
+pub fn specifications_are_said()
+    ensures class { IsSaid grammar.SpellsClass rules.class_rule rules.class_parts }
+    ensures control { IsSaid grammar.SpellsControl rules.control_rule rules.control_parts }
+    ensures spec { IsSaid grammar.SpellsSpec rules.spec_rule rules.spec_parts }
+    ensures device { IsSaid grammar.SpellsDevice rules.device_rule rules.device_parts }
+{}
+
+/// Those of parameters, priorities and results do.
+pub fn heads_are_said()
+    ensures param { IsSaid grammar.SpellsParam rules.param_rule rules.param_parts }
+    ensures prio { IsSaid grammar.SpellsPrio rules.prio_rule rules.prio_parts }
+    ensures returns { IsSaid modules.SpellsReturns rules.returns_rule rules.returns_parts }
+{}
+
+/// Those of statements that hold no others do.
+pub fn statements_are_said()
+    ensures exit { Exits }
+    ensures on_task { TasksAreActedOn }
+    ensures on_semas { SemasAreActedOn }
+    ensures on_interrupt { InterruptsAreActedOn }
+    ensures send { Sends }
+    ensures take { Takes }
+    ensures return_ { Returns }
+{}
