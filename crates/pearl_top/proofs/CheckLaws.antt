@@ -14,7 +14,8 @@ use Rattle.pearl_top.specs.CheckDue.{BreaksNone, BreaksSome, IsAccepted, IsUnacc
 use Rattle.pearl_top.specs.declared.limits.TheConstants.{SOURCE_LIMIT}
 use Rattle.pearl_top.specs.Sources.{IsTree}
 use Rattle.pearl_top.proofs.PrintLaws.{never_unspelled, unspelled_once}
-use Rattle.pearl_top.proofs.SourceLaws.{IsSettled}
+use Rattle.pearl_top.specs.Reading.{ASource}
+use Rattle.pearl_top.proofs.FileLaws.{IsSettled}
 
 -- a source has one tree
 pub shown_once : (source : List ℕ) (tree other : Tree) → IsTree source tree → IsTree source other → shown_tree tree ≡ shown_tree other
@@ -22,7 +23,7 @@ shown_once source tree other one two =
     let same : two.tokens ≡ one.tokens = one_reading source two.tokens one.tokens two.lexes one.lexes in
     one_tree one.tokens tree other one.spells (subst (Spells other) same two.spells)
 
-accepted_once : (source bytes others : List ℕ) → IsAccepted source bytes → IsAccepted source others → bytes ≡ others
+pub accepted_once : (source bytes others : List ℕ) → IsAccepted source bytes → IsAccepted source others → bytes ≡ others
 accepted_once source bytes others one two =
     one.text ∙ ap (λ tree. accepted_line (sizes_of tree)) (shown_once source one.is.tree two.is.tree one.is.is two.is.is) ∙ sym two.text
 
@@ -59,11 +60,10 @@ unaccepted_within source bytes (inl unspelled) = unspelled.within
 unaccepted_within source bytes (inr some) = some.is.within
 
 -- what is due is settled by the source
-pub check_settled : (source : List ℕ) → IsSettled source (IsAccepted source) (IsUnaccepted source)
+pub check_settled : (source : List ℕ) → IsSettled ASource source (IsAccepted source) (IsUnaccepted source)
 check_settled source = record {
   done_within = λ bytes accepted. accepted.is.is.within;
   refused_within = unaccepted_within source;
   never_both = λ bytes others accepted. never_unaccepted source others accepted.is;
-  done_once = accepted_once source;
   refused_once = unaccepted_once source;
 }

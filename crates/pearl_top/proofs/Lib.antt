@@ -2,9 +2,11 @@ mod RightRenewals
 mod SoundPrograms
 mod Numbers
 mod TakenLaws
-mod SourceLaws
+mod FileLaws
 mod CheckLaws
 mod SourceEnds
+mod ObjectEnds
+mod ObjectLaws
 mod BenchEnds
 mod PrintLaws
 mod PrintsItsText
@@ -14,7 +16,12 @@ mod OwnRuns
 mod TranscriptLaws
 mod Names
 mod FaithfulRuns
+mod CodeRuns
+mod CompiledRuns
 mod DueLaws
+mod FromLaws
+mod JournalLaws
+mod Loaded
 mod Endings
 mod LineLaws
 mod ReplayEnds

@@ -13,10 +13,11 @@ use Rattle.pearl_script.specs.declared.refusal.Refusal.TheVariants as refusal
 use Rattle.pearl_script.specs.Refusals.{refusal_line}
 use Rattle.pearl_top.specs.PrintDue.{IsPrinted}
 use Rattle.pearl_top.specs.Sources.{HasStop, IsTree, IsUnspelled}
-use Rattle.pearl_top.proofs.SourceLaws.{IsSettled}
+use Rattle.pearl_top.specs.Reading.{ASource}
+use Rattle.pearl_top.proofs.FileLaws.{IsSettled}
 
 -- a source has one text
-printed_once : (source bytes others : List ℕ) → IsPrinted source bytes → IsPrinted source others → bytes ≡ others
+pub printed_once : (source bytes others : List ℕ) → IsPrinted source bytes → IsPrinted source others → bytes ≡ others
 printed_once source bytes others one two =
     let same : two.is.tokens ≡ one.is.tokens = one_reading source two.is.tokens one.is.tokens two.is.lexes one.is.lexes in
     one.text ∙ ap text_of_tokens (source_has_one_text one.is.tokens one.tree two.tree one.is.spells (subst (Spells two.tree) same two.is.spells)) ∙ sym two.text
@@ -52,11 +53,10 @@ unspelled_once source bytes others one two =
         stop.refused.stands ∙ (λ i. place_or_end (sym same i) (length source) (token i)) ∙ sym also.refused.stands
 
 -- what is due is settled by the source
-pub print_settled : (source : List ℕ) → IsSettled source (IsPrinted source) (IsUnspelled source)
+pub print_settled : (source : List ℕ) → IsSettled ASource source (IsPrinted source) (IsUnspelled source)
 print_settled source = record {
   done_within = λ bytes printed. printed.is.within;
   refused_within = λ bytes refused. refused.within;
   never_both = λ bytes others printed. never_unspelled source others printed.tree printed.is;
-  done_once = printed_once source;
   refused_once = unspelled_once source;
 }

@@ -228,6 +228,8 @@ pub leaves_failed : (o : Object) (journal : List ℕ) (rose failed wider : Type 
 leaves_failed o journal rose failed wider opened after old mid new (failure.Refused refusal.Usage) widen start ends = absurd ends
 leaves_failed o journal rose failed wider opened after old mid new (failure.Refused (refusal.Syntax place)) widen start ends = absurd ends
 leaves_failed o journal rose failed wider opened after old mid new (failure.Refused (refusal.Source place rule)) widen start ends = absurd ends
+leaves_failed o journal rose failed wider opened after old mid new (failure.Refused (refusal.Object place)) widen start ends = absurd ends
+leaves_failed o journal rose failed wider opened after old mid new (failure.Refused (refusal.Unsound routine instruction rule)) widen start ends = absurd ends
 leaves_failed o journal rose failed wider opened after old mid new (failure.Refused (refusal.Journal line code)) widen start ends =
     leaves_cut o (handled journal) (Bad line code) after old new (refusal.Journal line code) (JournalDue (by_code o) journal rose)
     (reached o (handled journal) (Bad line code) opened after old mid new start ends) (λ bytes run. record { line = line; code = code; run = run })

@@ -20,11 +20,13 @@ use Rattle.pearl_top.specs.declared.limits.TheConstants.{SOURCE_LIMIT}
 use Rattle.pearl_top.specs.declared.status.Status.{Status}
 use Rattle.pearl_top.specs.declared.status.Status.TheVariants.{Done}
 use Rattle.pearl_top.specs.CheckDue.{IsUnaccepted}
+use Rattle.pearl_top.specs.CompileDue.{CompileDue, IsCompiled}
 use Rattle.pearl_top.specs.Failures.{IsDue, check_refusal, lex_refusal, parse_refusal}
-use Rattle.pearl_top.specs.Reading.{DueAtSource}
+use Rattle.pearl_top.specs.Reading.{Sort, ASource, DueAt, DueAtSource}
+use Rattle.pearl_top.specs.RunDue.{SourceDue}
 use Rattle.pearl_top.specs.Sources.{IsTree, IsUnspelled, SyntaxDue}
 use Rattle.pearl_top.specs.Taken.{Leaves}
-use Rattle.pearl_top.proofs.SourceLaws.{at_source_as}
+use Rattle.pearl_top.proofs.FileLaws.{at_file_as}
 use Rattle.pearl_top.proofs.TakenLaws.{append_nil, is_due_as, leaves_due, stops_short}
 
 -- the source has no tokens
@@ -49,7 +51,7 @@ pub unspelled : (source : List ℕ) (done refused : List ℕ → Type 0) (why : 
     IsDue (SyntaxDue source) why → IsDue (DueAtSource source done refused ⊥) why
 unspelled source done refused why otherwise =
     is_due_as (SyntaxDue source) (DueAtSource source done refused ⊥) why
-    (λ s bytes. at_source_as source (λ b. ⊥) (IsUnspelled source) done refused ⊥ ⊥ s bytes (λ b h. absurd h) otherwise (λ h. h))
+    (λ s bytes. at_file_as ASource source (λ b. ⊥) (IsUnspelled source) done refused ⊥ ⊥ s bytes (λ b h. absurd h) otherwise (λ h. h))
 
 -- its tree breaks a rule
 pub broken : (source : List ℕ) (done : List ℕ → Type 0) (fault : CheckFault) (tree : Tree) → IsTree source tree → checks.IsRefused (shown_tree tree) fault →
@@ -57,17 +59,23 @@ pub broken : (source : List ℕ) (done : List ℕ → Type 0) (fault : CheckFaul
 broken source done (check.Refused fault) tree is refused = inr (record { tree = tree; is = is; fault = fault; is_first = refused; text = refl })
 broken source done check.NoMemory tree is refused = refl
 
--- a source that was read whole is refused before anything was written
-pub refused_whole : (read source : List ℕ) (done refused : List ℕ → List ℕ → Type 0) (rose failed : Type 0) (old : Option (List ℕ)) (why : Failure) → read ≡ source →
-    IsDue (DueAtSource read (done read) (refused read) ⊥) why → Leaves old old failed (DueAtSource source (done source) (refused source) rose) (Err why)
-refused_whole read source done refused rose failed old why same is =
-    leaves_due old failed (DueAtSource source (done source) (refused source) rose) why
-    (is_due_as (DueAtSource source (done source) (refused source) ⊥) (DueAtSource source (done source) (refused source) rose) why
-    (λ s bytes. at_source_as source (done source) (refused source) (done source) (refused source) ⊥ rose s bytes (λ b h. h) (λ b h. h) (λ h. absurd h))
-    (subst (λ file. IsDue (DueAtSource file (done file) (refused file) ⊥) why) same is))
+-- an unaccepted source is refused, whatever it is to become
+pub uncompiled : (source : List ℕ) (why : Failure) → IsDue (SourceDue source ⊥) why → IsDue (CompileDue source ⊥) why
+uncompiled source why =
+    is_due_as (SourceDue source ⊥) (CompileDue source ⊥) why
+    (λ s bytes. at_file_as ASource source (λ b. ⊥) (IsUnaccepted source) (IsCompiled source) (IsUnaccepted source) ⊥ ⊥ s bytes (λ b h. absurd h) (λ b h. h) (λ h. h))
+
+-- a file that was read whole is refused before anything was written
+pub refused_whole : (sort : Sort) (read file : List ℕ) (done refused : List ℕ → List ℕ → Type 0) (rose failed : Type 0) (old : Option (List ℕ)) (why : Failure) →
+    read ≡ file → IsDue (DueAt sort read (done read) (refused read) ⊥) why → Leaves old old failed (DueAt sort file (done file) (refused file) rose) (Err why)
+refused_whole sort read file done refused rose failed old why same is =
+    leaves_due old failed (DueAt sort file (done file) (refused file) rose) why
+    (is_due_as (DueAt sort file (done file) (refused file) ⊥) (DueAt sort file (done file) (refused file) rose) why
+    (λ s bytes. at_file_as sort file (done file) (refused file) (done file) (refused file) ⊥ rose s bytes (λ b h. h) (λ b h. h) (λ h. absurd h))
+    (subst (λ f. IsDue (DueAt sort f (done f) (refused f) ⊥) why) same is))
 
 -- a front of what is due for it was taken
-pub cut_at_source : (source text : List ℕ) (done refused : List ℕ → Type 0) (rose failed : Type 0) (old new : Option (List ℕ)) → failed → done text →
-    TakesFront old new text → Leaves old new failed (DueAtSource source done refused rose) (Err failure.WriteFault)
-cut_at_source source text done refused rose failed old new cause is front =
-    (cause, stops_short old new (DueAtSource source done refused rose) Done text [] (subst done (sym (append_nil text)) is) front)
+pub cut_whole : (sort : Sort) (file text : List ℕ) (done refused : List ℕ → Type 0) (rose failed : Type 0) (old new : Option (List ℕ)) → failed → done text →
+    TakesFront old new text → Leaves old new failed (DueAt sort file done refused rose) (Err failure.WriteFault)
+cut_whole sort file text done refused rose failed old new cause is front =
+    (cause, stops_short old new (DueAt sort file done refused rose) Done text [] (subst done (sym (append_nil text)) is) front)

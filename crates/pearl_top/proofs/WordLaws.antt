@@ -4,30 +4,34 @@ use Rattle.std.specs.List.{AllZip, Any}
 use Rattle.pearl_io.specs.Outside.{Files, content}
 use Rattle.pearl_program.specs.PlainPrograms.{PlainProg}
 use Rattle.pearl_instructions.specs.declared.object.Parts.{Parts as Object}
+use Rattle.pearl_instructions.specs.Valid.{IsValid}
 use Rattle.pearl_faithful.specs.Faithful.{IsFaithfulTo}
 use Rattle.pearl_machine.specs.Seen.{Seen}
 use Rattle.pearl_script.specs.declared.refusal.Refusal.TheVariants as refusal
 use Rattle.pearl_script.specs.Refusals.{refusal_line}
 use Rattle.pearl_top.specs.declared.failure.Failure.{Failure}
 use Rattle.pearl_top.specs.declared.failure.Failure.TheVariants as failure
-use Rattle.pearl_top.specs.declared.limits.TheConstants.{SOURCE_LIMIT}
+use Rattle.pearl_top.specs.declared.limits.TheConstants.{SOURCE_LIMIT, OBJECT_LIMIT}
 use Rattle.pearl_top.specs.declared.status.Status.{Status}
 use Rattle.pearl_top.specs.declared.status.Status.TheVariants.{Done, Usage, Refused, BadObject, BadJournal, ReadFault, WriteFault, NoMemory, TooLong}
 use Rattle.pearl_top.specs.BenchDue.{BenchDue}
 use Rattle.pearl_top.specs.CheckDue.{CheckDue, IsAccepted, IsUnaccepted}
-use Rattle.pearl_top.specs.Commands.{Command, Run, Check, Print, Bench, NoCommand, ReadsObject, names_of}
+use Rattle.pearl_top.specs.Commands.{Command, Run, Check, Print, Compile, Exec, Listed, Bench, NoCommand, ReadsObject, names_of}
+use Rattle.pearl_top.specs.CompileDue.{CompileDue, IsCompiled}
+use Rattle.pearl_top.specs.ObjectDue.{ExecDue, IsCodeOf, IsListed, IsNoObject, IsRefused, ListDue, ObjectDue}
 use Rattle.pearl_top.specs.Failures.{IsDue}
 use Rattle.pearl_top.specs.JournalDue.{JournalDue}
 use Rattle.pearl_top.specs.Outcome.{Due, DueFor, IsOutcome}
 use Rattle.pearl_top.specs.RunDue.{IsSource, RunDue, SourceDue}
 use Rattle.pearl_top.specs.PrintDue.{IsPrinted, PrintDue}
 use Rattle.pearl_top.specs.Sources.{IsUnspelled}
-use Rattle.pearl_top.specs.Reading.{MayHave, UnreadDue}
-use Rattle.pearl_top.specs.Ready.{IsReadyFor, RunsByRules}
-use Rattle.pearl_top.specs.Runners.{Runner, by_code, by_rules}
+use Rattle.pearl_top.specs.Reading.{ASource, AnObject, MayHave, UnreadDue}
+use Rattle.pearl_top.specs.Ready.{IsReadyWith, RunsByRules}
+use Rattle.pearl_top.specs.Runners.{by_code, by_rules}
 use Rattle.pearl_top.specs.Replay.{start_of, started}
 use Rattle.pearl_top.specs.Taken.{Ends, Finishes, OnlyDue}
-use Rattle.pearl_top.proofs.SourceLaws.{at_source_as, at_source_unread, at_source_unrisen}
+use Rattle.pearl_top.proofs.FileLaws.{at_file_unrisen}
+use Rattle.pearl_top.proofs.FromLaws.{from_held, from_read, from_refused, from_unread, from_unrisen, from_usage}
 use Rattle.pearl_top.proofs.FaithfulRuns.{journals_alike}
 use Rattle.pearl_top.proofs.TakenLaws.{ends_as, finishes_of}
 
@@ -37,48 +41,48 @@ use Rattle.pearl_top.proofs.TakenLaws.{ends_as, finishes_of}
 pub loaded : (o code : Object) (seen : Seen) → code ≡ o → seen.object ≡ code → seen.state ≡ start_of code [] → seen ≡ started o
 loaded o code seen same object state = rw (sym same) (ap₂ (λ held at. record { object = held; state = at }) object state)
 
--- a machine that was loaded with a faithful object is ready
-pub ready_of : (p : PlainProg) (o : Object) (seen : Seen) → IsFaithfulTo p o → RunsByRules o → seen ≡ started o → IsReadyFor p seen
-ready_of p o seen faithful rules at_start =
+-- a machine that was loaded with a valid object is ready
+pub ready_with : (o : Object) (seen : Seen) → IsValid o → RunsByRules o → seen ≡ started o → IsReadyWith o seen
+ready_with o seen valid rules at_start =
     let same : o ≡ seen.object = ap (λ s. s.object) (sym at_start) in record {
-      faithful = subst (IsFaithfulTo p) same faithful;
+      valid = valid;
+      is = sym same;
       ready = record { rules = subst RunsByRules same rules; starts = at_start ∙ ap started same };
     }
-
--- where the count of faults rose from earlier on
-journal_rises : (runner : Runner) (journal : List ℕ) (rose risen : Type 0) (status : Status) (bytes : List ℕ) → (rose → risen) → JournalDue runner journal rose status bytes →
-    JournalDue runner journal risen status bytes
-journal_rises runner journal rose risen Done bytes on due = due
-journal_rises runner journal rose risen Usage bytes on due = due
-journal_rises runner journal rose risen Refused bytes on due = due
-journal_rises runner journal rose risen BadObject bytes on due = due
-journal_rises runner journal rose risen BadJournal bytes on due = due
-journal_rises runner journal rose risen ReadFault bytes on due = (on due.0, due.1)
-journal_rises runner journal rose risen WriteFault bytes on due = due
-journal_rises runner journal rose risen NoMemory bytes on due = due
-journal_rises runner journal rose risen TooLong bytes on due = due
 
 -- what is due where the source is not read whole
 pub run_unread : (source journal : List ℕ) (rose also : Type 0) (status : Status) (bytes : List ℕ) → UnreadDue source SOURCE_LIMIT rose status bytes →
     RunDue source journal rose also status bytes
-run_unread source journal rose also status bytes due = inl (at_source_unread source (λ bytes. ⊥) (IsUnaccepted source) rose status bytes due)
+run_unread source journal = from_unread ASource source (IsUnaccepted source) (IsSource source) by_rules journal
 
 -- what is due where it was read
 pub run_refused : (read source journal : List ℕ) (rose also : Type 0) (status : Status) (bytes : List ℕ) → read ≡ source → SourceDue read ⊥ status bytes →
     RunDue source journal rose also status bytes
 run_refused read source journal rose also status bytes same due =
-    inl (subst (λ file. SourceDue file rose status bytes) same
-    (at_source_as read (λ bytes. ⊥) (IsUnaccepted read) (λ bytes. ⊥) (IsUnaccepted read) ⊥ rose status bytes (λ b h. h) (λ b h. h) (λ h. absurd h) due))
+    from_refused ASource source (IsUnaccepted source) (IsSource source) by_rules journal rose also status bytes (subst (λ file. SourceDue file ⊥ status bytes) same due)
 
 -- what is due where it is accepted, of a machine with an object that does what it means
 pub run_accepted : (read source journal : List ℕ) (rose also later : Type 0) (p : PlainProg) (o : Object) (status : Status) (bytes : List ℕ) → read ≡ source →
     (also → later) → IsSource read p → IsFaithfulTo p o → JournalDue (by_code o) journal also status bytes → RunDue source journal rose later status bytes
 run_accepted read source journal rose also later p o status bytes same on is_source faithful due =
-    inr (
-      p,
-      subst (λ file. IsSource file p) same is_source,
-      journal_rises (by_rules p) journal also later status bytes on (journals_alike p o faithful journal also status bytes due),
-    )
+    from_held ASource source (IsUnaccepted source) (IsSource source) by_rules journal p rose also later status bytes on (subst (λ file. IsSource file p) same is_source)
+    (journals_alike p o faithful journal also status bytes due)
+
+-- AT THE OBJECT
+
+pub exec_unread : (file journal : List ℕ) (rose also : Type 0) (status : Status) (bytes : List ℕ) → UnreadDue file OBJECT_LIMIT rose status bytes →
+    ExecDue file journal rose also status bytes
+exec_unread file journal = from_unread AnObject file (IsRefused file) (IsCodeOf file) by_code journal
+
+pub exec_refused : (read file journal : List ℕ) (rose also : Type 0) (status : Status) (bytes : List ℕ) → read ≡ file → ObjectDue read ⊥ status bytes →
+    ExecDue file journal rose also status bytes
+exec_refused read file journal rose also status bytes same due =
+    from_refused AnObject file (IsRefused file) (IsCodeOf file) by_code journal rose also status bytes (subst (λ f. ObjectDue f ⊥ status bytes) same due)
+
+pub exec_accepted : (read file journal : List ℕ) (rose also later : Type 0) (o : Object) (status : Status) (bytes : List ℕ) → read ≡ file → (also → later) →
+    IsCodeOf read o → JournalDue (by_code o) journal also status bytes → ExecDue file journal rose later status bytes
+exec_accepted read file journal rose also later o status bytes same on code due =
+    from_held AnObject file (IsRefused file) (IsCodeOf file) by_code journal o rose also later status bytes on (subst (λ f. IsCodeOf f o) same code) due
 
 -- FOR ALL WORDS
 
@@ -111,26 +115,21 @@ due_told command held files contents rose old new status tells has ends =
     (told files (names_of command) contents (subst (λ h. AllZip (MayHave h) (names_of command) contents) tells has)) ends
 
 -- what comes without a fault of reading comes where no count rose
-run_unrisen : (source journal : List ℕ) (a b : Type 0) (status : Status) (bytes : List ℕ) → status ≢ ReadFault → RunDue source journal a b status bytes →
-    RunDue source journal ⊥ ⊥ status bytes
-run_unrisen source journal a b Done bytes free due = due
-run_unrisen source journal a b Usage bytes free due = due
-run_unrisen source journal a b Refused bytes free due = due
-run_unrisen source journal a b BadObject bytes free due = due
-run_unrisen source journal a b BadJournal bytes free due = due
-run_unrisen source journal a b ReadFault bytes free due = absurd (free refl)
-run_unrisen source journal a b WriteFault bytes free due = due
-run_unrisen source journal a b NoMemory bytes free due = due
-run_unrisen source journal a b TooLong bytes free due = due
-
 unrisen : (command : Command) (files : List ℕ → List ℕ) (rose : List ℕ → Type 0) (status : Status) (bytes : List ℕ) → status ≢ ReadFault →
     Due command files rose status bytes → Due command files (λ name. ⊥) status bytes
 unrisen NoCommand files rose status bytes free due = due
-unrisen (Run source journal) files rose status bytes free due = run_unrisen (files source) (files journal) (rose source) (rose journal) status bytes free due
+unrisen (Run source journal) files rose status bytes free due =
+    from_unrisen ASource (files source) (IsUnaccepted (files source)) (IsSource (files source)) by_rules (files journal) (rose source) (rose journal) status bytes free due
+unrisen (Exec object journal) files rose status bytes free due =
+    from_unrisen AnObject (files object) (IsRefused (files object)) (IsCodeOf (files object)) by_code (files journal) (rose object) (rose journal) status bytes free due
 unrisen (Check source) files rose status bytes free due =
-    at_source_unrisen (files source) (IsAccepted (files source)) (IsUnaccepted (files source)) (rose source) status bytes free due
+    at_file_unrisen ASource (files source) (IsAccepted (files source)) (IsUnaccepted (files source)) (rose source) status bytes free due
 unrisen (Print source) files rose status bytes free due =
-    at_source_unrisen (files source) (IsPrinted (files source)) (IsUnspelled (files source)) (rose source) status bytes free due
+    at_file_unrisen ASource (files source) (IsPrinted (files source)) (IsUnspelled (files source)) (rose source) status bytes free due
+unrisen (Compile source) files rose status bytes free due =
+    at_file_unrisen ASource (files source) (IsCompiled (files source)) (IsUnaccepted (files source)) (rose source) status bytes free due
+unrisen (Listed object) files rose status bytes free due =
+    at_file_unrisen AnObject (files object) (IsListed (files object)) (IsNoObject (files object)) (rose object) status bytes free due
 unrisen (Bench n) files rose status bytes free due = due
 
 -- where the status is none of want of memory, a read fault and a write fault, it is an outcome
@@ -166,30 +165,57 @@ print_file source [] rose status bytes due = absurd due
 print_file source (file ∷ []) rose status bytes due = (file, due)
 print_file source (file ∷ other ∷ more) rose status bytes due = absurd due
 
+compile_file : (source : List ℕ) (contents : List (List ℕ)) (rose : List ℕ → Type 0) (status : Status) (bytes : List ℕ) →
+    DueFor (Compile source) contents rose status bytes → (file : List ℕ) × CompileDue file (rose source) status bytes
+compile_file source [] rose status bytes due = absurd due
+compile_file source (file ∷ []) rose status bytes due = (file, due)
+compile_file source (file ∷ other ∷ more) rose status bytes due = absurd due
+
+list_file : (object : List ℕ) (contents : List (List ℕ)) (rose : List ℕ → Type 0) (status : Status) (bytes : List ℕ) →
+    DueFor (Listed object) contents rose status bytes → (file : List ℕ) × ListDue file (rose object) status bytes
+list_file object [] rose status bytes due = absurd due
+list_file object (file ∷ []) rose status bytes due = (file, due)
+list_file object (file ∷ other ∷ more) rose status bytes due = absurd due
+
+exec_files : (object journal : List ℕ) (contents : List (List ℕ)) (rose : List ℕ → Type 0) (status : Status) (bytes : List ℕ) →
+    DueFor (Exec object journal) contents rose status bytes → (first second : List ℕ) × ExecDue first second (rose object) (rose journal) status bytes
+exec_files object journal [] rose status bytes due = absurd due
+exec_files object journal (first ∷ []) rose status bytes due = absurd due
+exec_files object journal (first ∷ second ∷ []) rose status bytes due = (first, second, due)
+exec_files object journal (first ∷ second ∷ third ∷ more) rose status bytes due = absurd due
+
 bench_due : (n : ℕ) (contents : List (List ℕ)) (rose : List ℕ → Type 0) (status : Status) (bytes : List ℕ) → DueFor (Bench n) contents rose status bytes →
     BenchDue n status bytes
 bench_due n [] rose status bytes due = due
 bench_due n (file ∷ more) rose status bytes due = absurd due
 
 run_usage : (source journal : List ℕ) (a b : Type 0) (bytes : List ℕ) → RunDue source journal a b Usage bytes → ⊥
-run_usage source journal a b bytes (inl due) = due
-run_usage source journal a b bytes (inr (p, is_source, due)) = due
+run_usage source journal = from_usage ASource source (IsUnaccepted source) (IsSource source) by_rules journal
+
+exec_usage : (file journal : List ℕ) (a b : Type 0) (bytes : List ℕ) → ExecDue file journal a b Usage bytes → ⊥
+exec_usage file journal = from_usage AnObject file (IsRefused file) (IsCodeOf file) by_code journal
 
 run_object : (source journal : List ℕ) (a b : Type 0) (bytes : List ℕ) → RunDue source journal a b BadObject bytes → ⊥
 run_object source journal a b bytes (inl due) = due
 run_object source journal a b bytes (inr (p, is_source, due)) = due
 
 run_read : (source journal : List ℕ) (a b : Type 0) (bytes : List ℕ) → RunDue source journal a b ReadFault bytes → a ⊎ b
-run_read source journal a b bytes (inl due) = inl due.0
-run_read source journal a b bytes (inr (p, is_source, due)) = inr due.0
+run_read source journal = from_read ASource source (IsUnaccepted source) (IsSource source) by_rules journal
+
+exec_read : (file journal : List ℕ) (a b : Type 0) (bytes : List ℕ) → ExecDue file journal a b ReadFault bytes → a ⊎ b
+exec_read file journal = from_read AnObject file (IsRefused file) (IsCodeOf file) by_code journal
 
 usage_due : (command : Command) (contents : List (List ℕ)) (rose : List ℕ → Type 0) (bytes : List ℕ) → DueFor command contents rose Usage bytes →
     command ≡ NoCommand
 usage_due NoCommand contents rose bytes due = refl
 usage_due (Run source journal) contents rose bytes due =
     let is = run_files source journal contents rose Usage bytes due in absurd (run_usage is.0 is.1 (rose source) (rose journal) bytes is.2)
+usage_due (Exec object journal) contents rose bytes due =
+    let is = exec_files object journal contents rose Usage bytes due in absurd (exec_usage is.0 is.1 (rose object) (rose journal) bytes is.2)
 usage_due (Check source) contents rose bytes due = absurd (let is = check_file source contents rose Usage bytes due in is.1)
 usage_due (Print source) contents rose bytes due = absurd (let is = print_file source contents rose Usage bytes due in is.1)
+usage_due (Compile source) contents rose bytes due = absurd (let is = compile_file source contents rose Usage bytes due in is.1)
+usage_due (Listed object) contents rose bytes due = absurd (let is = list_file object contents rose Usage bytes due in is.1)
 usage_due (Bench n) contents rose bytes due = absurd (bench_due n contents rose Usage bytes due)
 
 none_due : (contents : List (List ℕ)) (rose : List ℕ → Type 0) (status : Status) (bytes : List ℕ) → DueFor NoCommand contents rose status bytes →
@@ -202,6 +228,9 @@ object_due : (command : Command) (contents : List (List ℕ)) (rose : List ℕ �
 object_due NoCommand contents rose bytes due = let is = none_due contents rose BadObject bytes due in (let e = is.0 in cc)
 object_due (Run source journal) contents rose bytes due =
     let is = run_files source journal contents rose BadObject bytes due in run_object is.0 is.1 (rose source) (rose journal) bytes is.2
+object_due (Exec object journal) contents rose bytes due = tt
+object_due (Listed object) contents rose bytes due = tt
+object_due (Compile source) contents rose bytes due = let is = compile_file source contents rose BadObject bytes due in is.1
 object_due (Check source) contents rose bytes due = let is = check_file source contents rose BadObject bytes due in is.1
 object_due (Print source) contents rose bytes due = let is = print_file source contents rose BadObject bytes due in is.1
 object_due (Bench n) contents rose bytes due = bench_due n contents rose BadObject bytes due
@@ -216,6 +245,13 @@ read_due NoCommand contents rose bytes due = absurd (let is = none_due contents 
 read_due (Run source journal) contents rose bytes due =
     let is = run_files source journal contents rose ReadFault bytes due in
     some_rose source journal rose (run_read is.0 is.1 (rose source) (rose journal) bytes is.2)
+read_due (Exec object journal) contents rose bytes due =
+    let is = exec_files object journal contents rose ReadFault bytes due in
+    some_rose object journal rose (exec_read is.0 is.1 (rose object) (rose journal) bytes is.2)
+read_due (Compile source) contents rose bytes due =
+    let is = compile_file source contents rose ReadFault bytes due in (0, source, omega arith, refl, is.1.0)
+read_due (Listed object) contents rose bytes due =
+    let is = list_file object contents rose ReadFault bytes due in (0, object, omega arith, refl, is.1.0)
 read_due (Check source) contents rose bytes due =
     let is = check_file source contents rose ReadFault bytes due in (0, source, omega arith, refl, is.1.0)
 read_due (Print source) contents rose bytes due =

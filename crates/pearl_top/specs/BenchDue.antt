@@ -13,12 +13,16 @@ use Rattle.pearl_top.specs.RunDue.{IsSource}
 use Rattle.pearl_top.specs.Runners.{by_rules}
 use Rattle.pearl_top.specs.Transcript.{Closed}
 
--- the source means a program, of which the task rules write this transcript over the journal, and this is the line that sums it up
-pub record IsBench (n : ℕ) (bytes : List ℕ) : Type 0 where
+-- the source means a program, of which the task rules write this transcript over the journal of the workload
+pub record IsWorked (source transcript : List ℕ) : Type 0 where
   pub p : PlainProg
-  pub is_source : IsSource (source_of n) p
-  pub transcript : List ℕ
+  pub is_source : IsSource source p
   pub run : IsRun (by_rules p) (journal_lines journal_of) All Closed transcript
+
+-- its own source does, and this is the line that sums the transcript up
+pub record IsBench (n : ℕ) (bytes : List ℕ) : Type 0 where
+  pub transcript : List ℕ
+  pub worked : IsWorked (source_of n) transcript
   pub text : bytes ≡ summary_of n transcript
 
 -- what is due: that line, or the refusal of a source that is none

@@ -9,6 +9,9 @@ pub data Command : Type 0 where
   Run : (source journal : List ℕ) → Command
   Check : (source : List ℕ) → Command
   Print : (source : List ℕ) → Command
+  Compile : (source : List ℕ) → Command
+  Exec : (object journal : List ℕ) → Command
+  Listed : (object : List ℕ) → Command
   Bench : (n : ℕ) → Command
   NoCommand : Command
 
@@ -22,11 +25,12 @@ bench_of digits = bench_upto 100 digits
 
 -- the words that stand before one more, each with what they ask for
 abbrev pub of_one : List (List ℕ × (List ℕ → Command))
-of_one = (codes "check", Check) ∷ (codes "print", Print) ∷ (codes "bench", bench_of) ∷ []
+of_one =
+    (codes "check", Check) ∷ (codes "print", Print) ∷ (codes "compile", Compile) ∷ (codes "list", Listed) ∷ (codes "bench", bench_of) ∷ []
 
 -- those that stand before two more
 abbrev pub of_two : List (List ℕ × (List ℕ → List ℕ → Command))
-of_two = (codes "run", Run) ∷ []
+of_two = (codes "run", Run) ∷ (codes "exec", Exec) ∷ []
 
 -- what a word asks for, or else nothing
 abbrev pub asked : {A : Type 0} → A → List (List ℕ × A) → List ℕ → A
@@ -44,14 +48,20 @@ abbrev pub names_of : Command → List (List ℕ)
 names_of (Run source journal) = source ∷ journal ∷ []
 names_of (Check source) = source ∷ []
 names_of (Print source) = source ∷ []
+names_of (Compile source) = source ∷ []
+names_of (Exec object journal) = object ∷ journal ∷ []
+names_of (Listed object) = object ∷ []
 names_of (Bench n) = []
 names_of NoCommand = []
 
--- the command reads an object; none of these does
+-- the command reads an object
 abbrev pub ReadsObject : Command → Type 0
 ReadsObject (Run source journal) = ⊥
 ReadsObject (Check source) = ⊥
 ReadsObject (Print source) = ⊥
+ReadsObject (Compile source) = ⊥
+ReadsObject (Exec object journal) = Unit {0}
+ReadsObject (Listed object) = Unit {0}
 ReadsObject (Bench n) = ⊥
 ReadsObject NoCommand = ⊥
 
@@ -60,5 +70,8 @@ abbrev pub IsCommand : code.Command → Command → Type 0
 IsCommand (borrowed.Run source journal) command = command ≡ Run source.now journal.now
 IsCommand (borrowed.Check source) command = command ≡ Check source.now
 IsCommand (borrowed.Print source) command = command ≡ Print source.now
+IsCommand (borrowed.Compile source) command = command ≡ Compile source.now
+IsCommand (borrowed.Exec object journal) command = command ≡ Exec object.now journal.now
+IsCommand (borrowed.List object) command = command ≡ Listed object.now
 IsCommand (borrowed.Bench n) command = (command ≡ Bench n) × (1 ≤ n) × (n ≤ 100)
 IsCommand borrowed.None command = command ≡ NoCommand

@@ -3,13 +3,16 @@ use Rattle.std.specs.Prelude.{◌≡◌, ℕ, ◌≤◌, List, length}
 use Rattle.pearl_tree.specs.declared.tree.Tree.{Tree}
 use Rattle.pearl_rules.specs.declared.entry.Entry.{Entry}
 use Rattle.pearl_program.specs.PlainPrograms.{PlainProg}
+use Rattle.pearl_instructions.specs.declared.object.Parts.{Parts as Object}
+use Rattle.pearl_instructions.specs.Setups.{setup_of}
 use Rattle.pearl_top.specs.declared.limits.TheConstants.{JOURNAL_LIMIT}
-use Rattle.pearl_top.specs.Commands.{Command, Run, Check, Print, Bench, NoCommand}
+use Rattle.pearl_top.specs.Commands.{Command, Run, Check, Print, Compile, Exec, Listed, Bench, NoCommand}
 use Rattle.pearl_top.specs.CheckDue.{BreaksNone}
 use Rattle.pearl_journal.specs.Entries.{All, entries}
 use Rattle.pearl_journal.specs.Lines.{journal_lines}
 use Rattle.pearl_meaning.specs.ProgramRuns.{setup_of as tables_of}
 use Rattle.pearl_bench.specs.Texts.{journal_of, source_of}
+use Rattle.pearl_top.specs.ObjectDue.{IsCodeOf, IsFileOf}
 use Rattle.pearl_top.specs.RunDue.{IsSource}
 use Rattle.pearl_top.specs.Sources.{IsTree}
 
@@ -21,10 +24,21 @@ pub record AreInOrder (source journal : List ℕ) : Type 0 where
   pub es : List Entry
   pub read : entries (tables_of p) (journal_lines journal) ≡ record { accepted = es; ending = All }
 
+-- a valid object, and a journal of which all lines are accepted by its tables, each within its limit
+pub record CanExecute (object journal : List ℕ) : Type 0 where
+  pub o : Object
+  pub is : IsCodeOf object o
+  pub within : length journal ≤ JOURNAL_LIMIT
+  pub es : List Entry
+  pub read : entries (setup_of o) (journal_lines journal) ≡ record { accepted = es; ending = All }
+
 -- the words are a command, and the files that they name are in order
 abbrev pub IsInOrder : Command → (List ℕ → List ℕ) → Type 0
 IsInOrder NoCommand files = ⊥
 IsInOrder (Run source journal) files = AreInOrder (files source) (files journal)
 IsInOrder (Check source) files = BreaksNone (files source)
 IsInOrder (Print source) files = (tree : Tree) × IsTree (files source) tree
+IsInOrder (Compile source) files = BreaksNone (files source)
+IsInOrder (Exec object journal) files = CanExecute (files object) (files journal)
+IsInOrder (Listed object) files = (o : Object) × IsFileOf (files object) o
 IsInOrder (Bench n) files = AreInOrder (source_of n) journal_of

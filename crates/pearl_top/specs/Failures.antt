@@ -6,8 +6,12 @@ use Rattle.pearl_parse_expr.specs.declared.fault.ParseFault.{ParseFault}
 use Rattle.pearl_parse_expr.specs.declared.fault.ParseFault.TheVariants as parse
 use Rattle.pearl_check.specs.declared.fault.CheckFault.{CheckFault}
 use Rattle.pearl_check.specs.declared.fault.CheckFault.TheVariants as check
+use Rattle.pearl_object.specs.declared.fault.ReadFail.{ReadFail}
+use Rattle.pearl_object.specs.declared.fault.ReadFail.TheVariants as read
+use Rattle.pearl_verify.specs.declared.verify.VerifyFault.{VerifyFault}
+use Rattle.pearl_verify.specs.declared.verify.VerifyFault.TheVariants as verify
 use Rattle.pearl_script.specs.declared.refusal.Refusal.{Refusal}
-use Rattle.pearl_script.specs.declared.refusal.Refusal.TheVariants.{Syntax, Source, Memory}
+use Rattle.pearl_script.specs.declared.refusal.Refusal.TheVariants.{Syntax, Source, Object, Unsound, Memory}
 use Rattle.pearl_script.specs.Refusals.{refusal_line}
 use Rattle.pearl_top.specs.declared.failure.Failure.{Failure}
 use Rattle.pearl_top.specs.declared.failure.Failure.TheVariants.{Refused, WriteFault}
@@ -28,6 +32,16 @@ parse_refusal parse.NoMemory = Memory
 abbrev pub check_refusal : CheckFault → Refusal
 check_refusal (check.Refused fault) = Source fault.place fault.rule
 check_refusal check.NoMemory = Memory
+
+-- of bytes that are no object's
+abbrev pub read_refusal : ReadFail → Refusal
+read_refusal (read.BadObject place) = Object place
+read_refusal read.NoMemory = Memory
+
+-- of an object in which a rule of the validator fails
+abbrev pub verify_refusal : VerifyFault → Refusal
+verify_refusal (verify.Unsound routine instruction rule) = Unsound routine instruction rule
+verify_refusal verify.NoMemory = Memory
 
 -- the failure is a refusal, whose line alone is due with its status
 abbrev pub IsDue : (Status → List ℕ → Type 0) → Failure → Type 0

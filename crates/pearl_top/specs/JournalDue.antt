@@ -1,5 +1,5 @@
 -- What is due at and after a journal, for whatever runs over it.
-use Rattle.std.specs.Prelude.{◌≡◌, ℕ, ◌+◌, ◌<◌, ◌≤◌, List, length, take, nat_le, Bool, true, false}
+use Rattle.std.specs.Prelude.{◌≡◌, ℕ, ◌+◌, ◌<◌, ◌≤◌, ◌⊎◌, List, length, take, nat_le, Bool, true, false}
 use Rattle.pearl_rules.specs.declared.entry.Entry.{Entry}
 use Rattle.pearl_script.specs.declared.refusal.Refusal.TheVariants as refusal
 use Rattle.pearl_top.specs.declared.limits.TheConstants.{JOURNAL_LIMIT}
@@ -7,6 +7,7 @@ use Rattle.pearl_top.specs.declared.status.Status.{Status}
 use Rattle.pearl_top.specs.declared.status.Status.TheVariants.{Done, BadJournal, ReadFault, TooLong}
 use Rattle.pearl_journal.specs.Entries.{Ending, All, Bad, entries_from}
 use Rattle.pearl_journal.specs.Lines.{journal_lines, ended_lines}
+use Rattle.pearl_top.specs.Reading.{Sort, DueAt}
 use Rattle.pearl_top.specs.Runners.{Runner}
 use Rattle.pearl_top.specs.Transcript.{Close, Closed, Cut, IsTranscript}
 
@@ -45,3 +46,10 @@ JournalDue runner journal rose TooLong bytes =
     (JOURNAL_LIMIT < length journal) × IsRun runner (handled journal) All (Cut (refusal.TooLong (JOURNAL_LIMIT + 1))) bytes
 JournalDue runner journal rose ReadFault bytes = rose × IsReadFault runner journal bytes
 JournalDue runner journal rose status bytes = ⊥
+
+-- what is due at a file, with which no command is done, or where it holds something at the journal, of what runs over that; each
+-- with the cause of a fault of reading it
+abbrev pub DueFrom : {X : Type 0} → Sort → List ℕ → (refused : List ℕ → Type 0) → (holds : X → Type 0) → (X → Runner) → (journal : List ℕ) → (rose also : Type 0) →
+    Status → List ℕ → Type 0
+DueFrom {X} sort file refused holds runner journal rose also status bytes =
+    DueAt sort file (λ bytes. ⊥) refused rose status bytes ⊎ ((x : X) × holds x × JournalDue (runner x) journal also status bytes)

@@ -1,5 +1,5 @@
--- The definitions determine the answer, and printing a printed text changes nothing.
-use Rattle.std.specs.Prelude.{◌≡◌, ℕ, ◌≤◌, List, length}
+-- The definitions determine the answer, what was compiled runs as its source does, and printing a printed text changes nothing.
+use Rattle.std.specs.Prelude.{◌≡◌, ℕ, ◌≤◌, ◌↔◌, List, length}
 use Rattle.pearl_rules.specs.declared.entry.Entry.{Entry}
 use Rattle.pearl_rules.specs.Entries.{AreFitting}
 use Rattle.pearl_program.specs.PlainPrograms.{PlainProg}
@@ -8,15 +8,17 @@ use Rattle.pearl_instructions.specs.Lawful.{IsObject}
 use Rattle.pearl_instructions.specs.Setups.{setup_of}
 use Rattle.pearl_instructions.specs.Valid.{IsValid}
 use Rattle.pearl_faithful.specs.Faithful.{IsFaithfulTo}
+use Rattle.pearl_fields.specs.Codec.{IsBytes}
 use Rattle.pearl_tree.specs.declared.token.Token.{Token}
 use Rattle.pearl_tree.specs.declared.tree.Tree.{Tree}
 use Rattle.pearl_tree.specs.Modules.{Spells}
 use Rattle.pearl_lex.specs.Lexes.{Lexes}
 use Rattle.pearl_print.specs.Reading.{FitsHours}
-use Rattle.pearl_top.specs.declared.limits.TheConstants.{SOURCE_LIMIT}
+use Rattle.pearl_top.specs.declared.limits.TheConstants.{SOURCE_LIMIT, OBJECT_LIMIT}
 use Rattle.pearl_top.specs.declared.status.Status.{Status}
 use Rattle.pearl_top.specs.declared.status.Status.TheVariants.{Done}
-use Rattle.pearl_top.specs.Commands.{Command, Print}
+use Rattle.pearl_top.specs.Commands.{Command, Run, Print, Compile, Exec}
+use Rattle.pearl_top.specs.CompileDue.{IsCompiled}
 use Rattle.pearl_top.specs.Outcome.{IsOutcome}
 use Rattle.pearl_top.specs.RunDue.{IsSource}
 use Rattle.pearl_top.specs.Complete.{IsInOrder}
@@ -47,10 +49,22 @@ abbrev pub HasOneStatus : Type 0
 HasOneStatus = (command : Command) (files : List ℕ → List ℕ) (status other : Status) (bytes others : List ℕ) →
     IsOutcome command files status bytes → IsOutcome command files other others → status ≡ other
 
--- and with it at most one list of bytes
+-- the bytes of each object that does what the source means may be written
+abbrev pub IsFree : Command → Status → Type 0
+IsFree (Compile source) Done = Unit {0}
+IsFree _ _ = ⊥
+
+-- and with it at most one list of bytes, where they are not free
 abbrev pub HasOneText : Type 0
-HasOneText = (command : Command) (files : List ℕ → List ℕ) (status : Status) (bytes others : List ℕ) →
+HasOneText = (command : Command) (files : List ℕ → List ℕ) (status : Status) (bytes others : List ℕ) → (IsFree command status → ⊥) →
     IsOutcome command files status bytes → IsOutcome command files status others → bytes ≡ others
+
+-- What `exec` writes of a file that holds what `compile` may write of a source, and how it ends, is just what `run` writes of the
+-- source, and how it ends, over the same journal; where the object isn't too long.
+abbrev pub CompiledRunsAlike : Type 0
+CompiledRunsAlike = (source object journal : List ℕ) (files : List ℕ → List ℕ) → IsOutcome (Compile source) files Done (files object) →
+    IsBytes (files object) → length (files object) ≤ OBJECT_LIMIT → (status : Status) (bytes : List ℕ) →
+    IsOutcome (Exec object journal) files status bytes ↔ IsOutcome (Run source journal) files status bytes
 
 -- there is an outcome in which the command is carried out to its end, and it is carried out to its end in each one
 pub record EndsWell (command : Command) (files : List ℕ → List ℕ) : Type 0 where
@@ -58,9 +72,14 @@ pub record EndsWell (command : Command) (files : List ℕ → List ℕ) : Type 0
   pub outcome : IsOutcome command files Done bytes
   pub only : (status : Status) (others : List ℕ) → IsOutcome command files status others → status ≡ Done
 
+-- there is something to be written: for `compile` some object that does what the source means
+abbrev pub HasSomething : Command → (List ℕ → List ℕ) → Type 0
+HasSomething (Compile source) files = (bytes : List ℕ) × IsCompiled (files source) bytes
+HasSomething _ _ = Unit {0}
+
 -- so it is where its files are in order
 abbrev pub FilesInOrderEndWell : Type 0
-FilesInOrderEndWell = (command : Command) (files : List ℕ → List ℕ) → IsInOrder command files → EndsWell command files
+FilesInOrderEndWell = (command : Command) (files : List ℕ → List ℕ) → IsInOrder command files → HasSomething command files → EndsWell command files
 
 -- no duration of the source has 2^63 hours or more, once its minutes and seconds are carried into them
 abbrev pub HoursFit : List ℕ → Type 0

@@ -18,7 +18,7 @@ pub mod Transcript
 pub mod Replay
 -- what is due at and after a journal, for whatever runs over it
 pub mod JournalDue
--- what is due where a file is not read whole and at a source, and what a file of an untold shelf may have
+-- what is due at a file that is read whole, and what a file of an untold shelf may have
 pub mod Reading
 -- the way of a source from its bytes to the module that is asked
 pub mod Sources
@@ -28,13 +28,17 @@ pub mod PrintDue
 pub mod CheckDue
 -- what is due for a source that is run over a journal
 pub mod RunDue
+-- what is due for a source that is compiled
+pub mod CompileDue
+-- what is due for an object that is executed or listed
+pub mod ObjectDue
 -- what is due for the workload of a number
 pub mod BenchDue
 -- which status and which bytes belong to some words and files
 pub mod Outcome
 -- which words and files bring a command to its end
 pub mod Complete
--- the definitions determine the answer, and printing a printed text changes nothing
+-- the definitions determine the answer, what was compiled runs as its source does, printing a printed text changes nothing
 pub mod Laws
 -- when a machine is ready to run from its start
 pub mod Ready

@@ -6,7 +6,9 @@ use Rattle.pearl_top.specs.declared.status.Status.{Status}
 use Rattle.pearl_top.specs.declared.status.Status.TheVariants.{Usage, NoMemory}
 use Rattle.pearl_top.specs.BenchDue.{BenchDue}
 use Rattle.pearl_top.specs.CheckDue.{CheckDue}
-use Rattle.pearl_top.specs.Commands.{Command, Run, Check, Print, Bench, NoCommand, names_of}
+use Rattle.pearl_top.specs.Commands.{Command, Run, Check, Print, Compile, Exec, Listed, Bench, NoCommand, names_of}
+use Rattle.pearl_top.specs.CompileDue.{CompileDue}
+use Rattle.pearl_top.specs.ObjectDue.{ExecDue, ListDue}
 use Rattle.pearl_top.specs.PrintDue.{PrintDue}
 use Rattle.pearl_top.specs.RunDue.{RunDue}
 use Rattle.pearl_top.specs.Taken.{OnlyDue}
@@ -18,6 +20,9 @@ DueFor NoCommand [] rose = OnlyDue Usage (refusal_line refusal.Usage)
 DueFor (Run source_name journal_name) (source ∷ journal ∷ []) rose = RunDue source journal (rose source_name) (rose journal_name)
 DueFor (Check source_name) (source ∷ []) rose = CheckDue source (rose source_name)
 DueFor (Print source_name) (source ∷ []) rose = PrintDue source (rose source_name)
+DueFor (Compile source_name) (source ∷ []) rose = CompileDue source (rose source_name)
+DueFor (Exec object_name journal_name) (object ∷ journal ∷ []) rose = ExecDue object journal (rose object_name) (rose journal_name)
+DueFor (Listed object_name) (object ∷ []) rose = ListDue object (rose object_name)
 DueFor (Bench n) [] rose = BenchDue n
 DueFor _ contents rose = λ status bytes. ⊥
 

@@ -9,6 +9,7 @@ use Rattle.pearl_program.specs.PlainPrograms.{PlainProg}
 use Rattle.pearl_instructions.specs.declared.object.Parts.{Parts as Object}
 use Rattle.pearl_instructions.specs.Engines.{engine, total_rows}
 use Rattle.pearl_instructions.specs.Setups.{setup_of}
+use Rattle.pearl_instructions.specs.Valid.{IsValid}
 use Rattle.pearl_faithful.specs.Faithful.{IsFaithfulTo}
 use Rattle.pearl_machine.specs.Seen.{Seen}
 use Rattle.pearl_top.specs.Replay.{started}
@@ -23,6 +24,12 @@ pub record RunsByRules (o : Object) : Type 0 where
 pub record IsReady (seen : Seen) : Type 0 where
   pub rules : RunsByRules seen.object
   pub starts : seen ≡ started seen.object
+
+-- and its object is this one, which is valid
+pub record IsReadyWith (o : Object) (seen : Seen) : Type 0 where
+  pub valid : IsValid o
+  pub is : seen.object ≡ o
+  pub ready : IsReady seen
 
 -- and its object does what the program means
 pub record IsReadyFor (p : PlainProg) (seen : Seen) : Type 0 where

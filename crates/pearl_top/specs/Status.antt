@@ -20,6 +20,8 @@ abbrev pub status_of : Refusal → declared.Status
 status_of refusal.Usage = Usage
 status_of (refusal.Syntax place) = Refused
 status_of (refusal.Source place rule) = Refused
+status_of (refusal.Object place) = BadObject
+status_of (refusal.Unsound routine instruction rule) = BadObject
 status_of (refusal.Journal line code) = BadJournal
 status_of refusal.Read = ReadFault
 status_of refusal.Memory = NoMemory

@@ -1,13 +1,15 @@
 // The workload, which is run from memory.
 
-ghost use Rattle.std.specs.Prelude.{◌≡◌, ◌≤◌, codes, IfOk, IfErr};
+ghost use Rattle.std.specs.Prelude.{◌≡◌, ◌≤◌, codes, length, IfOk, IfErr};
 ghost use Rattle.pearl_bench.specs.Texts.{journal_of};
 ghost use Rattle.pearl_io.specs.Outside.{content};
-ghost use Rattle.pearl_top.specs.BenchDue.{BenchDue, IsBench};
+ghost use Rattle.pearl_top.specs.BenchDue.{BenchDue, IsBench, IsWorked};
 ghost use Rattle.pearl_top.specs.Failures.{IsDue};
+ghost use Rattle.pearl_top.specs.RunDue.{SourceDue};
 
-use crate::compile::compile;
+use crate::compile::machine_of;
 use crate::failure::Failure;
+use crate::limits::SOURCE_LIMIT;
 use crate::replay::replay;
 use arrayvec::ArrayVec;
 use pearl_bench::{journal, source, summary};
@@ -24,12 +26,22 @@ pub fn bench_line(alloc: Global, n: u8) -> Result<ArrayVec<u8, 112>, Failure>
     ensures err { IfErr result (IsDue (BenchDue n)) }
 {
     let source = source(alloc, n)?;
-    let mut machine = compile(alloc, source.as_slice())?;
+    let sink = worked(alloc, source.as_slice())?;
+    Ok(summary(n, sink.bytes()))
+}
+
+// What a source writes over the workload's journal.
+fn worked(alloc: Global, source: &[u8]) -> Result<MemorySink, Failure>
+    requires { length source.now ≤ SOURCE_LIMIT }
+    ensures ok { IfOk result (λ sink. IsWorked source.now sink.bytes) }
+    ensures err { IfErr result (IsDue (SourceDue source.now ⊥)) }
+{
+    let mut machine = machine_of(alloc, source)?;
     let mut lines = Lines::new(alloc)?;
     let mut shelf = shelf_of(alloc)?;
     let mut sink = MemorySink::new(alloc, Vec::new(alloc), usize::MAX);
     match replay(&mut machine, &mut lines, "journal", &mut shelf, &mut sink) {
-        Ok(()) => Ok(summary(n, sink.bytes())),
+        Ok(()) => Ok(sink),
         // The sink fails where it finds no memory to grow, and nothing else here can fail.
         Err(_) => Err(Failure::Refused(Refusal::Memory)),
     }

@@ -14,6 +14,12 @@ pub enum Command<'a> {
     Check { source: &'a str },
     /// `print SOURCE`.
     Print { source: &'a str },
+    /// `compile SOURCE`.
+    Compile { source: &'a str },
+    /// `exec OBJECT JOURNAL`.
+    Exec { object: &'a str, journal: &'a str },
+    /// `list OBJECT`.
+    List { object: &'a str },
     /// `bench N`, N from 1 to 100 without leading zeros.
     Bench { n: u8 },
     /// The words are none of the listed forms.
@@ -39,6 +45,10 @@ fn of_one<'a>(word: &str, name: &'a str) -> Command<'a>
         Command::Check { source: name }
     } else if word == "print" {
         Command::Print { source: name }
+    } else if word == "compile" {
+        Command::Compile { source: name }
+    } else if word == "list" {
+        Command::List { object: name }
     } else if word == "bench" {
         bench_of(name)
     } else {
@@ -53,6 +63,11 @@ fn of_two<'a>(word: &str, name: &'a str, second: &'a str) -> Command<'a>
     if word == "run" {
         Command::Run {
             source: name,
+            journal: second,
+        }
+    } else if word == "exec" {
+        Command::Exec {
+            object: name,
             journal: second,
         }
     } else {

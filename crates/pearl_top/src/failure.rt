@@ -1,7 +1,7 @@
 // Why a command was not carried out to its end.
 
 ghost use Rattle.std.specs.Prelude.{◌≡◌};
-ghost use Rattle.pearl_top.specs.Failures.{check_refusal, lex_refusal, parse_refusal};
+ghost use Rattle.pearl_top.specs.Failures.{check_refusal, lex_refusal, parse_refusal, read_refusal, verify_refusal};
 ghost use Rattle.pearl_top.specs.declared.failure.Failure.TheVariants as failure;
 ghost use Rattle.pearl_script.specs.declared.refusal.Refusal.TheVariants as refusal;
 
@@ -9,9 +9,11 @@ use pearl_check::fault::CheckFault;
 use pearl_io::WriteFault;
 use pearl_journal::lines::BadLine;
 use pearl_lex::fault::LexFault;
+use pearl_object::fault::ReadFail;
 use pearl_parse_expr::fault::ParseFault;
 use pearl_script::refusal::Refusal;
 use pearl_tree::fault::RuleFault;
+use pearl_verify::verify::VerifyFault;
 use std::alloc::AllocError;
 
 /// Why a command was not carried out to its end.
@@ -71,6 +73,36 @@ impl From<CheckFault> for Failure {
                 rule,
             }),
             CheckFault::NoMemory => Failure::Refused(Refusal::Memory),
+        }
+    }
+}
+
+impl From<ReadFail> for Failure {
+    ghost from_gives = { λ fault e. e ≡ failure.Refused (read_refusal fault) };
+
+    fn from(fault: ReadFail) -> Failure {
+        match fault {
+            ReadFail::BadObject(place) => Failure::Refused(Refusal::Object(place)),
+            ReadFail::NoMemory => Failure::Refused(Refusal::Memory),
+        }
+    }
+}
+
+impl From<VerifyFault> for Failure {
+    ghost from_gives = { λ fault e. e ≡ failure.Refused (verify_refusal fault) };
+
+    fn from(fault: VerifyFault) -> Failure {
+        match fault {
+            VerifyFault::Unsound {
+                routine,
+                instruction,
+                rule,
+            } => Failure::Refused(Refusal::Unsound {
+                routine,
+                instruction,
+                rule,
+            }),
+            VerifyFault::NoMemory => Failure::Refused(Refusal::Memory),
         }
     }
 }

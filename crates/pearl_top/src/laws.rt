@@ -1,8 +1,8 @@
-// The program of a module is sound, the definitions determine what a call brings about, and printing a printed text
-// changes nothing.
+// The program of a module is sound, the definitions determine what a call brings about, what was compiled runs as its source
+// does, and printing a printed text changes nothing.
 
 ghost use Rattle.pearl_top.specs.Laws.{HasOneMeaning, HasOneTranscript, HasOneStatus, HasOneText};
-ghost use Rattle.pearl_top.specs.Laws.{FilesInOrderEndWell, ObjectsWriteAlike, PrintsItsText, ValidObjectsRun};
+ghost use Rattle.pearl_top.specs.Laws.{CompiledRunsAlike, FilesInOrderEndWell, ObjectsWriteAlike, PrintsItsText, ValidObjectsRun};
 ghost use Rattle.pearl_top.specs.SoundPrograms.{BodiesRenewRight, ProgramsAreSound};
 
 use pearl_instructions::runs;
@@ -46,18 +46,33 @@ pub fn valid_objects_run()
 /// A command and its files have at most one status, where nothing outside fails and memory is there.
 pub fn one_status()
     ensures { HasOneStatus }
-{}
+{
+    valid_objects_run();
+}
 
-/// And with it they have at most one list of bytes.
+/// And with it they have at most one list of bytes; but `compile` may write the bytes of any object that does what the
+/// source means.
 pub fn one_text()
     ensures { HasOneText }
-{}
+{
+    valid_objects_run();
+}
 
 /// Where the files that a command names are in order, it is carried out to its end: there is something that it writes
-/// then, and it ends in no other way, where nothing outside fails and memory is there.
+/// then, and it ends in no other way, where nothing outside fails and memory is there. That there is some object that does
+/// what an accepted source means is asked for `compile`.
 pub fn files_in_order_end_well()
     ensures { FilesInOrderEndWell }
-{}
+{
+    valid_objects_run();
+}
+
+/// What `compile` wrote, `exec` runs as `run` runs the source: with the same status and the same transcript, over any journal.
+pub fn compiled_runs_alike()
+    ensures { CompiledRunsAlike }
+{
+    valid_objects_run();
+}
 
 /// What `print` writes of a source, it writes again of a file that holds just that, where no duration of the source has 2^63
 /// hours or more and what was written is no longer than a source may be.

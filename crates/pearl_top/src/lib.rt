@@ -8,6 +8,8 @@ mod compile;
 mod failure;
 pub mod laws;
 mod limits;
+mod load;
+mod object;
 mod print;
 pub mod program;
 mod read;

@@ -5,3 +5,6 @@ pub const SOURCE_LIMIT: u64 = 1_048_576;
 
 /// The most bytes that a journal may have.
 pub const JOURNAL_LIMIT: u64 = 67_108_864;
+
+/// The most bytes that an object may have.
+pub const OBJECT_LIMIT: u64 = 16_777_216;

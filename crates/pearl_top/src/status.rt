@@ -14,7 +14,7 @@ pub enum Status {
     Usage,
     /// The source is refused.
     Refused,
-    /// The object is refused, where a command reads one.
+    /// The object is refused.
     BadObject,
     /// A line of the journal is refused.
     BadJournal,
@@ -54,6 +54,7 @@ pub fn status_of(refusal: &Refusal) -> Status
     match refusal {
         Refusal::Usage => Status::Usage,
         Refusal::Syntax(_) | Refusal::Source { .. } => Status::Refused,
+        Refusal::Object(_) | Refusal::Unsound { .. } => Status::BadObject,
         Refusal::Journal { .. } => Status::BadJournal,
         Refusal::Read => Status::ReadFault,
         Refusal::Memory => Status::NoMemory,

@@ -7,7 +7,9 @@ ghost use Rattle.pearl_script.specs.Refusals.{refusal_line};
 ghost use Rattle.pearl_top.specs.BenchDue.{BenchDue};
 ghost use Rattle.pearl_top.specs.CheckDue.{CheckDue};
 ghost use Rattle.pearl_top.specs.Commands.{NoCommand, ReadsObject, command_of, names_of};
+ghost use Rattle.pearl_top.specs.CompileDue.{CompileDue};
 ghost use Rattle.pearl_top.specs.Complete.{IsInOrder};
+ghost use Rattle.pearl_top.specs.ObjectDue.{ExecDue, ListDue};
 ghost use Rattle.pearl_top.specs.Outcome.{Due, DueFor, IsOutcome};
 ghost use Rattle.pearl_top.specs.RunDue.{RunDue};
 ghost use Rattle.pearl_top.specs.PrintDue.{PrintDue};
@@ -17,9 +19,10 @@ ghost use Rattle.pearl_top.specs.Taken.{Ends, Finishes, OnlyDue, Leaves};
 use crate::bench::bench_line;
 use crate::check::{line_of, sizes_of};
 use crate::command::{Command, command_of_words};
-use crate::compile::compile;
+use crate::compile::{compiled, machine_of};
 use crate::failure::Failure;
-use crate::limits::SOURCE_LIMIT;
+use crate::limits::{OBJECT_LIMIT, SOURCE_LIMIT};
+use crate::object::{listing_in, machine_in};
 use crate::print::canonical_text;
 use crate::read::read_whole;
 use crate::refuse::conclude;
@@ -33,8 +36,8 @@ use std::alloc::Global;
 /// Carries out the command of the words after the program's name: reads the files that it names from the shelf, and
 /// writes what is due to the sink. Tests hold that each line is one piece.
 ///
-/// Memory may run out before a text is printed, while a source is checked, before the first line of a run is written,
-/// and while the workload runs, and then the line `error memory` alone is due. What is due otherwise, and with which
+/// Memory may run out before a text is printed, while a source is checked or compiled, before the first line of a run is
+/// written, and while the workload runs, and then the line `error memory` alone is due. What is due otherwise, and with which
 /// status, is `Due`.
 pub fn pearl<S: Shelf, K: Sink>(
     alloc: Global,
@@ -106,6 +109,9 @@ fn carry_out<S: Shelf, K: Sink>(
         Command::Run { source, journal } => run(alloc, source, journal, shelf, sink),
         Command::Check { source } => check(alloc, source, shelf, sink),
         Command::Print { source } => print(alloc, source, shelf, sink),
+        Command::Compile { source } => compile(alloc, source, shelf, sink),
+        Command::Exec { object, journal } => exec(alloc, object, journal, shelf, sink),
+        Command::List { object } => list(alloc, object, shelf, sink),
         Command::Bench { n } => bench(alloc, n, sink),
         Command::None => Err(Failure::Refused(Refusal::Usage)),
     }
@@ -128,7 +134,7 @@ fn run<S: Shelf, K: Sink>(
     ensures sink_later { K.faults sink.old ≤ K.faults sink.new }
 {
     let bytes = read_whole(alloc, shelf, source, SOURCE_LIMIT)?;
-    let mut machine = compile(alloc, bytes.as_slice())?;
+    let mut machine = machine_of(alloc, bytes.as_slice())?;
     let mut lines = Lines::new(alloc)?;
     replay(&mut machine, &mut lines, journal, shelf, sink)
 }
@@ -171,6 +177,70 @@ fn print<S: Shelf, K: Sink>(
 {
     let bytes = read_whole(alloc, shelf, source, SOURCE_LIMIT)?;
     let text = canonical_text(alloc, bytes.as_slice())?;
+    put_all(sink, text.as_slice())?;
+    Ok(())
+}
+
+// Carries out `compile SOURCE`.
+fn compile<S: Shelf, K: Sink>(
+    alloc: Global,
+    source: &str,
+    shelf: &mut S,
+    sink: &mut K,
+) -> Result<(), Failure>
+    ensures ends { let rose = CountRose (S.faults shelf.old source.now) (S.faults shelf.new source.now) in
+        let failed = WriteFailed (K.faults sink.old) (K.faults sink.new) (K.full sink.new) in
+        (file : List ℕ) × MayHave (S.holds shelf.old) source.now file
+        × Leaves (K.taken sink.old) (K.taken sink.new) failed (CompileDue file rose) result }
+    ensures held { S.holds shelf.new ≡ S.holds shelf.old }
+    ensures shelf_later { (name : List ℕ) → S.faults shelf.old name ≤ S.faults shelf.new name }
+    ensures sink_later { K.faults sink.old ≤ K.faults sink.new }
+{
+    let bytes = read_whole(alloc, shelf, source, SOURCE_LIMIT)?;
+    let object = compiled(alloc, bytes.as_slice())?;
+    put_all(sink, object.as_slice())?;
+    Ok(())
+}
+
+// Carries out `exec OBJECT JOURNAL`.
+fn exec<S: Shelf, K: Sink>(
+    alloc: Global,
+    object: &str,
+    journal: &str,
+    shelf: &mut S,
+    sink: &mut K,
+) -> Result<(), Failure>
+    ensures ends { let rose = λ (name : List ℕ). CountRose (S.faults shelf.old name) (S.faults shelf.new name) in
+        let failed = WriteFailed (K.faults sink.old) (K.faults sink.new) (K.full sink.new) in
+        (first second : List ℕ) × MayHave (S.holds shelf.old) object.now first × MayHave (S.holds shelf.old) journal.now second
+        × Leaves (K.taken sink.old) (K.taken sink.new) failed (ExecDue first second (rose object.now) (rose journal.now)) result }
+    ensures held { S.holds shelf.new ≡ S.holds shelf.old }
+    ensures shelf_later { (name : List ℕ) → S.faults shelf.old name ≤ S.faults shelf.new name }
+    ensures sink_later { K.faults sink.old ≤ K.faults sink.new }
+{
+    let bytes = read_whole(alloc, shelf, object, OBJECT_LIMIT)?;
+    let mut machine = machine_in(alloc, bytes.as_slice())?;
+    let mut lines = Lines::new(alloc)?;
+    replay(&mut machine, &mut lines, journal, shelf, sink)
+}
+
+// Carries out `list OBJECT`.
+fn list<S: Shelf, K: Sink>(
+    alloc: Global,
+    object: &str,
+    shelf: &mut S,
+    sink: &mut K,
+) -> Result<(), Failure>
+    ensures ends { let rose = CountRose (S.faults shelf.old object.now) (S.faults shelf.new object.now) in
+        let failed = WriteFailed (K.faults sink.old) (K.faults sink.new) (K.full sink.new) in
+        (file : List ℕ) × MayHave (S.holds shelf.old) object.now file
+        × Leaves (K.taken sink.old) (K.taken sink.new) failed (ListDue file rose) result }
+    ensures held { S.holds shelf.new ≡ S.holds shelf.old }
+    ensures shelf_later { (name : List ℕ) → S.faults shelf.old name ≤ S.faults shelf.new name }
+    ensures sink_later { K.faults sink.old ≤ K.faults sink.new }
+{
+    let bytes = read_whole(alloc, shelf, object, OBJECT_LIMIT)?;
+    let text = listing_in(alloc, bytes.as_slice())?;
     put_all(sink, text.as_slice())?;
     Ok(())
 }

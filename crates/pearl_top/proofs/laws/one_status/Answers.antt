@@ -2,4 +2,4 @@ use Rattle.pearl_top.proofs.OneOutcome.{one_status}
 use Rattle.pearl_top.proofs.laws.one_status.Goals as goal
 
 pub returns : goal.returns
-returns c = one_status
+returns c = one_status c.valid_objects_run.ensures

@@ -3,7 +3,7 @@ use Rattle.std.specs.Prelude.{Err}
 use Rattle.pearl_io.specs.Outside.{CountRose, WriteFailed}
 use Rattle.pearl_script.specs.declared.refusal.Refusal.TheVariants as refusal
 use Rattle.pearl_top.specs.declared.failure.Failure.TheVariants as failure
-use Rattle.pearl_top.specs.Commands.{Run, Check, Print, Bench, NoCommand}
+use Rattle.pearl_top.specs.Commands.{Run, Check, Print, Compile, Exec, Listed, Bench, NoCommand}
 use Rattle.pearl_top.specs.Taken.{Leaves}
 use Rattle.pearl_top.proofs.TakenLaws.{takes_none}
 use Rattle.pearl_top.proofs.WordLaws.{due_as}
@@ -32,6 +32,30 @@ returns-in-Print-clause-ends g c =
     let ends = c.print.ensures.ends in
     due_as _ (Print c.in-Print.source.now) (g.S.Shelf.holds c.args.shelf.now) (ends.0 ∷ []) rose
     (λ due. Leaves (g.K.Sink.taken c.args.sink.now) (g.K.Sink.taken c.print.new.sink) failed due c.print.result) c.in-Print.ensures (ends.1, tt) ends.2
+
+pub returns-in-Compile-clause-ends : goal.returns-in-Compile-clause-ends
+returns-in-Compile-clause-ends g c =
+    let rose : List ℕ → Type 0 = λ name. CountRose (g.S.Shelf.faults c.args.shelf.now name) (g.S.Shelf.faults c.compile.new.shelf name) in
+    let failed : Type 0 = WriteFailed (g.K.Sink.faults c.args.sink.now) (g.K.Sink.faults c.compile.new.sink) (g.K.Sink.full c.compile.new.sink) in
+    let ends = c.compile.ensures.ends in
+    due_as _ (Compile c.in-Compile.source.now) (g.S.Shelf.holds c.args.shelf.now) (ends.0 ∷ []) rose
+    (λ due. Leaves (g.K.Sink.taken c.args.sink.now) (g.K.Sink.taken c.compile.new.sink) failed due c.compile.result) c.in-Compile.ensures (ends.1, tt) ends.2
+
+pub returns-in-Exec-clause-ends : goal.returns-in-Exec-clause-ends
+returns-in-Exec-clause-ends g c =
+    let rose : List ℕ → Type 0 = λ name. CountRose (g.S.Shelf.faults c.args.shelf.now name) (g.S.Shelf.faults c.exec.new.shelf name) in
+    let failed : Type 0 = WriteFailed (g.K.Sink.faults c.args.sink.now) (g.K.Sink.faults c.exec.new.sink) (g.K.Sink.full c.exec.new.sink) in
+    let ends = c.exec.ensures.ends in
+    due_as _ (Exec c.in-Exec.object.now c.in-Exec.journal.now) (g.S.Shelf.holds c.args.shelf.now) (ends.0 ∷ ends.1 ∷ []) rose
+    (λ due. Leaves (g.K.Sink.taken c.args.sink.now) (g.K.Sink.taken c.exec.new.sink) failed due c.exec.result) c.in-Exec.ensures (ends.2, (ends.3, tt)) ends.4
+
+pub returns-in-List-clause-ends : goal.returns-in-List-clause-ends
+returns-in-List-clause-ends g c =
+    let rose : List ℕ → Type 0 = λ name. CountRose (g.S.Shelf.faults c.args.shelf.now name) (g.S.Shelf.faults c.list.new.shelf name) in
+    let failed : Type 0 = WriteFailed (g.K.Sink.faults c.args.sink.now) (g.K.Sink.faults c.list.new.sink) (g.K.Sink.full c.list.new.sink) in
+    let ends = c.list.ensures.ends in
+    due_as _ (Listed c.in-List.object.now) (g.S.Shelf.holds c.args.shelf.now) (ends.0 ∷ []) rose
+    (λ due. Leaves (g.K.Sink.taken c.args.sink.now) (g.K.Sink.taken c.list.new.sink) failed due c.list.result) c.in-List.ensures (ends.1, tt) ends.2
 
 pub returns-in-Bench-clause-ends : goal.returns-in-Bench-clause-ends
 returns-in-Bench-clause-ends g c =

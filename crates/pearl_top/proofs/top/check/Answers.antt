@@ -2,7 +2,8 @@ use Rattle.std.proofs.Common.{subst, sym, ◌∙◌}
 use Rattle.std.proofs.lemmas.Result.{err_from_is_err_and}
 use Rattle.pearl_io.specs.Outside.{CountRose, WriteFailed}
 use Rattle.pearl_top.specs.CheckDue.{IsAccepted, IsUnaccepted, accepted_line}
-use Rattle.pearl_top.proofs.SourceEnds.{cut_at_source, refused_whole}
+use Rattle.pearl_top.specs.Reading.{ASource}
+use Rattle.pearl_top.proofs.SourceEnds.{cut_whole, refused_whole}
 use Rattle.pearl_top.proofs.top.check.Goals as goal
 
 pub returns-in_err-sizes-clause-ends : goal.returns-in_err-sizes-clause-ends
@@ -13,7 +14,7 @@ returns-in_err-sizes-clause-ends g c =
     let e = err_from_is_err_and c.from_residual-in_err-sizes.result c.from_residual-in_err-sizes.ensures.1 in (
       read.0,
       read.1,
-      rw (e.1, e.2) (refused_whole c.as_slice.result.now read.0 IsAccepted IsUnaccepted rose failed (g.K.Sink.taken c.args.sink.now)
+      rw (e.1, e.2) (refused_whole ASource c.as_slice.result.now read.0 IsAccepted IsUnaccepted rose failed (g.K.Sink.taken c.args.sink.now)
           c.in_err-sizes.field-0.0 (c.as_slice.ensures.value ∙ read.2.0) c.in_err-sizes.ensures.err),
     )
 
@@ -25,7 +26,7 @@ returns-in_err-put_all-clause-ends g c =
     let e = err_from_is_err_and c.from_residual-in_err-put_all.result c.from_residual-in_err-put_all.ensures.1 in (
       read.0,
       read.1,
-      rw (e.1, e.2) (cut_at_source read.0 c.as_slice-2.result.now (IsAccepted read.0) (IsUnaccepted read.0) rose failed
+      rw (e.1, e.2) (cut_whole ASource read.0 c.as_slice-2.result.now (IsAccepted read.0) (IsUnaccepted read.0) rose failed
           (g.K.Sink.taken c.args.sink.now) (g.K.Sink.taken c.put_all.new.sink) c.in_err-put_all.ensures.cause
           (subst (IsAccepted read.0) (sym (c.as_slice-2.ensures.value ∙ c.line_of.ensures))
           (subst (λ file. IsAccepted file (accepted_line c.in_ok-sizes.sizes)) (c.as_slice.ensures.value ∙ read.2.0) c.in_ok-sizes.ensures.ok))

@@ -3,7 +3,8 @@ use Rattle.std.proofs.lemmas.Result.{err_from_is_err_and}
 use Rattle.pearl_io.specs.Outside.{CountRose, WriteFailed}
 use Rattle.pearl_top.specs.PrintDue.{IsPrinted}
 use Rattle.pearl_top.specs.Sources.{IsUnspelled}
-use Rattle.pearl_top.proofs.SourceEnds.{cut_at_source, refused_whole}
+use Rattle.pearl_top.specs.Reading.{ASource}
+use Rattle.pearl_top.proofs.SourceEnds.{cut_whole, refused_whole}
 use Rattle.pearl_top.proofs.top.print.Goals as goal
 
 pub returns-in_err-text-clause-ends : goal.returns-in_err-text-clause-ends
@@ -14,7 +15,7 @@ returns-in_err-text-clause-ends g c =
     let e = err_from_is_err_and c.from_residual-in_err-text.result c.from_residual-in_err-text.ensures.1 in (
       read.0,
       read.1,
-      rw (e.1, e.2) (refused_whole c.as_slice.result.now read.0 IsPrinted IsUnspelled rose failed (g.K.Sink.taken c.args.sink.now)
+      rw (e.1, e.2) (refused_whole ASource c.as_slice.result.now read.0 IsPrinted IsUnspelled rose failed (g.K.Sink.taken c.args.sink.now)
           c.in_err-text.field-0.0 (c.as_slice.ensures.value ∙ read.2.0) c.in_err-text.ensures.err),
     )
 
@@ -26,7 +27,7 @@ returns-in_err-put_all-clause-ends g c =
     let e = err_from_is_err_and c.from_residual-in_err-put_all.result c.from_residual-in_err-put_all.ensures.1 in (
       read.0,
       read.1,
-      rw (e.1, e.2) (cut_at_source read.0 c.as_slice-2.result.now (IsPrinted read.0) (IsUnspelled read.0) rose failed
+      rw (e.1, e.2) (cut_whole ASource read.0 c.as_slice-2.result.now (IsPrinted read.0) (IsUnspelled read.0) rose failed
           (g.K.Sink.taken c.args.sink.now) (g.K.Sink.taken c.put_all.new.sink) c.in_err-put_all.ensures.cause
           (subst (IsPrinted read.0) (sym c.as_slice-2.ensures.value)
           (subst (λ file. IsPrinted file c.in_ok-text.text.items) (c.as_slice.ensures.value ∙ read.2.0) c.in_ok-text.ensures.ok))

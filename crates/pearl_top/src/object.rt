@@ -1,0 +1,50 @@
+// From the bytes of an object's file to the object, to a machine with its code, and to its listing.
+
+ghost use Rattle.std.specs.Prelude.{◌≤◌, length, IfOk, IfErr};
+ghost use Rattle.pearl_top.specs.Failures.{IsDue};
+ghost use Rattle.pearl_top.specs.ObjectDue.{IsCodeOf, IsFileOf, IsListed, IsNoObject, ListDue, ObjectDue};
+ghost use Rattle.pearl_top.specs.Reading.{AnObject, DueAt};
+ghost use Rattle.pearl_top.specs.Ready.{IsReady};
+
+use crate::failure::Failure;
+use crate::limits::OBJECT_LIMIT;
+use crate::load::load;
+use pearl_instructions::object::Object;
+use pearl_machine::Machine;
+use pearl_object::listing::list;
+use pearl_object::object::read;
+use std::alloc::Global;
+
+/// A machine with the code of the object that a file has, which is validated.
+pub fn machine_in(alloc: Global, file: &[u8]) -> Result<Machine, Failure>
+    requires { length file.now ≤ OBJECT_LIMIT }
+    ensures code { IfOk result (λ machine. IsCodeOf file.now machine.object) }
+    ensures ready { IfOk result IsReady }
+    ensures err { IfErr result (IsDue (ObjectDue file.now ⊥)) }
+{
+    let object = object_in(alloc, file)?;
+    let machine = load(alloc, object)?;
+    Ok(machine)
+}
+
+/// The listing of the object that a file has, which is not validated.
+pub fn listing_in(alloc: Global, file: &[u8]) -> Result<Vec<u8>, Failure>
+    requires { length file.now ≤ OBJECT_LIMIT }
+    ensures ok { IfOk result (λ text. IsListed file.now text.items) }
+    ensures err { IfErr result (IsDue (ListDue file.now ⊥)) }
+{
+    let object = object_in(alloc, file)?;
+    let text = list(alloc, &object)?;
+    Ok(text)
+}
+
+// The object that a file has.
+fn object_in(alloc: Global, file: &[u8]) -> Result<Object, Failure>
+    requires { length file.now ≤ OBJECT_LIMIT }
+    ensures ok { IfOk result (IsFileOf file.now) }
+    ensures err { IfErr result (IsDue (DueAt AnObject file.now (λ bytes. ⊥) (IsNoObject file.now) ⊥)) }
+{
+    let object = read(alloc, file)?;
+    let _parts = object.parts();
+    Ok(object)
+}
