@@ -62,6 +62,11 @@ def planned(count, first, period):
     return f"{HEAD}DCL x FIXED;\nbegins: TASK PRIO 1 MAIN;\n{starts}END;\n{tasks(count, 'x := 1;', ' PRIO 5')}{TAIL}"
 
 
+def often(number):
+    """Seconds: a millisecond for the first plan, an hour for each other."""
+    return 3600 if number else "0.001"
+
+
 def series(count):
     """Two plans for each of so many tasks, none of which fires in the first hours: starts, and goings on."""
     starts = "".join(f"AFTER {n + 1} HRS ALL 1 HRS ACTIVATE t{n};\n" for n in range(count))
@@ -83,6 +88,8 @@ WORK = [
       for count in (2, 20, 200)],
     ("a millisecond, 400 series, none due", series(198), "pass 1000000 1\n", 1_000_000, "millisecond"),
     ("a day, a start each minute", planned(1, lambda _: 60, lambda _: 60), "pass 86400000 1000\n", 1439, "start"),
+    ("100,000 milliseconds, one of 198 plans fires in each", planned(198, often, often),
+     "pass 100000 2\n", 100_000, "millisecond"),
     ("a day, 198 plans of a second each, all at once", planned(198, lambda _: 1, lambda _: 1), "pass 86400000 1000\n",
      86_399 * 198, "start"),
     ("1,000 lines, 198 tasks wait in a GET of F(4)", gets(198, "F(4)"), "line 1 '1'\n" * 1000, 1000, "line"),
