@@ -24,8 +24,6 @@ mod ends;
 #[cfg(test)]
 mod instruction_text;
 #[cfg(test)]
-mod kept;
-#[cfg(test)]
 mod mark;
 #[cfg(test)]
 mod nesting;
