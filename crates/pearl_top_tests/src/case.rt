@@ -15,6 +15,15 @@ pub const PRINT: &[&str] = &["print", "s"];
 /// The words of a run of s over j.
 pub const RUN: &[&str] = &["run", "s", "j"];
 
+/// The words of a compilation of s.
+pub const COMPILE: &[&str] = &["compile", "s"];
+
+/// The words of an execution of s over j.
+pub const EXEC: &[&str] = &["exec", "s", "j"];
+
+/// The words of a listing of s.
+pub const LIST: &[&str] = &["list", "s"];
+
 /// As many bytes as most cases may write.
 pub const ROOM: usize = 65_536;
 
@@ -100,13 +109,42 @@ fn two_files(alloc: Global, source: &[u8], journal: &[u8]) -> Result<Vec<File>, 
     Ok(files)
 }
 
+/// How a command ended, and what it wrote.
+#[derive(Drop)]
+pub struct Ended {
+    pub status: Status,
+    pub bytes: Vec<u8>,
+}
+
+impl Ended {
+    /// Whether it ended so.
+    pub fn is(&self, status: Status, text: &[u8]) -> bool {
+        self.status == status && self.bytes.as_slice() == text
+    }
+}
+
+/// How the command of these words over s and j ends, where nothing outside fails and so many bytes are taken.
+pub fn end_of(
+    alloc: Global,
+    words: &[&str],
+    source: &[u8],
+    journal: &str,
+    room: usize,
+) -> Result<Ended, AllocError> {
+    let words = owned(alloc, words)?;
+    let mut shelf = SureShelf::new(two_files(alloc, source, journal.as_bytes())?);
+    let mut sink = SureSink::new(alloc, room)?;
+    let status = pearl(alloc, words.as_slice(), &mut shelf, &mut sink);
+    Ok(Ended {
+        status,
+        bytes: Vec::from_slice(alloc, sink.bytes())?,
+    })
+}
+
 // Whether the case's command over this source writes this.
 fn writes(alloc: Global, case: &Case, source: &[u8], text: &[u8]) -> Result<bool, AllocError> {
-    let words = owned(alloc, case.words)?;
-    let mut shelf = SureShelf::new(two_files(alloc, source, case.journal.as_bytes())?);
-    let mut sink = SureSink::new(alloc, case.room)?;
-    let status = pearl(alloc, words.as_slice(), &mut shelf, &mut sink);
-    Ok(status == case.status && sink.bytes() == text)
+    let ended = end_of(alloc, case.words, source, case.journal, case.room)?;
+    Ok(ended.is(case.status, text))
 }
 
 /// Whether the case ends so.
@@ -128,6 +166,46 @@ pub fn fails_so(alloc: Global, fault: &Fault) -> Result<bool, AllocError> {
     let mut sink = MemorySink::new(alloc, Vec::from_slice(alloc, fault.puts)?, most);
     let status = pearl(alloc, words.as_slice(), &mut shelf, &mut sink);
     Ok(status == fault.status && sink.bytes() == fault.text.as_bytes())
+}
+
+/// How the command of these words over the bytes of s and j ends, where these calls fail, of the shelf and of the sink.
+pub fn failed(
+    alloc: Global,
+    words: &[&str],
+    source: &[u8],
+    journal: &str,
+    fetches: &[u64],
+    puts: &[u64],
+) -> Result<Ended, AllocError> {
+    let words = owned(alloc, words)?;
+    let files = two_files(alloc, source, journal.as_bytes())?;
+    let mut shelf = MemoryShelf::new(files, Vec::from_slice(alloc, fetches)?, usize::MAX);
+    let mut sink = MemorySink::new(alloc, Vec::from_slice(alloc, puts)?, usize::MAX);
+    let status = pearl(alloc, words.as_slice(), &mut shelf, &mut sink);
+    Ok(Ended {
+        status,
+        bytes: Vec::from_slice(alloc, sink.bytes())?,
+    })
+}
+
+// Whether the row's source is compiled, and the object then ends so that is executed over its journal.
+fn row_executes_so(alloc: Global, table: &Table, row: Row) -> Result<bool, AllocError> {
+    let (part, journal, told) = row;
+    let source = format!(in alloc; "{}{part}{}", table.around.0, table.around.1)?;
+    let text = format!(in alloc; "{}{told}{}", table.about.0, table.about.1)?;
+    let made = end_of(alloc, COMPILE, source.as_bytes(), "", ROOM)?;
+    let run = end_of(alloc, EXEC, made.bytes.as_slice(), journal, ROOM)?;
+    Ok(made.status == Status::Done && run.is(table.status, text.as_bytes()))
+}
+
+/// The number of the first row whose object is executed otherwise.
+pub fn first_executed_otherwise(alloc: Global, table: &Table) -> Result<Option<usize>, AllocError> {
+    for (number, row) in table.rows.iter().enumerate() {
+        if !row_executes_so(alloc, table, *row)? {
+            return Ok(Some(number));
+        }
+    }
+    Ok(None)
 }
 
 fn row_ends_so(alloc: Global, table: &Table, row: Row) -> Result<bool, AllocError> {

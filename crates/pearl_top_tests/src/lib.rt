@@ -24,6 +24,8 @@ mod ends;
 #[cfg(test)]
 mod instruction_text;
 #[cfg(test)]
+mod kept;
+#[cfg(test)]
 mod mark;
 #[cfg(test)]
 mod nesting;
