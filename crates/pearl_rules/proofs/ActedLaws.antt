@@ -19,7 +19,7 @@ use Rattle.pearl_rules.specs.Effect.{effect}
 use Rattle.pearl_rules.specs.Pick.{Offered, is_possible, is_ready_row, is_as_urgent, is_eligible, pick, can_turn, last_if, turned}
 use Rattle.pearl_rules.specs.Slots.{HasLast}
 use Rattle.pearl_rules.proofs.Serving.{Closed, ClosedAtEnds, KeepsValues, either, effect-kept, millisecond-kept, interrupted-kept}
-use Rattle.pearl_rules.proofs.EffectLaws.{AnyPriority, AnyPlan, any_continuation, any_activation, any_brings, effect-length, millisecond-length, arrived-length}
+use Rattle.pearl_rules.proofs.EffectLaws.{AnyPriority, AnyPlan, any_continuation, any_activation, any_kept, any_brings, effect-length, millisecond-length, arrived-length}
 
 -- this one acted last, or nobody
 module _ (acted : Option ℕ) where
@@ -29,11 +29,12 @@ module _ (acted : Option ℕ) where
   last_closed : Closed AnyPriority AnyPlan IsLast
   last_closed = record {
     told = λ core e is. is;
-    stands = λ core t row mode at stays is. is;
+    stands = λ core t row mode kept at stays keeps is. is;
     goes_on = λ core t row plan at lawful is. is;
     starts = λ core t row plan at lawful is. is;
     going = λ core t row at is. any_continuation row.continuation;
     starting = λ core t row at is. any_activation row.activation;
+    keeping = λ core t row at is. any_kept row.kept;
     begins = λ core plan lawful. tt;
   }
 

@@ -16,6 +16,7 @@ use Rattle.pearl_value.specs.Counts.{IsPreset}
 use Rattle.pearl_rules.specs.declared.entry.Entry.{Entry}
 use Rattle.pearl_rules.specs.declared.entry.Entry.TheVariants as entry
 use Rattle.pearl_rules.specs.declared.row.Mode.TheVariants.{Dormant}
+use Rattle.pearl_rules.specs.declared.row.Kept.TheVariants as kept
 use Rattle.pearl_value.specs.declared.cell.Cell.{Cell}
 use Rattle.pearl_value.specs.declared.kind.Kind.{Kind}
 use Rattle.pearl_value.specs.declared.trap.Trap.{Trap}
@@ -30,7 +31,7 @@ use Rattle.pearl_rules.specs.Slots.{AreNamed, Fits, HasCounts}
 use Rattle.pearl_rules.specs.Laws.{ChangesCounts}
 use Rattle.pearl_rules.proofs.Places.{here, there, where_is, no_member, only_member, each_at, all_set, first_once, set-same, set-other, there_at}
 use Rattle.pearl_rules.proofs.PickLaws.{turned-is}
-use Rattle.pearl_rules.proofs.EffectLaws.{AnyPriority, AnyPlan, any_continuation, any_activation, any_brings, later}
+use Rattle.pearl_rules.proofs.EffectLaws.{AnyPriority, AnyPlan, any_continuation, any_activation, any_kept, any_brings, later}
 use Rattle.pearl_rules.proofs.Serving.{Closed, ClosedAtEnds, KeepsValues, lowered-length, raised-length, either, effect-kept, millisecond-kept, interrupted-kept}
 
 -- ONE COUNT
@@ -253,18 +254,22 @@ module _ (setup : Setup) where
   counts_closed : Closed AnyPriority AnyPlan (HasCounts setup)
   counts_closed = record {
     told = λ core e has. counts_moved core (note core e) refl has;
-    stands = λ core t row mode at stays has. counts_moved core (with_row core t (record row { mode = mode })) refl has;
+    stands = λ core t row mode kept at stays keeps has.
+        counts_moved core (with_row core t (record row { mode = mode; kept = kept })) refl has;
     goes_on = λ core t row plan at lawful has. counts_moved core (with_row core t (record row { continuation = plan })) refl has;
     starts = λ core t row plan at lawful has. counts_moved core (with_row core t (record row { activation = Some plan })) refl has;
     going = λ core t row at has. any_continuation row.continuation;
     starting = λ core t row at has. any_activation row.activation;
+    keeping = λ core t row at has. any_kept row.kept;
     begins = λ core plan lawful. tt;
   }
 
   counts_at_ends : ClosedAtEnds (HasCounts setup)
   counts_at_ends = record {
-    ends = λ core t row at has. counts_moved core (with_row core t (record row { mode = Dormant; continuation = None })) refl has;
-    prevents = λ core t row at has. counts_moved core (with_row core t (record row { continuation = None; activation = None })) refl has;
+    ends = λ core t row at has.
+        counts_moved core (with_row core t (record row { mode = Dormant; kept = kept.Nothing; continuation = None })) refl has;
+    prevents = λ core t row at has.
+        counts_moved core (with_row core t (record row { kept = kept.Nothing; continuation = None; activation = None })) refl has;
   }
 
   -- the oldest value of an input

@@ -18,6 +18,8 @@ use Rattle.pearl_value.specs.Conversions.{converted}
 use Rattle.pearl_rules.specs.declared.action.Action.{Action}
 use Rattle.pearl_rules.specs.declared.action.Action.TheVariants as action
 use Rattle.pearl_rules.specs.declared.row.Mode.TheVariants.{Dormant}
+use Rattle.pearl_rules.specs.declared.row.Kept.{Kept}
+use Rattle.pearl_rules.specs.declared.row.Kept.TheVariants as kept
 use Rattle.pearl_rules.specs.declared.row.Plan.{Plan}
 use Rattle.pearl_rules.specs.declared.row.Activation.{Activation}
 use Rattle.pearl_rules.specs.declared.row.TaskRow.{TaskRow}
@@ -35,7 +37,7 @@ use Rattle.pearl_value.specs.Devices.{IsDevice}
 use Rattle.pearl_rules.specs.Tables.{items_or_none, IsInterrupt, IsReadable, input_kind}
 use Rattle.pearl_rules.specs.Core.{Core, Channel, Switch, Bytes, Values, Outward, Report, Happened, value_at, note, row_of, with_row, declared_of, first_channel, opening}
 use Rattle.pearl_rules.specs.Counts.{count_at, all_below_most}
-use Rattle.pearl_rules.specs.Plans.{time_at, day, millisecond}
+use Rattle.pearl_rules.specs.Plans.{priorities, time_at, day, millisecond}
 use Rattle.pearl_rules.specs.Devices.{channel_of, with_channel, items_of, bytes_at, bytes_in, terminal_room, with_bytes, without_bytes, values_at, values_in, input_room, joined, with_value_by, with_value, without_value_by, without_value, arrived}
 use Rattle.pearl_rules.specs.Scan.{Scanned, Short, Bad, Got, scan}
 use Rattle.pearl_rules.specs.Effect.{Reply, Hears, Ends, reply_if_other, releasing, trying, getting, taking, effect}
@@ -60,6 +62,12 @@ any_continuation (Some plan) = tt
 pub any_activation : (plan : Option Activation) → IfSome plan (Starts AnyPriority AnyPlan)
 any_activation None = tt
 any_activation (Some plan) = (tt, tt)
+
+pub any_kept : (kept : Kept) → AllByRecursion AnyPriority (priorities kept)
+any_kept kept.Nothing = tt
+any_kept (kept.One a) = (tt, tt)
+any_kept (kept.Two a b) = (tt, (tt, tt))
+any_kept (kept.Three a b c) = (tt, (tt, (tt, tt)))
 
 -- an action brings some plan
 pub any_brings : (core : Core) (asked : Action) → Brings AnyPriority AnyPlan core asked
@@ -150,18 +158,20 @@ module _ (old : Core) where
   leaves_closed : Closed AnyPriority AnyPlan (Leaves old)
   leaves_closed = record {
     told = leaves_told;
-    stands = λ core t row mode at stays k. leaves_row core t row (record row { mode = mode }) at refl k;
+    stands = λ core t row mode kept at stays keeps k. leaves_row core t row (record row { mode = mode; kept = kept }) at refl k;
     goes_on = λ core t row plan at lawful k. leaves_row core t row (record row { continuation = plan }) at refl k;
     starts = λ core t row plan at lawful k. leaves_row core t row (record row { activation = Some plan }) at refl k;
     going = λ core t row at k. any_continuation row.continuation;
     starting = λ core t row at k. any_activation row.activation;
+    keeping = λ core t row at k. any_kept row.kept;
     begins = λ core plan lawful. tt;
   }
 
   leaves_at_ends : ClosedAtEnds (Leaves old)
   leaves_at_ends = record {
-    ends = λ core t row at k. leaves_row core t row (record row { mode = Dormant; continuation = None }) at refl k;
-    prevents = λ core t row at k. leaves_row core t row (record row { continuation = None; activation = None }) at refl k;
+    ends = λ core t row at k. leaves_row core t row (record row { mode = Dormant; kept = kept.Nothing; continuation = None }) at refl k;
+    prevents = λ core t row at k.
+        leaves_row core t row (record row { kept = kept.Nothing; continuation = None; activation = None }) at refl k;
   }
 
 -- no action changes the moment, the number of tasks or their declared priorities, and what it tells comes after what was told
@@ -317,18 +327,22 @@ module _ (setup : Setup) where
   kinds_closed : Closed AnyPriority AnyPlan (HasKinds setup)
   kinds_closed = record {
     told = λ core e kinds. kinds_moved core (note core e) refl refl refl kinds;
-    stands = λ core t row mode at stays kinds. kinds_moved core (with_row core t (record row { mode = mode })) refl refl refl kinds;
+    stands = λ core t row mode kept at stays keeps kinds.
+        kinds_moved core (with_row core t (record row { mode = mode; kept = kept })) refl refl refl kinds;
     goes_on = λ core t row plan at lawful kinds. kinds_moved core (with_row core t (record row { continuation = plan })) refl refl refl kinds;
     starts = λ core t row plan at lawful kinds. kinds_moved core (with_row core t (record row { activation = Some plan })) refl refl refl kinds;
     going = λ core t row at kinds. any_continuation row.continuation;
     starting = λ core t row at kinds. any_activation row.activation;
+    keeping = λ core t row at kinds. any_kept row.kept;
     begins = λ core plan lawful. tt;
   }
 
   kinds_at_ends : ClosedAtEnds (HasKinds setup)
   kinds_at_ends = record {
-    ends = λ core t row at kinds. kinds_moved core (with_row core t (record row { mode = Dormant; continuation = None })) refl refl refl kinds;
-    prevents = λ core t row at kinds. kinds_moved core (with_row core t (record row { continuation = None; activation = None })) refl refl refl kinds;
+    ends = λ core t row at kinds.
+        kinds_moved core (with_row core t (record row { mode = Dormant; kept = kept.Nothing; continuation = None })) refl refl refl kinds;
+    prevents = λ core t row at kinds.
+        kinds_moved core (with_row core t (record row { kept = kept.Nothing; continuation = None; activation = None })) refl refl refl kinds;
   }
 
   -- the device and its channel

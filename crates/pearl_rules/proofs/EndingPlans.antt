@@ -9,6 +9,7 @@ use Rattle.pearl_rules.specs.declared.action.Repeat.TheVariants as repeat
 use Rattle.pearl_rules.specs.declared.entry.Entry.{Entry}
 use Rattle.pearl_rules.specs.declared.row.End.TheVariants as end
 use Rattle.pearl_rules.specs.declared.row.Mode.TheVariants.{Dormant}
+use Rattle.pearl_rules.specs.declared.row.Kept.TheVariants as kept
 use Rattle.pearl_rules.specs.declared.row.Activation.{Activation}
 use Rattle.pearl_rules.specs.declared.row.TaskRow.{TaskRow}
 use Rattle.pearl_rules.specs.declared.setup.Setup.{Setup}
@@ -21,7 +22,7 @@ use Rattle.pearl_rules.specs.Pick.{Offered, turned}
 use Rattle.pearl_rules.specs.Slots.{Lasts, Fits, IsRepeat, EndsPeriods, EndsPeriodsOf, HasEnds}
 use Rattle.pearl_rules.proofs.Places.{each_at, all_set}
 use Rattle.pearl_rules.proofs.Serving.{Starts, Closed, ClosedAtEnds, OnlyValues, Brings, millisecond-kept, arrived-kept, effect-free}
-use Rattle.pearl_rules.proofs.EffectLaws.{AnyPriority}
+use Rattle.pearl_rules.proofs.EffectLaws.{AnyPriority, any_kept}
 use Rattle.pearl_rules.proofs.PickLaws.{turned-is}
 
 -- a period is at least one
@@ -47,23 +48,25 @@ ends_starts (Some plan) is = (tt, is)
 ends_closed : Closed AnyPriority EndsPeriods HasEnds
 ends_closed = record {
   told = λ core e has. has;
-  stands = λ core t row mode at stays has.
-      all_set EndsPeriodsOf core.tasks has t (record row { mode = mode }) (row_at core t row at has);
+  stands = λ core t row mode kept at stays keeps has.
+      all_set EndsPeriodsOf core.tasks has t (record row { mode = mode; kept = kept }) (row_at core t row at has);
   goes_on = λ core t row plan at lawful has.
       all_set EndsPeriodsOf core.tasks has t (record row { continuation = plan }) (lawful, (row_at core t row at has).1);
   starts = λ core t row plan at lawful has.
       all_set EndsPeriodsOf core.tasks has t (record row { activation = Some plan }) ((row_at core t row at has).0, lawful.1);
   going = λ core t row at has. (row_at core t row at has).0;
   starting = λ core t row at has. ends_starts row.activation (row_at core t row at has).1;
+  keeping = λ core t row at has. any_kept row.kept;
   begins = λ core plan lawful. lawful;
 }
 
 ends_at_ends : ClosedAtEnds HasEnds
 ends_at_ends = record {
   ends = λ core t row at has.
-      all_set EndsPeriodsOf core.tasks has t (record row { mode = Dormant; continuation = None }) (tt, (row_at core t row at has).1);
+      all_set EndsPeriodsOf core.tasks has t (record row { mode = Dormant; kept = kept.Nothing; continuation = None })
+      (tt, (row_at core t row at has).1);
   prevents = λ core t row at has.
-      all_set EndsPeriodsOf core.tasks has t (record row { continuation = None; activation = None }) (tt, tt);
+      all_set EndsPeriodsOf core.tasks has t (record row { kept = kept.Nothing; continuation = None; activation = None }) (tt, tt);
 }
 
 ends_moved : (core other : Core) → other.tasks ≡ core.tasks → HasEnds core → HasEnds other

@@ -11,19 +11,22 @@ use Rattle.pearl_rules.specs.declared.action.Answer.TheVariants.{Nothing, One, M
 use Rattle.pearl_rules.specs.declared.entry.Entry.{Entry}
 use Rattle.pearl_rules.specs.declared.event.Event.{Event}
 use Rattle.pearl_rules.specs.declared.event.Event.TheVariants as event
+use Rattle.pearl_rules.specs.declared.row.Kept.{Kept}
+use Rattle.pearl_rules.specs.declared.row.Kept.TheVariants as kept
 use Rattle.pearl_rules.specs.declared.row.Mode.{Mode}
 use Rattle.pearl_rules.specs.declared.row.Mode.TheVariants.{Dormant, Active}
 use Rattle.pearl_rules.specs.declared.row.TaskRow.{TaskRow}
 use Rattle.pearl_rules.specs.Core.{Core, Channel, Switch, Bytes, Values, Outward, row_of, with_row, is_active_mode, is_active_row, is_active, mode_of_row, mode_of}
 use Rattle.pearl_rules.specs.Counts.{count_at, all_below_most}
-use Rattle.pearl_rules.specs.Plans.{on_row, changed_row, with_mode, millisecond}
+use Rattle.pearl_rules.specs.Plans.{on_row, priorities, oldest, kept_of, millisecond}
 use Rattle.pearl_rules.specs.Devices.{channel_of, items_of, bytes_at, without_bytes, values_at, without_value_by, without_value, arrived}
 use Rattle.pearl_rules.specs.Scan.{Scanned, Short, Bad, Got, scan}
-use Rattle.pearl_rules.specs.Effect.{Hears, Ends, Effect, effect_of, effect, finished, prevented, answering, ending, priority_or_declared, stopped_by, stopped_tasks, reply_if_other, stopping, releasing, trying, getting, taking}
-use Rattle.pearl_rules.specs.Laws.{IsOver, TellsEnds, LeavesDormant}
+use Rattle.pearl_rules.specs.Effect.{Hears, Ends, Effect, effect_of, effect, ended_with, prevented, answering, ending, priority_or_declared, stopped_by, stopped_tasks, reply_if_other, stopping, releasing, trying, getting, taking}
+use Rattle.pearl_rules.specs.Laws.{mode_behind, kept_behind, IsOver, TellsEnds, ServesAtEnds}
+use Rattle.pearl_rules.proofs.Behind.{ended-mode, ended-kept, ended-other, oldest-is}
 use Rattle.pearl_rules.proofs.Places.{no_member, alone, only_member, set-same, set-other}
 use Rattle.pearl_rules.proofs.Serving.{Stays, Closed, OnlyValues, mark-kept, millisecond-kept, interrupted-kept, activated-kept, continues-kept, resuming-kept, arrived-kept}
-use Rattle.pearl_rules.proofs.EffectLaws.{AnyPriority, AnyPlan, any_continuation, any_activation}
+use Rattle.pearl_rules.proofs.EffectLaws.{AnyPriority, AnyPlan, any_continuation, any_activation, any_kept}
 
 -- HOW ONE TASK STANDS
 
@@ -31,26 +34,6 @@ use Rattle.pearl_rules.proofs.EffectLaws.{AnyPriority, AnyPlan, any_continuation
 active_row : (row : Option TaskRow) → is_active_row row ≡ is_active_mode (mode_of_row row)
 active_row None = refl
 active_row (Some row) = refl
-
--- another task's row stays as it is
-changed-other : (core : Core) (t u : ℕ) (change : TaskRow → TaskRow) → u ≢ t → row_of (changed_row core t change) u ≡ row_of core u
-changed-other core t u change differ = by_row (row_of core t)
-  where
-    by_row : (row : Option TaskRow) → row_of (on_row row core (λ r. with_row core t (change r))) u ≡ row_of core u
-    by_row None = refl
-    by_row (Some row) = set-other core.tasks t u (change row) differ
-
-pub row-other : (core : Core) (t u : ℕ) (mode : Mode) → u ≢ t → row_of (with_mode core t mode) u ≡ row_of core u
-row-other core t u mode differ = changed-other core t u (λ row. record row { mode = mode }) differ
-
--- a task that ended isn't active
-dormant_here : (core : Core) (t : ℕ) → is_active (finished core t) t ≡ false
-dormant_here core t = by_row (row_of core t) refl
-  where
-    by_row : (row : Option TaskRow) → row_of core t ≡ row →
-        is_active (on_row row core (λ r. with_row core t (record r { mode = Dormant; continuation = None }))) t ≡ false
-    by_row None e = ap is_active_row e
-    by_row (Some row) e = ap is_active_row (set-same core.tasks t row (record row { mode = Dormant; continuation = None }) e)
 
 -- WHO STAYS ACTIVE
 
@@ -81,11 +64,13 @@ module _ (old : Core) where
   lasts_closed : Closed AnyPriority AnyPlan (AllLast old)
   lasts_closed = record {
     told = λ core e last. last;
-    stands = λ core t row mode at stays last. row_lasts core t row (record row { mode = mode }) at (stays_active row.mode mode stays) last;
+    stands = λ core t row mode kept at stays keeps last.
+        row_lasts core t row (record row { mode = mode; kept = kept }) at (stays_active row.mode mode stays) last;
     goes_on = λ core t row plan at lawful last. row_lasts core t row (record row { continuation = plan }) at (λ is. is) last;
     starts = λ core t row plan at lawful last. row_lasts core t row (record row { activation = Some plan }) at (λ is. is) last;
     going = λ core t row at last. any_continuation row.continuation;
     starting = λ core t row at last. any_activation row.activation;
+    keeping = λ core t row at last. any_kept row.kept;
     begins = λ core plan lawful. tt;
   }
 
@@ -93,14 +78,15 @@ module _ (old : Core) where
   lasts_free : (core other : Core) → OnlyValues core other → AllLast old core → AllLast old other
   lasts_free core other only last u is = ap (λ rows. is_active_row (slice_get rows u)) only.tasks ∙ last u is
 
--- a task without plans is as active as before
+-- a task without plans, which keeps none, is as active as before
 prevented_lasts : (core : Core) (t : ℕ) → AllLast core (prevented core t)
 prevented_lasts core t = by_row (row_of core t) refl
   where
     by_row : (row : Option TaskRow) → row_of core t ≡ row →
-        AllLast core (on_row row core (λ r. with_row core t (record r { continuation = None; activation = None })))
+        AllLast core (on_row row core (λ r. with_row core t (record r { kept = kept.Nothing; continuation = None; activation = None })))
     by_row None e = λ u is. is
-    by_row (Some row) e = row_lasts core core t row (record row { continuation = None; activation = None }) e (λ is. is) (λ u is. is)
+    by_row (Some row) e =
+        row_lasts core core t row (record row { kept = kept.Nothing; continuation = None; activation = None }) e (λ is. is) (λ u is. is)
 
 -- no task ends in a millisecond
 pub millisecond-lasts : (core : Core) (t : ℕ) → is_active core t ≡ true → is_active (millisecond core) t ≡ true
@@ -119,14 +105,15 @@ no_end answer e = cc
 pub ends_unheard : (answer : Answer) → Ends ≡ Hears answer → ⊥
 ends_unheard answer e = cc
 
--- of an effect all at once: what it tells of ends, and that those that ended are dormant
+-- of an effect all at once: what it tells of ends, and how those that ended stand
 record Tells (core : Core) (own : ℕ) (done : Effect) : Type 0 where
   ended : (t : ℕ) → is_active core t ≡ true → is_active done.core t ≡ false → Contains done.ended t
-  dormant : (t : ℕ) → Contains done.ended t → is_active done.core t ≡ false
+  stands : (t : ℕ) → Contains done.ended t → mode_of done.core t ≡ mode_behind (oldest (kept_of core t))
+  keeps : (t : ℕ) → Contains done.ended t → kept_of done.core t ≡ kept_behind (oldest (kept_of core t))
   others : (t : ℕ) → (Contains done.ended t → ⊥) → is_active core t ≡ true → is_active done.core t ≡ true
   hears : (answer : Answer) → done.reply ≡ Hears answer → is_active core own ≡ true → is_active done.core own ≡ true
   goes_on : (answer : Answer) → done.reply ≡ Hears answer → Contains done.ended own → ⊥
-  ends : done.reply ≡ Ends → is_active done.core own ≡ false
+  ends : done.reply ≡ Ends → kept_of core own ≡ kept.Nothing → mode_of done.core own ≡ Dormant
   own_ended : done.reply ≡ Ends → is_active core own ≡ true → Contains done.ended own
 
 -- where every active task stays so and the one that acted hears an answer
@@ -134,43 +121,55 @@ all_last : (core : Core) (own : ℕ) (after : Core) (answer : Answer) → ((t : 
     Tells core own (answering after answer)
 all_last core own after answer stays = record {
   ended = λ t is not. absurd (true≢false (sym (stays t is) ∙ not));
-  dormant = λ t inside. absurd (no_member t inside);
+  stands = λ t inside. absurd (no_member t inside);
+  keeps = λ t inside. absurd (no_member t inside);
   others = λ t outside is. stays t is;
   hears = λ heard e is. stays own is;
   goes_on = λ heard e inside. no_member own inside;
-  ends = λ e. absurd (no_end answer e);
+  ends = λ e none. absurd (no_end answer e);
   own_ended = λ e. absurd (no_end answer e);
 }
 
--- another task stays as it is where one ends
-other_lasts : (core : Core) (t u : ℕ) → u ≢ t → is_active (finished core t) u ≡ is_active core u
-other_lasts core t u differ = ap is_active_row (changed-other core t u (λ row. record row { mode = Dormant; continuation = None }) differ)
+module _ (core : Core) (t : ℕ) (e : Event) where
+  -- another task stays as it is where one ends
+  other_lasts : (u : ℕ) → u ≢ t → is_active (ended_with core t e) u ≡ is_active core u
+  other_lasts u differ = ap is_active_row (ended-other core t u e differ)
 
--- a task that is active and then dormant, where one ends, is that one
-is_ended : (core : Core) (t u : ℕ) → is_active core u ≡ true → is_active (finished core t) u ≡ false → Contains (t ∷ []) u
-is_ended core t u is not = by_test (nat_eq u t) refl
-  where
-    by_test : (b : Bool) → nat_eq u t ≡ b → Contains (t ∷ []) u
-    by_test true e = alone t u (eqb-true u t e)
-    by_test false e = absurd (true≢false (sym is ∙ sym (other_lasts core t u (eqb-false u t e)) ∙ not))
+  -- a task that is active and then dormant, where one ends, is that one
+  is_ended : (u : ℕ) → is_active core u ≡ true → is_active (ended_with core t e) u ≡ false → Contains (t ∷ []) u
+  is_ended u is not = by_test (nat_eq u t) refl
+    where
+      by_test : (b : Bool) → nat_eq u t ≡ b → Contains (t ∷ []) u
+      by_test true same = alone t u (eqb-true u t same)
+      by_test false differ = absurd (true≢false (sym is ∙ sym (other_lasts u (eqb-false u t differ)) ∙ not))
 
--- only that one is dormant
-is_dormant : (core : Core) (t u : ℕ) → Contains (t ∷ []) u → is_active (finished core t) u ≡ false
-is_dormant core t u inside = subst (λ v. is_active (finished core t) v ≡ false) (sym (only_member t u inside)) (dormant_here core t)
+  -- how that one stands, and what it keeps
+  stands_behind : (u : ℕ) → Contains (t ∷ []) u → mode_of (ended_with core t e) u ≡ mode_behind (oldest (kept_of core u))
+  stands_behind u inside =
+      subst (λ v. mode_of (ended_with core t e) v ≡ mode_behind (oldest (kept_of core v))) (sym (only_member t u inside)) (ended-mode core t e)
 
--- and all others last
-outside_lasts : (core : Core) (t u : ℕ) → (Contains (t ∷ []) u → ⊥) → is_active core u ≡ true → is_active (finished core t) u ≡ true
-outside_lasts core t u outside is = other_lasts core t u (λ same. outside (alone t u same)) ∙ is
+  keeps_behind : (u : ℕ) → Contains (t ∷ []) u → kept_of (ended_with core t e) u ≡ kept_behind (oldest (kept_of core u))
+  keeps_behind u inside =
+      subst (λ v. kept_of (ended_with core t e) v ≡ kept_behind (oldest (kept_of core v))) (sym (only_member t u inside)) (ended-kept core t e)
+
+  -- where it kept nothing it is dormant
+  dormant_behind : (u : ℕ) → Contains (t ∷ []) u → kept_of core u ≡ kept.Nothing → mode_of (ended_with core t e) u ≡ Dormant
+  dormant_behind u inside none = stands_behind u inside ∙ ap (λ k. mode_behind (oldest k)) none
+
+  -- and all others last
+  outside_lasts : (u : ℕ) → (Contains (t ∷ []) u → ⊥) → is_active core u ≡ true → is_active (ended_with core t e) u ≡ true
+  outside_lasts u outside is = other_lasts u (λ same. outside (alone t u same)) ∙ is
 
 -- an end
 ending_tells : (core : Core) (own : ℕ) (e : Event) → Tells core own (ending core own e)
 ending_tells core own e = record {
-  ended = λ t is not. is_ended core own t is not;
-  dormant = λ t inside. is_dormant core own t inside;
-  others = λ t outside is. outside_lasts core own t outside is;
+  ended = λ t is not. is_ended core own e t is not;
+  stands = λ t inside. stands_behind core own e t inside;
+  keeps = λ t inside. keeps_behind core own e t inside;
+  others = λ t outside is. outside_lasts core own e t outside is;
   hears = λ answer same is. absurd (ends_unheard answer same);
   goes_on = λ answer same. absurd (ends_unheard answer same);
-  ends = λ same. dormant_here core own;
+  ends = λ same none. dormant_behind core own e own (alone own own refl) none;
   own_ended = λ same is. alone own own refl;
 }
 
@@ -184,33 +183,36 @@ stopping_tells core own t = by_mode (mode_of core t) refl (nat_eq t own) refl
     by_mode : (mode : Mode) → mode_of core t ≡ mode → (is_own : Bool) → nat_eq t own ≡ is_own → Tells core own (done mode is_own)
     by_mode Dormant at false other = all_last core own core Nothing (λ u is. is)
     by_mode Dormant at true same =
-        let own_dormant : is_active core own ≡ false =
-        subst (λ v. is_active core v ≡ false) (eqb-true t own same) (active_row (row_of core t) ∙ ap is_active_mode at) in
+        let own_dormant : mode_of core own ≡ Dormant = subst (λ v. mode_of core v ≡ Dormant) (eqb-true t own same) at in
+        let own_not : is_active core own ≡ false = active_row (row_of core own) ∙ ap is_active_mode own_dormant in
         record {
           ended = λ u is not. absurd (true≢false (sym is ∙ not));
-          dormant = λ u inside. absurd (no_member u inside);
+          stands = λ u inside. absurd (no_member u inside);
+          keeps = λ u inside. absurd (no_member u inside);
           others = λ u outside is. is;
           hears = λ answer e is. is;
           goes_on = λ answer e inside. no_member own inside;
-          ends = λ e. own_dormant;
-          own_ended = λ e is. absurd (true≢false (sym is ∙ own_dormant));
+          ends = λ e none. own_dormant;
+          own_ended = λ e is. absurd (true≢false (sym is ∙ own_not));
         }
     by_mode (Active priority suspended) at false other = record {
-      ended = λ u is not. is_ended core t u is not;
-      dormant = λ u inside. is_dormant core t u inside;
-      others = λ u outside is. outside_lasts core t u outside is;
-      hears = λ answer e is. other_lasts core t own (λ same. eqb-false t own other (sym same)) ∙ is;
+      ended = λ u is not. is_ended core t (event.Stop t) u is not;
+      stands = λ u inside. stands_behind core t (event.Stop t) u inside;
+      keeps = λ u inside. keeps_behind core t (event.Stop t) u inside;
+      others = λ u outside is. outside_lasts core t (event.Stop t) u outside is;
+      hears = λ answer e is. other_lasts core t (event.Stop t) own (λ same. eqb-false t own other (sym same)) ∙ is;
       goes_on = λ answer e inside. eqb-false t own other (sym (only_member t own inside));
-      ends = λ e. absurd (no_end Nothing e);
+      ends = λ e none. absurd (no_end Nothing e);
       own_ended = λ e. absurd (no_end Nothing e);
     }
     by_mode (Active priority suspended) at true same = record {
-      ended = λ u is not. is_ended core t u is not;
-      dormant = λ u inside. is_dormant core t u inside;
-      others = λ u outside is. outside_lasts core t u outside is;
+      ended = λ u is not. is_ended core t (event.Stop t) u is not;
+      stands = λ u inside. stands_behind core t (event.Stop t) u inside;
+      keeps = λ u inside. keeps_behind core t (event.Stop t) u inside;
+      others = λ u outside is. outside_lasts core t (event.Stop t) u outside is;
       hears = λ answer e is. absurd (ends_unheard answer e);
       goes_on = λ answer e. absurd (ends_unheard answer e);
-      ends = λ e. is_dormant core t own (alone t own (sym (eqb-true t own same)));
+      ends = λ e none. dormant_behind core t (event.Stop t) own (alone t own (sym (eqb-true t own same))) none;
       own_ended = λ e is. alone t own (sym (eqb-true t own same));
     }
 
@@ -228,7 +230,8 @@ trying_tells core own semaphore false = all_last core own core _ (λ t is. is)
 since_last : (core : Core) (own : ℕ) (done : Effect) → Tells (record core { last = Some own }) own done → Tells core own done
 since_last core own done tells = record {
   ended = tells.ended;
-  dormant = tells.dormant;
+  stands = tells.stands;
+  keeps = tells.keeps;
   others = tells.others;
   hears = tells.hears;
   goes_on = tells.goes_on;
@@ -243,7 +246,8 @@ getting_tells core own device (Bad used) =
     let tells = ending_tells (without_bytes core device used) own (event.Trap own Format) in
     record {
       ended = tells.ended;
-      dormant = tells.dormant;
+      stands = tells.stands;
+      keeps = tells.keeps;
       others = tells.others;
       hears = tells.hears;
       goes_on = tells.goes_on;
@@ -307,13 +311,10 @@ effect-tells core own asked = since_last core own _ (by_action asked)
     by_action action.End = ending_tells acted own (event.End own)
     by_action (action.Trap trap) = ending_tells acted own (event.Trap own trap)
 
--- a task that isn't active is dormant
-over_if : (mode : Mode) → is_active_mode mode ≡ false → IsOver mode
-over_if Dormant not = tt
-over_if (Active priority suspended) not = absurd (true≢false not)
-
-is_over : (core : Core) (t : ℕ) → is_active core t ≡ false → IsOver (mode_of core t)
-is_over core t not = over_if (mode_of core t) (sym (active_row (row_of core t)) ∙ not)
+-- a task whose life is over is dormant, or active and not suspended
+over_behind : (next : Option (ℕ × Kept)) → IsOver (mode_behind next)
+over_behind None = tt
+over_behind (Some (first, others)) = refl
 
 pub effect-ends : (core : Core) (own : ℕ) (action : Action) → TellsEnds core own (effect core own action)
 effect-ends core own asked =
@@ -321,14 +322,20 @@ effect-ends core own asked =
     record {
       ended = tells.ended;
       others = tells.others;
-      over = λ t inside. is_over (effect core own asked).core t (tells.dormant t inside);
+      over = λ t inside. subst IsOver (sym (tells.stands t inside)) (over_behind (oldest (kept_of core t)));
       hears = tells.hears;
       goes_on = tells.goes_on;
       ends = tells.own_ended;
     }
 
--- no task that ends starts again at once
-pub effect-dormant : (core : Core) (own : ℕ) (action : Action) → LeavesDormant own (effect core own action)
-effect-dormant core own asked =
+-- a task that ends is started with the oldest start that it kept
+pub effect-serves : (core : Core) (own : ℕ) (action : Action) → ServesAtEnds core own (effect core own action)
+effect-serves core own asked =
     let tells = effect-tells core own asked in
-    record { dormant = tells.dormant; ends = tells.ends }
+    record {
+      dormant = λ t inside none. tells.stands t inside ∙ ap (λ k. mode_behind (oldest k)) none;
+      serves = λ t first others inside is.
+          let next = oldest-is (kept_of core t) first others is in
+          (tells.stands t inside ∙ ap mode_behind next.1, ap priorities (tells.keeps t inside ∙ ap kept_behind next.1) ∙ next.2);
+      ends = tells.ends;
+    }

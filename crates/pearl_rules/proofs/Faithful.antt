@@ -1,5 +1,6 @@
 -- What holds of one task at a time is enough for a whole run.
-use Rattle.std.proofs.Common.{◌≡◌, ℕ, None, ◌+◌, ◌*◌, ◌≤◌, List, length, sym, subst, ◌∙◌, arith}
+use Rattle.std.proofs.Common.{◌≡◌, ℕ, Option, None, Some, ◌+◌, ◌*◌, ◌<◌, ◌≤◌, List, length, sym, subst, ◌∙◌, arith}
+use Rattle.std.proofs.lemmas.Option.{none-some, same_Some}
 use Rattle.std.specs.List.{AllByRecursion}
 use Rattle.pearl_value.specs.WellFormed.{IsValue}
 use Rattle.pearl_rules.specs.declared.action.Answer.{Answer}
@@ -8,10 +9,11 @@ use Rattle.pearl_rules.specs.declared.setup.Setup.{Setup}
 use Rattle.pearl_value.specs.Devices.{IsDevice}
 use Rattle.pearl_rules.specs.Slots.{HasKinds}
 use Rattle.pearl_rules.specs.Entries.{AreFitting}
-use Rattle.pearl_rules.specs.Runs.{Supplier, Engine, kept_at, machine_start, machine_run, source_start, source_next, source_run, marked}
+use Rattle.pearl_rules.specs.Runs.{Supplier, Engine, Running, kept_at, machine_start, machine_run, source_start, source_next, source_run, marked}
 use Rattle.pearl_rules.specs.Faithful.{IsFaithful, Alone, Soon}
 use Rattle.pearl_rules.specs.Laws.{EndsSoon, Comes}
-use Rattle.pearl_rules.proofs.Simulation.{Simulates, at_place, same_offer, sim_offers, sim_next, sim_after, sim_start}
+use Rattle.pearl_rules.proofs.Simulation.{Here, Simulates, at_place, same_offer, sim_offers, sim_next, sim_after, sim_start}
+use Rattle.pearl_rules.proofs.KeptLaws.{Both}
 use Rattle.pearl_rules.proofs.Settling.{Reaches, reaches, settled_with}
 
 -- code that stands where each task's answers lead, and that offers soon, runs as the source's rules say
@@ -70,3 +72,23 @@ pub has_kinds : (offer : Supplier) {S : Type 0} (engine : Engine S) (Stands : �
 has_kinds offer {S} engine Stands setup slots devices alone es fits n =
     (sim_after setup offer S engine Stands alone (source_start setup es) (machine_start engine setup es)
     (sim_start setup offer S engine Stands alone slots devices es fits) n).kinds
+
+-- an active task is one of the tables', and its code stands where its answers lead, after any number of steps
+pub stands_at : (offer : Supplier) {S : Type 0} (engine : Engine S) (Stands : ℕ → List Answer → S → Type 0) (setup : Setup) →
+    AllByRecursion IsValue setup.slots → AllByRecursion IsDevice setup.devices → Alone setup offer engine Stands →
+    (es : List Entry) → AreFitting setup es → (n t : ℕ) (running : Running S) → kept_at (machine_run engine setup es n).running t ≡ Some running →
+    (heard : List Answer) × (t < length setup.tasks) × Stands t heard running.stack
+stands_at offer {S} engine Stands setup slots devices alone es fits n t running is =
+    let m = machine_run engine setup es n in
+    let s = source_run offer setup es (marked engine setup es n) in
+    let sim = sim_after setup offer S engine Stands alone (source_start setup es) (machine_start engine setup es)
+    (sim_start setup offer S engine Stands alone slots devices es fits) n in
+    by (kept_at s.heard t) (kept_at m.running t) (at_place setup offer S engine Stands alone s.heard m.running sim.all t) is
+  where
+    by : (x : Option (List Answer)) (y : Option (Running S)) → Both (List Answer) (Running S) (Here setup engine Stands) t x y → y ≡ Some running →
+        (heard : List Answer) × (t < length setup.tasks) × Stands t heard running.stack
+    by None None b e = absurd (none-some running e)
+    by None (Some y) b e = absurd b
+    by (Some heard) None b e = absurd b
+    by (Some heard) (Some y) b e =
+        let same : y ≡ running = same_Some y running e in (heard, b.there, subst (λ (r : Running S). Stands t heard r.stack) same b.stands)

@@ -5,6 +5,7 @@ mod Serving
 mod ScanLaws
 mod EffectLaws
 mod ToldLaws
+mod Behind
 mod EndsLaws
 mod TaskLaws
 mod CountLaws

@@ -1,6 +1,7 @@
 -- What starts, plans that serve, interrupts and milliseconds keep: a property of cores that each small step keeps is kept by all of them,
 -- and by every action where ends keep it too.
-use Rattle.std.proofs.Common.{◌≡◌, ℕ, zero, suc, ◌+◌, Bool, true, false, nat_lt, if◌then◌else◌, IfSome, List, [], ◌∷◌, ◌++◌, ◌-◌, Option, Some, None, Result, Ok, Err, length, length-set, drop, nat_le, slice_set, refl, sym, ap, subst, ◌∙◌}
+use Rattle.std.proofs.Common.{◌≡◌, ◌⊎◌, inl, inr, ℕ, zero, suc, ◌+◌, Bool, true, false, nat_lt, if◌then◌else◌, IfSome, List, [], ◌∷◌, ◌++◌, ◌-◌, Option, Some, None, Result, Ok, Err, length, length-set, drop, nat_le, slice_set, refl, sym, ap, subst, ◌∙◌}
+use Rattle.std.specs.List.{AllByRecursion}
 use Rattle.pearl_value.specs.declared.cell.Cell.{Cell}
 use Rattle.pearl_value.specs.declared.kind.Kind.{Kind}
 use Rattle.pearl_value.specs.declared.trap.Trap.{Trap}
@@ -17,15 +18,18 @@ use Rattle.pearl_rules.specs.declared.event.Event.{Event}
 use Rattle.pearl_rules.specs.declared.event.Event.TheVariants as event
 use Rattle.pearl_rules.specs.declared.row.Mode.{Mode}
 use Rattle.pearl_rules.specs.declared.row.Mode.TheVariants.{Dormant, Active}
+use Rattle.pearl_rules.specs.declared.row.Kept.{Kept}
+use Rattle.pearl_rules.specs.declared.row.Kept.TheVariants as kept
 use Rattle.pearl_rules.specs.declared.row.Plan.{Plan}
 use Rattle.pearl_rules.specs.declared.row.Activation.{Activation}
 use Rattle.pearl_rules.specs.declared.row.TaskRow.{TaskRow}
 use Rattle.pearl_rules.specs.Core.{Core, Channel, Switch, Bytes, Values, Outward, note, row_of, with_row, mode_of_row, mode_of, is_active_mode, is_active_row, is_active}
 use Rattle.pearl_rules.specs.Counts.{count_at, all_below_most, lowered, raised}
-use Rattle.pearl_rules.specs.Plans.{on_row, with_mode, with_continuation, with_activation, continuation_in, continuation_of, activation_in, activation_of, started_by, started, marked_mode, with_mark, planned, begun, waits_for, serves_if, continued, serve_continuation, serve_activation_by, serve_activation, plan_continuation, plan_activation, each_task, served, millisecond, begin_continuation, begin_activation, continuation_began, reached, occurred}
+use Rattle.pearl_rules.specs.Plans.{on_row, changed_row, priorities, and_one, oldest, kept_in, kept_of, with_kept, made_active, late_by, with_mode, with_continuation, with_activation, continuation_in, continuation_of, activation_in, activation_of, started_by, started, marked_mode, with_mark, planned, begun, waits_for, serves_if, continued, serve_continuation, serve_activation_by, serve_activation, plan_continuation, plan_activation, each_task, served, millisecond, begin_continuation, begin_activation, continuation_began, reached, occurred}
 use Rattle.pearl_rules.specs.Devices.{channel_of, with_channel, is_enabled, interrupted, items_of, bytes_at, terminal_room, with_bytes, without_bytes, values_at, input_room, joined, with_value_by, with_value, without_value_by, without_value, arrived}
 use Rattle.pearl_rules.specs.Scan.{Scanned, Short, Bad, Got, scan}
-use Rattle.pearl_rules.specs.Effect.{finished, ending, is_at_once, activated, continues, resuming, prevented, priority_or_declared, stopped_by, stopping, releasing, trying, getting, taking, effect_of, effect}
+use Rattle.pearl_rules.specs.Effect.{finished, again_by, ended_with, ending, is_at_once, activated, continues, resuming, prevented, priority_or_declared, stopped_by, stopping, releasing, trying, getting, taking, effect_of, effect}
+use Rattle.pearl_rules.proofs.Places.{set-same}
 
 -- how a task's mode may change where no task ends: a dormant one becomes active with a priority of this sort, an active one stays so with its own
 abbrev pub Stays : (Urgent : ℕ → Type 0) → Mode → Mode → Type 0
@@ -33,6 +37,10 @@ Stays Urgent Dormant Dormant = Unit {0}
 Stays Urgent Dormant (Active priority suspended) = Urgent priority
 Stays Urgent (Active own before) Dormant = ⊥
 Stays Urgent (Active own before) (Active priority suspended) = own ≡ priority
+
+-- what a task of this row may keep in a mode: what it kept, or where it is active some priorities of this sort
+abbrev pub MayKeep : (Urgent : ℕ → Type 0) → TaskRow → Mode → Kept → Type 0
+MayKeep Urgent row mode kept = (kept ≡ row.kept) ⊎ ((is_active_mode mode ≡ true) × AllByRecursion Urgent (priorities kept))
 
 -- a priority and a plan of these sorts
 abbrev pub Starts : (Urgent : ℕ → Type 0) (Lawful : Plan → Type 0) → Activation → Type 0
@@ -42,14 +50,15 @@ Starts Urgent Lawful activation = Urgent activation.priority × Lawful activatio
 abbrev pub Goes : (Lawful : Plan → Type 0) (Going : Mode → Type 0) → Mode → Plan → Type 0
 Goes Lawful Going mode plan = Lawful plan × Going mode
 
--- Each small step keeps the property P: one more event, another mode, another plan. The plans of a core with P are of
--- these sorts, and so are the modes of the tasks that have a plan to go on; every active task may have one.
+-- Each small step keeps the property P: one more event, another mode with what is kept in it, another plan. The plans and
+-- what is kept in a core with P are of these sorts, and so are the modes of the tasks that have a plan to go on; every active
+-- task may have one.
 pub record ClosedFor (Urgent : ℕ → Type 0) (Lawful : Plan → Type 0) (Going : Mode → Type 0)
     (P : Core → Type 0) : Type 0 where
   pub told : (core : Core) (e : Event) → P core → P (note core e)
-  pub stands : (core : Core) (t : ℕ) (row : TaskRow) (mode : Mode) → row_of core t ≡ Some row →
-      Stays Urgent row.mode mode → P core →
-      P (with_row core t (record row { mode = mode }))
+  pub stands : (core : Core) (t : ℕ) (row : TaskRow) (mode : Mode) (kept : Kept) → row_of core t ≡ Some row →
+      Stays Urgent row.mode mode → MayKeep Urgent row mode kept → P core →
+      P (with_row core t (record row { mode = mode; kept = kept }))
   pub goes_on : (core : Core) (t : ℕ) (row : TaskRow) (plan : Option Plan) → row_of core t ≡ Some row →
       IfSome plan (Goes Lawful Going row.mode) → P core → P (with_row core t (record row { continuation = plan }))
   pub starts : (core : Core) (t : ℕ) (row : TaskRow) (plan : Activation) → row_of core t ≡ Some row →
@@ -59,28 +68,33 @@ pub record ClosedFor (Urgent : ℕ → Type 0) (Lawful : Plan → Type 0) (Going
       IfSome row.continuation (Goes Lawful Going row.mode)
   pub starting : (core : Core) (t : ℕ) (row : TaskRow) → row_of core t ≡ Some row → P core →
       IfSome row.activation (Starts Urgent Lawful)
+  pub keeping : (core : Core) (t : ℕ) (row : TaskRow) → row_of core t ≡ Some row → P core →
+      AllByRecursion Urgent (priorities row.kept)
   pub begins : (core : Core) (plan : Plan) → P core → Lawful plan → Lawful (begun core plan)
   pub active : (mode : Mode) → is_active_mode mode ≡ true → Going mode
 
 -- The same where nothing is asked of the modes, and where what plans are to be doesn't depend on the core.
 pub record Closed (Urgent : ℕ → Type 0) (Lawful : Plan → Type 0) (P : Core → Type 0) : Type 0 where
   pub told : (core : Core) (e : Event) → P core → P (note core e)
-  pub stands : (core : Core) (t : ℕ) (row : TaskRow) (mode : Mode) → row_of core t ≡ Some row → Stays Urgent row.mode mode → P core →
-      P (with_row core t (record row { mode = mode }))
+  pub stands : (core : Core) (t : ℕ) (row : TaskRow) (mode : Mode) (kept : Kept) → row_of core t ≡ Some row →
+      Stays Urgent row.mode mode → MayKeep Urgent row mode kept → P core →
+      P (with_row core t (record row { mode = mode; kept = kept }))
   pub goes_on : (core : Core) (t : ℕ) (row : TaskRow) (plan : Option Plan) → row_of core t ≡ Some row → IfSome plan Lawful → P core →
       P (with_row core t (record row { continuation = plan }))
   pub starts : (core : Core) (t : ℕ) (row : TaskRow) (plan : Activation) → row_of core t ≡ Some row → Starts Urgent Lawful plan → P core →
       P (with_row core t (record row { activation = Some plan }))
   pub going : (core : Core) (t : ℕ) (row : TaskRow) → row_of core t ≡ Some row → P core → IfSome row.continuation Lawful
   pub starting : (core : Core) (t : ℕ) (row : TaskRow) → row_of core t ≡ Some row → P core → IfSome row.activation (Starts Urgent Lawful)
+  pub keeping : (core : Core) (t : ℕ) (row : TaskRow) → row_of core t ≡ Some row → P core →
+      AllByRecursion Urgent (priorities row.kept)
   pub begins : (core : Core) (plan : Plan) → Lawful plan → Lawful (begun core plan)
 
--- and so does each step that ends a task or drops its plans
+-- and so does each step that ends a task or drops its plans and what it keeps
 pub record ClosedAtEnds (P : Core → Type 0) : Type 0 where
   pub ends : (core : Core) (t : ℕ) (row : TaskRow) → row_of core t ≡ Some row → P core →
-      P (with_row core t (record row { mode = Dormant; continuation = None }))
+      P (with_row core t (record row { mode = Dormant; kept = kept.Nothing; continuation = None }))
   pub prevents : (core : Core) (t : ℕ) (row : TaskRow) → row_of core t ≡ Some row → P core →
-      P (with_row core t (record row { continuation = None; activation = None }))
+      P (with_row core t (record row { kept = kept.Nothing; continuation = None; activation = None }))
 
 -- another core that differs in values, counts, channels and who acted last alone, of which it has as many
 pub record OnlyValues (core other : Core) : Type 0 where
@@ -177,6 +191,39 @@ pub each-kept : (P : Core → Type 0) (change : Core → ℕ → Core) → ((cor
 each-kept P change kept zero core p = p
 each-kept P change kept (suc n) core p = kept (each_task change n core) n (each-kept P change kept n core p)
 
+-- WHAT IS KEPT
+
+-- priorities that are kept, with one more of the same sort
+and_one_more : (Urgent : ℕ → Type 0) (kept : Kept) (priority : ℕ) → AllByRecursion Urgent (priorities kept) → Urgent priority →
+    IfSome (and_one kept priority) (λ more. AllByRecursion Urgent (priorities more))
+and_one_more Urgent kept.Nothing priority all urgent = (urgent, tt)
+and_one_more Urgent (kept.One a) priority all urgent = (all.0, (urgent, tt))
+and_one_more Urgent (kept.Two a b) priority all urgent = (all.0, (all.1.0, (urgent, tt)))
+and_one_more Urgent (kept.Three a b c) priority all urgent = tt
+
+-- the oldest of them, and those behind it
+oldest_of : (Urgent : ℕ → Type 0) (kept : Kept) → AllByRecursion Urgent (priorities kept) →
+    IfSome (oldest kept) (λ next. Urgent next.0 × AllByRecursion Urgent (priorities next.1))
+oldest_of Urgent kept.Nothing all = tt
+oldest_of Urgent (kept.One a) all = all
+oldest_of Urgent (kept.Two a b) all = all
+oldest_of Urgent (kept.Three a b c) all = all
+
+-- a mode that stays
+stays_so : (Urgent : ℕ → Type 0) (mode : Mode) → Stays Urgent mode mode
+stays_so Urgent Dormant = tt
+stays_so Urgent (Active priority suspended) = refl
+
+-- a task that ends is dormant
+finished_dormant : (core : Core) (t : ℕ) → mode_of (finished core t) t ≡ Dormant
+finished_dormant core t = by_row (row_of core t) refl
+  where
+    by_row : (row : Option TaskRow) → row_of core t ≡ row →
+        mode_of (on_row row core (λ r. with_row core t (record r { mode = Dormant; kept = kept.Nothing; continuation = None }))) t ≡ Dormant
+    by_row None at = ap mode_of_row at
+    by_row (Some row) at =
+        ap mode_of_row (set-same core.tasks t row (record row { mode = Dormant; kept = kept.Nothing; continuation = None }) at)
+
 module _ (Urgent : ℕ → Type 0) (Lawful : Plan → Type 0) (Going : Mode → Type 0) (P : Core → Type 0)
     (closed : ClosedFor Urgent Lawful Going P) where
   -- ROWS
@@ -189,7 +236,7 @@ module _ (Urgent : ℕ → Type 0) (Lawful : Plan → Type 0) (Going : Mode → 
     where
       by_row : (row : Option TaskRow) → row_of core t ≡ row → P (on_row row core (λ r. with_row core t (record r { mode = mode })))
       by_row None at = p
-      by_row (Some row) at = closed.stands core t row mode at (stays row at) p
+      by_row (Some row) at = closed.stands core t row mode row.kept at (stays row at) (inl refl) p
 
   -- another plan to go on
   continuation-keeps : (core : Core) (t : ℕ) (plan : Option Plan) →
@@ -227,17 +274,66 @@ module _ (Urgent : ℕ → Type 0) (Lawful : Plan → Type 0) (Going : Mode → 
 
   -- STARTS AND SUSPENDED TASKS
 
+  -- what a task keeps
+  all_kept : (core : Core) (t : ℕ) → P core → AllByRecursion Urgent (priorities (kept_of core t))
+  all_kept core t p = by_row (row_of core t) refl
+    where
+      by_row : (row : Option TaskRow) → row_of core t ≡ row → AllByRecursion Urgent (priorities (kept_in row))
+      by_row None at = tt
+      by_row (Some row) at = closed.keeping core t row at p
+
+  -- a dormant task becomes active
+  made_active-keeps : (core : Core) (t priority : ℕ) (kept : Kept) → mode_of core t ≡ Dormant →
+      ((row : TaskRow) → row_of core t ≡ Some row → Urgent priority) → AllByRecursion Urgent (priorities kept) → P core →
+      P (made_active core t priority kept)
+  made_active-keeps core t priority kept dormant urgent all p =
+      closed.told (changed_row core t (λ r. record r { mode = Active priority false; kept = kept })) (event.Start t priority)
+      (by_row (row_of core t) refl)
+    where
+      by_row : (row : Option TaskRow) → row_of core t ≡ row →
+          P (on_row row core (λ r. with_row core t (record r { mode = Active priority false; kept = kept })))
+      by_row None at = p
+      by_row (Some row) at =
+          closed.stands core t row (Active priority false) kept at
+          (subst (λ m. Stays Urgent m (Active priority false)) (sym dormant ∙ ap mode_of_row at) (urgent row at)) (inr (refl, all)) p
+
+  -- an active task keeps other starts
+  kept-keeps : (core : Core) (t : ℕ) (kept : Kept) → is_active_mode (mode_of core t) ≡ true → AllByRecursion Urgent (priorities kept) → P core →
+      P (with_kept core t kept)
+  kept-keeps core t kept active all p = by_row (row_of core t) refl
+    where
+      by_row : (row : Option TaskRow) → row_of core t ≡ row → P (on_row row core (λ r. with_row core t (record r { kept = kept })))
+      by_row None at = p
+      by_row (Some row) at =
+          closed.stands core t row row.mode kept at (stays_so Urgent row.mode)
+          (inr (sym (ap (λ r. is_active_mode (mode_of_row r)) at) ∙ active, all)) p
+
+  late-keeps : (core : Core) (t : ℕ) (more : Option Kept) → is_active_mode (mode_of core t) ≡ true →
+      IfSome more (λ kept. AllByRecursion Urgent (priorities kept)) → P core → P (late_by more core t)
+  late-keeps core t None active all p = closed.told core (event.Overrun t) p
+  late-keeps core t (Some kept) active all p =
+      closed.told (with_kept core t kept) (event.Kept t (length (priorities kept))) (kept-keeps core t kept active all p)
+
   pub started-keeps : (core : Core) (t priority : ℕ) →
       ((row : TaskRow) → row_of core t ≡ Some row → Urgent priority) → P core →
       P (started core t priority)
   started-keeps core t priority urgent p = by_mode (mode_of core t) refl
     where
+      named : (row : Option TaskRow) → row_of core t ≡ row → is_active_row row ≡ true → Urgent priority
+      named None at is = let never : ⊥ = cc in absurd never
+      named (Some row) at is = urgent row at
+
+      active_row : (row : Option TaskRow) → is_active_row row ≡ is_active_mode (mode_of_row row)
+      active_row None = refl
+      active_row (Some row) = refl
+
       by_mode : (mode : Mode) → mode_of core t ≡ mode → P (started_by mode core t priority)
-      by_mode Dormant dormant =
-          closed.told (with_mode core t (Active priority false)) (event.Start t priority)
-          (mode-keeps core t (Active priority false)
-          (λ row at. subst (λ m. Stays Urgent m (Active priority false)) (sym dormant ∙ ap mode_of_row at) (urgent row at)) p)
-      by_mode (Active own suspended) active = closed.told core (event.Overrun t) p
+      by_mode Dormant dormant = made_active-keeps core t priority kept.Nothing dormant urgent tt p
+      by_mode (Active own suspended) active =
+          let is : is_active_mode (mode_of core t) ≡ true = ap is_active_mode active in
+          late-keeps core t (and_one (kept_of core t) priority) is
+          (and_one_more Urgent (kept_of core t) priority (all_kept core t p)
+          (named (row_of core t) refl (active_row (row_of core t) ∙ is))) p
 
   pub mark-keeps : (core : Core) (t : ℕ) (suspended : Bool) → P core → P (with_mark core t suspended)
   mark-keeps core t suspended p =
@@ -369,7 +465,7 @@ module _ (Urgent : ℕ → Type 0) (Lawful : Plan → Type 0) (Going : Mode → 
     finished-keeps core t p = by_row (row_of core t) refl
       where
         by_row : (row : Option TaskRow) → row_of core t ≡ row →
-            P (on_row row core (λ r. with_row core t (record r { mode = Dormant; continuation = None })))
+            P (on_row row core (λ r. with_row core t (record r { mode = Dormant; kept = kept.Nothing; continuation = None })))
         by_row None at = p
         by_row (Some row) at = at_ends.ends core t row at p
 
@@ -377,19 +473,31 @@ module _ (Urgent : ℕ → Type 0) (Lawful : Plan → Type 0) (Going : Mode → 
     prevented-keeps core t p = by_row (row_of core t) refl
       where
         by_row : (row : Option TaskRow) → row_of core t ≡ row →
-            P (on_row row core (λ r. with_row core t (record r { continuation = None; activation = None })))
+            P (on_row row core (λ r. with_row core t (record r { kept = kept.Nothing; continuation = None; activation = None })))
         by_row None at = p
         by_row (Some row) at = at_ends.prevents core t row at p
 
+    -- a dormant task is started with the oldest of what it kept
+    again-keeps : (core : Core) (t : ℕ) (next : Option (ℕ × Kept)) → mode_of core t ≡ Dormant →
+        IfSome next (λ next. Urgent next.0 × AllByRecursion Urgent (priorities next.1)) → P core → P (again_by next core t)
+    again-keeps core t None dormant urgent p = p
+    again-keeps core t (Some (first, others)) dormant urgent p =
+        made_active-keeps core t first others dormant (λ row at. urgent.0) urgent.1 p
+
+    ended-keeps : (core : Core) (t : ℕ) (e : Event) → P core → P (ended_with core t e)
+    ended-keeps core t e p =
+        again-keeps (note (finished core t) e) t (oldest (kept_of core t)) (finished_dormant core t)
+        (oldest_of Urgent (kept_of core t) (all_kept core t p)) (closed.told (finished core t) e (finished-keeps core t p))
+
     ending-keeps : (core : Core) (own : ℕ) (e : Event) → P core → P (ending core own e).core
-    ending-keeps core own e p = closed.told (finished core own) e (finished-keeps core own p)
+    ending-keeps core own e p = ended-keeps core own e p
 
     stopping-keeps : (core : Core) (own t : ℕ) → P core → P (stopping core own t).core
     stopping-keeps core own t p = by_mode (mode_of core t)
       where
         by_mode : (mode : Mode) → P (stopped_by mode core t)
         by_mode Dormant = p
-        by_mode (Active priority suspended) = closed.told (finished core t) (event.Stop t) (finished-keeps core t p)
+        by_mode (Active priority suspended) = ended-keeps core t (event.Stop t) p
 
     -- ACTIONS
 
@@ -568,6 +676,7 @@ module _ (Urgent : ℕ → Type 0) (Lawful : Plan → Type 0) where
       starts = closed.starts;
       going = λ core t row at p. in_any_mode row.mode row.continuation (closed.going core t row at p);
       starting = closed.starting;
+      keeping = closed.keeping;
       begins = λ core plan p lawful. closed.begins core plan lawful;
       active = λ mode is. tt;
     }

@@ -1,5 +1,5 @@
 -- How an action changes one task, and which actions end the task that acts.
-use Rattle.std.proofs.Common.{◌≡◌, ◌≢◌, ◌↔◌, ℕ, ◌-◌, ◌^◌, ◌<◌, ◌≤◌, List, [], ◌∷◌, Bool, true, false, ◌&&◌, nat_eq, nat_lt, Option, Some, None, length, refl, sym, ap, subst, ◌∙◌, append-nil, eq-eqb, eqb-true, ltb-false}
+use Rattle.std.proofs.Common.{◌≡◌, ◌≢◌, ◌↔◌, ℕ, ◌-◌, ◌^◌, ◌<◌, ◌≤◌, List, [], ◌∷◌, Bool, true, false, ◌&&◌, nat_eq, nat_lt, Option, Some, None, length, refl, sym, ap, ap₂, subst, ◌∙◌, append-nil, eq-eqb, eqb-true, ltb-false}
 use Rattle.std.specs.List.{Contains}
 use Rattle.std.proofs.lemmas.Bool.{true≢false, eqb-false, ne_eqb}
 use Rattle.pearl_value.specs.declared.trap.Trap as traps
@@ -11,46 +11,42 @@ use Rattle.pearl_rules.specs.declared.action.Answer.{Answer}
 use Rattle.pearl_rules.specs.declared.action.Answer.TheVariants.{Nothing}
 use Rattle.pearl_rules.specs.declared.event.Event.{Event}
 use Rattle.pearl_rules.specs.declared.event.Event.TheVariants as event
+use Rattle.pearl_rules.specs.declared.row.Kept.{Kept}
+use Rattle.pearl_rules.specs.declared.row.Kept.TheVariants as kept
 use Rattle.pearl_rules.specs.declared.row.Mode.{Mode}
 use Rattle.pearl_rules.specs.declared.row.Mode.TheVariants.{Dormant, Active}
 use Rattle.pearl_rules.specs.declared.row.TaskRow.{TaskRow}
 use Rattle.pearl_rules.specs.declared.setup.Setup.{Setup}
-use Rattle.pearl_rules.specs.Core.{Core, note, row_of, with_row, mode_of_row, mode_of}
+use Rattle.pearl_rules.specs.Core.{Core, note, row_of, mode_of_row, mode_of}
 use Rattle.pearl_rules.specs.Counts.{count_at, all_below_most}
 use Rattle.pearl_value.specs.declared.cell.Cell.{Cell}
-use Rattle.pearl_rules.specs.Plans.{on_row, changed_row, with_mode, continuation_in, continuation_of, activation_in, activation_of, started_by, marked_mode, with_mark}
+use Rattle.pearl_rules.specs.Plans.{changed_row, priorities, and_one, oldest, kept_in, kept_of, with_kept, late_by, started_by, with_mode, marked_mode, with_mark}
 use Rattle.pearl_rules.specs.Devices.{items_of, bytes_at, values_at}
 use Rattle.pearl_rules.specs.Scan.{Scanned, Short, Bad, Got, scan}
-use Rattle.pearl_rules.specs.Effect.{Reply, Hears, Ends, Effect, effect, finished, answering, priority_or_declared, stopped_by, stopped_tasks, reply_if_other, releasing, trying, getting, taking}
+use Rattle.pearl_rules.specs.Effect.{Reply, Hears, Ends, Effect, effect, ended_with, answering, priority_or_declared, stopped_by, stopped_tasks, reply_if_other, releasing, trying, getting, taking}
 use Rattle.pearl_rules.specs.Pick.{Offered, is_possible, is_ready, is_ready_row, is_eligible}
 use Rattle.pearl_rules.specs.Slots.{Fits}
-use Rattle.pearl_rules.specs.Laws.{IsToldBehind, ChangesTask, EndsTask, StartsLate, IsGot, EndsItself}
-use Rattle.pearl_rules.proofs.Places.{set-same, set-other, there_at, here, there}
+use Rattle.pearl_rules.specs.Laws.{mode_behind, kept_behind, events_behind, IsToldBehind, ChangesTask, EndsTask, StartsLate, KeepsOne, ServesFirst, IsGot, EndsItself}
+use Rattle.pearl_rules.proofs.Behind.{changed-other, changed-here, changed-none, row_alone, ended-mode, ended-kept, ended-goes_on, ended-starts, ended-other, ended-rest, oldest-is, one_more, no_room}
+use Rattle.pearl_rules.proofs.Places.{there_at, here, there}
 use Rattle.pearl_rules.proofs.CountLaws.{not_all_below}
 
 -- ONE TASK
 
--- another task's row stays
-row-other : (core : Core) (t u : ℕ) (change : TaskRow → TaskRow) → u ≢ t → row_of (changed_row core t change) u ≡ row_of core u
-row-other core t u change differ = by_row (row_of core t)
-  where
-    by_row : (row : Option TaskRow) → row_of (on_row row core (λ r. with_row core t (change r))) u ≡ row_of core u
-    by_row None = refl
-    by_row (Some row) = set-other core.tasks t u (change row) differ
-
 -- a task that is there gets the mode
 mode_there : (core : Core) (t : ℕ) (change : TaskRow → TaskRow) (mode : Mode) (row : TaskRow) → ((r : TaskRow) → (change r).mode ≡ mode) →
     row_of core t ≡ Some row → mode_of (changed_row core t change) t ≡ mode
-mode_there core t change mode row gets at =
-    ap (λ r. mode_of (on_row r core (λ x. with_row core t (change x))) t) at
-    ∙ (ap mode_of_row (set-same core.tasks t row (change row) at) ∙ gets row)
+mode_there core t change mode row gets at = ap mode_of_row (changed-here core t change row at) ∙ gets row
+
+abbrev keeps_row : Kept → TaskRow → TaskRow
+keeps_row kept row = record row { kept = kept }
 
 -- one that isn't is dormant
 mode_dormant : (core : Core) (t : ℕ) (change : TaskRow → TaskRow) → ((r : TaskRow) → (change r).mode ≡ Dormant) → mode_of (changed_row core t change) t ≡ Dormant
 mode_dormant core t change gets = by_row (row_of core t) refl
   where
     by_row : (row : Option TaskRow) → row_of core t ≡ row → mode_of (changed_row core t change) t ≡ Dormant
-    by_row None at = ap (λ r. mode_of (on_row r core (λ x. with_row core t (change x))) t) at ∙ ap mode_of_row at
+    by_row None at = ap (λ c. mode_of c t) (changed-none core t change at) ∙ ap mode_of_row at
     by_row (Some row) at = mode_there core t change Dormant row gets at
 
 -- an active task is there
@@ -62,18 +58,27 @@ mode_active core t before suspended change mode gets active = by_row (row_of cor
     by_row None at = let no : Dormant ≡ Active before suspended = sym (ap mode_of_row at) ∙ active in let never : ⊥ = cc in absurd never
     by_row (Some row) at = mode_there core t change mode row gets at
 
--- a task's row is all that changes
-row_alone : (core : Core) (t : ℕ) (change : TaskRow → TaskRow) → changed_row core t change ≡ record core { tasks = (changed_row core t change).tasks }
-row_alone core t change = by_row (row_of core t)
+-- an active task keeps its mode where its row keeps it
+mode_kept : (core : Core) (t before : ℕ) (suspended : Bool) (change : TaskRow → TaskRow) → ((r : TaskRow) → (change r).mode ≡ r.mode) →
+    mode_of core t ≡ Active before suspended → mode_of (changed_row core t change) t ≡ Active before suspended
+mode_kept core t before suspended change keeps active = by_row (row_of core t) refl
   where
-    by_row : (row : Option TaskRow) → on_row row core (λ r. with_row core t (change r))
-        ≡ record core { tasks = (on_row row core (λ r. with_row core t (change r))).tasks }
-    by_row None = refl
-    by_row (Some row) = refl
+    by_row : (row : Option TaskRow) → row_of core t ≡ row → mode_of (changed_row core t change) t ≡ Active before suspended
+    by_row None at = ap (λ c. mode_of c t) (changed-none core t change at) ∙ active
+    by_row (Some row) at = ap mode_of_row (changed-here core t change row at) ∙ keeps row ∙ sym (ap mode_of_row at) ∙ active
 
--- an end
-abbrev ends_row : TaskRow → TaskRow
-ends_row row = record row { mode = Dormant; continuation = None }
+-- and then it keeps these starts
+kept_now : (core : Core) (t before : ℕ) (suspended : Bool) (kept : Kept) → mode_of core t ≡ Active before suspended →
+    kept_of (with_kept core t kept) t ≡ kept
+kept_now core t before suspended kept active = by_row (row_of core t) refl
+  where
+    by_row : (row : Option TaskRow) → row_of core t ≡ row → kept_of (with_kept core t kept) t ≡ kept
+    by_row None at = let no : Dormant ≡ Active before suspended = sym (ap mode_of_row at) ∙ active in let never : ⊥ = cc in absurd never
+    by_row (Some row) at = ap kept_in (changed-here core t (keeps_row kept) row at)
+
+-- a start
+abbrev active_row : ℕ → TaskRow → TaskRow
+active_row priority row = record row { mode = Active priority false; kept = kept.Nothing }
 
 abbrev stands_so : Mode → TaskRow → TaskRow
 stands_so mode row = record row { mode = mode }
@@ -97,7 +102,7 @@ module _ (core : Core) (own : ℕ) where
       ChangesTask core own t mode (e ∷ []) reply (leading (note (changed_row acted t change) e) reply ended)
   told_change t change mode e reply ended is = record {
     stands = is;
-    others = λ u differ. row-other acted t u change differ;
+    others = λ u differ. changed-other acted t u change differ;
     rest = ap (λ c. note c e) (row_alone acted t change);
     replies = refl;
   }
@@ -107,7 +112,7 @@ module _ (core : Core) (own : ℕ) where
       ChangesTask core own t mode [] reply (leading (with_mode acted t mode) reply ended)
   silent_change t mode reply ended is = record {
     stands = is;
-    others = λ u differ. row-other acted t u (stands_so mode) differ;
+    others = λ u differ. changed-other acted t u (stands_so mode) differ;
     rest = row_alone acted t (stands_so mode)
         ∙ ap (λ told. let c : Core = record acted { tasks = (with_mode acted t mode).tasks; told = told } in c) (sym (append-nil core.told));
     replies = refl;
@@ -138,21 +143,67 @@ module _ (core : Core) (own : ℕ) where
       let at = there_at core.tasks t less in
       let chosen = priority_or_declared core t priority in
       subst (λ mode. ChangesTask core own t (Active chosen false) (event.Start t chosen ∷ []) (Hears Nothing) (answering (started_by mode acted t chosen) Nothing))
-      (sym dormant) (told_change t (stands_so (Active chosen false)) (Active chosen false) (event.Start t chosen) (Hears Nothing) []
-      (mode_there acted t (stands_so (Active chosen false)) (Active chosen false) at.0 (λ r. refl) at.1))
+      (sym dormant) (told_change t (active_row chosen) (Active chosen false) (event.Start t chosen) (Hears Nothing) []
+      (mode_there acted t (active_row chosen) (Active chosen false) at.0 (λ r. refl) at.1))
+
+  -- what becomes of a start of an active task, where this is what it keeps then
+  late_start : (t before : ℕ) (suspended : Bool) (priority : Option ℕ) (more : Option Kept) → mode_of core t ≡ Active before suspended →
+      and_one (kept_of core t) (priority_or_declared core t priority) ≡ more →
+      effect core own (action.Activate t Free Once priority) ≡ answering (late_by more acted t) Nothing
+  unfolding effect
+  late_start t before suspended priority more active is =
+      ap (λ mode. answering (started_by mode acted t (priority_or_declared core t priority)) Nothing) active
+      ∙ ap (λ held. answering (late_by held acted t) Nothing) is
+
+  -- it is lost
+  lost_start : (t before : ℕ) (suspended : Bool) → mode_of core t ≡ Active before suspended →
+      ChangesTask core own t (Active before suspended) (event.Overrun t ∷ []) (Hears Nothing) (answering (late_by None acted t) Nothing)
+  lost_start t before suspended active = told_alone t (Active before suspended) (event.Overrun t) (Hears Nothing) [] active
+
+  -- or the task keeps it
+  kept_start : (t before : ℕ) (suspended : Bool) (more : Kept) → mode_of core t ≡ Active before suspended →
+      ChangesTask core own t (Active before suspended) (event.Kept t (length (priorities more)) ∷ []) (Hears Nothing)
+      (answering (late_by (Some more) acted t) Nothing)
+  kept_start t before suspended more active =
+      told_change t (keeps_row more) (Active before suspended) (event.Kept t (length (priorities more))) (Hears Nothing) []
+      (mode_kept acted t before suspended (keeps_row more) (λ r. refl) active)
 
   pub start_overruns : (t before : ℕ) (suspended : Bool) (priority : Option ℕ) → mode_of core t ≡ Active before suspended →
+      length (priorities (kept_of core t)) ≡ 3 →
       ChangesTask core own t (Active before suspended) (event.Overrun t ∷ []) (Hears Nothing) (effect core own (action.Activate t Free Once priority))
-  unfolding effect
-  start_overruns t before suspended priority active =
+  start_overruns t before suspended priority active three =
+      subst (ChangesTask core own t (Active before suspended) (event.Overrun t ∷ []) (Hears Nothing))
+      (sym (late_start t before suspended priority None active (no_room (kept_of core t) (priority_or_declared core t priority) three)))
+      (lost_start t before suspended active)
+
+  pub start_kept : (t before : ℕ) (suspended : Bool) (priority : Option ℕ) → mode_of core t ≡ Active before suspended →
+      length (priorities (kept_of core t)) < 3 →
+      KeepsOne core own t (priority_or_declared core t priority) (Active before suspended) (effect core own (action.Activate t Free Once priority))
+  start_kept t before suspended priority active room =
       let chosen = priority_or_declared core t priority in
-      subst (λ mode. ChangesTask core own t (Active before suspended) (event.Overrun t ∷ []) (Hears Nothing) (answering (started_by mode acted t chosen) Nothing))
-      (sym active) (told_alone t (Active before suspended) (event.Overrun t) (Hears Nothing) [] active)
+      let more = one_more (kept_of core t) chosen room in
+      subst (KeepsOne core own t chosen (Active before suspended))
+      (sym (late_start t before suspended priority (Some more.0) active more.1))
+      (record {
+        kept = ap priorities (kept_now acted t before suspended more.0 active) ∙ more.2;
+        changes =
+            subst (λ n. ChangesTask core own t (Active before suspended) (event.Kept t n ∷ []) (Hears Nothing)
+            (answering (late_by (Some more.0) acted t) Nothing)) more.3 (kept_start t before suspended more.0 active);
+      })
 
   pub start_late : (t before : ℕ) (suspended : Bool) (priority : Option ℕ) → mode_of core t ≡ Active before suspended →
       StartsLate core own t (Active before suspended) (effect core own (action.Activate t Free Once priority))
   start_late t before suspended priority active =
-      record { told = event.Overrun t; late = refl; changes = start_overruns t before suspended priority active }
+      let held = and_one (kept_of core t) (priority_or_declared core t priority) in
+      subst (StartsLate core own t (Active before suspended)) (sym (late_start t before suspended priority held active refl)) (by_more held)
+    where
+      by_more : (more : Option Kept) → StartsLate core own t (Active before suspended) (answering (late_by more acted t) Nothing)
+      by_more None = record { told = event.Overrun t; late = refl; changes = lost_start t before suspended active }
+      by_more (Some more) = record {
+        told = event.Kept t (length (priorities more));
+        late = refl;
+        changes = kept_start t before suspended more active;
+      }
 
   -- MARKS OF SUSPENSION
 
@@ -190,104 +241,138 @@ module _ (core : Core) (own : ℕ) where
 
   -- ENDS
 
-  pub end_ends : ChangesTask core own own Dormant (event.End own ∷ []) Ends (effect core own action.End)
-  unfolding effect
-  end_ends = told_change own ends_row Dormant (event.End own) Ends (own ∷ []) (mode_dormant acted own ends_row (λ r. refl))
+  -- an end, with what becomes of the starts that the task kept
+  ends_so : (t : ℕ) (e : Event) (reply : Reply) →
+      ChangesTask core own t (mode_behind (oldest (kept_of core t))) (e ∷ events_behind t (oldest (kept_of core t))) reply
+      (leading (ended_with acted t e) reply (t ∷ []))
+  ends_so t e reply = record {
+    stands = ended-mode acted t e;
+    others = λ u differ. ended-other acted t u e differ;
+    rest = ended-rest acted t e;
+    replies = refl;
+  }
 
-  pub trap_breaks_off : (trap : traps.Trap) → ChangesTask core own own Dormant (event.Trap own trap ∷ []) Ends (effect core own (action.Trap trap))
-  unfolding effect
-  trap_breaks_off trap = told_change own ends_row Dormant (event.Trap own trap) Ends (own ∷ []) (mode_dormant acted own ends_row (λ r. refl))
+  -- where it kept none it is dormant
+  ends_dormant : (t : ℕ) (e : Event) (reply : Reply) → kept_of core t ≡ kept.Nothing →
+      ChangesTask core own t Dormant (e ∷ []) reply (leading (ended_with acted t e) reply (t ∷ []))
+  ends_dormant t e reply none =
+      subst (λ k. ChangesTask core own t (mode_behind (oldest k)) (e ∷ events_behind t (oldest k)) reply
+      (leading (ended_with acted t e) reply (t ∷ []))) none (ends_so t e reply)
+
+  -- else it is started with the oldest
+  ends_serving : (t : ℕ) (e : Event) (reply : Reply) (first : ℕ) (others : List ℕ) → priorities (kept_of core t) ≡ first ∷ others →
+      ServesFirst core own t e reply first others (leading (ended_with acted t e) reply (t ∷ []))
+  ends_serving t e reply first others is =
+      let next = oldest-is (kept_of core t) first others is in
+      record {
+        kept = ap priorities (ended-kept acted t e ∙ ap kept_behind next.1) ∙ next.2;
+        changes =
+            subst (λ o. ChangesTask core own t (mode_behind o) (e ∷ events_behind t o) reply
+            (leading (ended_with acted t e) reply (t ∷ []))) next.1 (ends_so t e reply);
+      }
+
+  -- the end is told first
+  ends_told : (t : ℕ) (e : Event) (reply : Reply) → EndsTask core own t e reply (leading (ended_with acted t e) reply (t ∷ []))
+  ends_told t e reply =
+      let next = oldest (kept_of core t) in
+      let changes = ends_so t e reply in
+      record {
+        behind = events_behind t next;
+        told_behind = subst (λ mode. IsToldBehind t mode (events_behind t next)) (sym (ended-mode acted t e)) (told_of next);
+        changes = record { stands = refl; others = changes.others; rest = changes.rest; replies = changes.replies };
+        goes_on = ended-goes_on acted t e;
+        starts = ended-starts acted t e;
+        ended = refl;
+      }
+    where
+      told_of : (next : Option (ℕ × Kept)) → IsToldBehind t (mode_behind next) (events_behind t next)
+      told_of None = refl
+      told_of (Some (first, others)) = (refl, refl)
 
   -- an active task that is ended from outside
-  stops : (t : ℕ) (reply : Reply) (priority : ℕ) (suspended : Bool) → mode_of core t ≡ Active priority suspended →
-      ChangesTask core own t Dormant (event.Stop t ∷ []) reply (leading (stopped_by (mode_of core t) acted t) reply (stopped_tasks (mode_of core t) t))
-  stops t reply priority suspended active =
-      subst (λ mode. ChangesTask core own t Dormant (event.Stop t ∷ []) reply (leading (stopped_by mode acted t) reply (stopped_tasks mode t)))
-      (sym active) (told_change t ends_row Dormant (event.Stop t) reply (t ∷ []) (mode_dormant acted t ends_row (λ r. refl)))
+  terminated : (t priority : ℕ) (suspended : Bool) → mode_of core t ≡ Active priority suspended → t ≢ own →
+      effect core own (action.Terminate t) ≡ leading (ended_with acted t (event.Stop t)) (Hears Nothing) (t ∷ [])
+  unfolding effect
+  terminated t priority suspended active other =
+      ap₂ (λ mode is_own. leading (stopped_by mode acted t) (reply_if_other is_own) (stopped_tasks mode t)) active (ne_eqb t own other)
+
+  -- or ends itself so
+  terminated_itself : (priority : ℕ) (suspended : Bool) → mode_of core own ≡ Active priority suspended →
+      effect core own (action.Terminate own) ≡ leading (ended_with acted own (event.Stop own)) Ends (own ∷ [])
+  unfolding effect
+  terminated_itself priority suspended active =
+      ap₂ (λ mode is_own. leading (stopped_by mode acted own) (reply_if_other is_own) (stopped_tasks mode own)) active (eq-eqb own own refl)
+
+  -- A TASK THAT KEPT NONE
+
+  pub end_ends : kept_of core own ≡ kept.Nothing → ChangesTask core own own Dormant (event.End own ∷ []) Ends (effect core own action.End)
+  unfolding effect
+  end_ends none = ends_dormant own (event.End own) Ends none
+
+  pub trap_breaks_off : (trap : traps.Trap) → kept_of core own ≡ kept.Nothing →
+      ChangesTask core own own Dormant (event.Trap own trap ∷ []) Ends (effect core own (action.Trap trap))
+  unfolding effect
+  trap_breaks_off trap none = ends_dormant own (event.Trap own trap) Ends none
 
   pub terminate_stops : (t priority : ℕ) (suspended : Bool) → mode_of core t ≡ Active priority suspended → t ≢ own →
-      ChangesTask core own t Dormant (event.Stop t ∷ []) (Hears Nothing) (effect core own (action.Terminate t))
-  unfolding effect
-  terminate_stops t priority suspended active other =
-      subst (λ b. ChangesTask core own t Dormant (event.Stop t ∷ []) (Hears Nothing)
-      (leading (stopped_by (mode_of core t) acted t) (reply_if_other b) (stopped_tasks (mode_of core t) t)))
-      (sym (ne_eqb t own other)) (stops t (Hears Nothing) priority suspended active)
+      kept_of core t ≡ kept.Nothing → ChangesTask core own t Dormant (event.Stop t ∷ []) (Hears Nothing) (effect core own (action.Terminate t))
+  terminate_stops t priority suspended active other none =
+      subst (ChangesTask core own t Dormant (event.Stop t ∷ []) (Hears Nothing)) (sym (terminated t priority suspended active other))
+      (ends_dormant t (event.Stop t) (Hears Nothing) none)
 
   pub terminate_stops_itself : (priority : ℕ) (suspended : Bool) → mode_of core own ≡ Active priority suspended →
-      ChangesTask core own own Dormant (event.Stop own ∷ []) Ends (effect core own (action.Terminate own))
+      kept_of core own ≡ kept.Nothing → ChangesTask core own own Dormant (event.Stop own ∷ []) Ends (effect core own (action.Terminate own))
+  terminate_stops_itself priority suspended active none =
+      subst (ChangesTask core own own Dormant (event.Stop own ∷ []) Ends) (sym (terminated_itself priority suspended active))
+      (ends_dormant own (event.Stop own) Ends none)
+
+  -- A TASK THAT KEPT SOME
+
+  pub end_serves : (first : ℕ) (others : List ℕ) → priorities (kept_of core own) ≡ first ∷ others →
+      ServesFirst core own own (event.End own) Ends first others (effect core own action.End)
   unfolding effect
-  terminate_stops_itself priority suspended active =
-      subst (λ b. ChangesTask core own own Dormant (event.Stop own ∷ []) Ends
-      (leading (stopped_by (mode_of core own) acted own) (reply_if_other b) (stopped_tasks (mode_of core own) own)))
-      (sym (eq-eqb own own refl)) (stops own Ends priority suspended active)
+  end_serves first others is = ends_serving own (event.End own) Ends first others is
+
+  pub trap_serves : (trap : traps.Trap) (first : ℕ) (others : List ℕ) → priorities (kept_of core own) ≡ first ∷ others →
+      ServesFirst core own own (event.Trap own trap) Ends first others (effect core own (action.Trap trap))
+  unfolding effect
+  trap_serves trap first others is = ends_serving own (event.Trap own trap) Ends first others is
+
+  pub stop_serves : (t priority : ℕ) (suspended : Bool) → mode_of core t ≡ Active priority suspended → t ≢ own →
+      (first : ℕ) (others : List ℕ) → priorities (kept_of core t) ≡ first ∷ others →
+      ServesFirst core own t (event.Stop t) (Hears Nothing) first others (effect core own (action.Terminate t))
+  stop_serves t priority suspended active other first others is =
+      subst (ServesFirst core own t (event.Stop t) (Hears Nothing) first others) (sym (terminated t priority suspended active other))
+      (ends_serving t (event.Stop t) (Hears Nothing) first others is)
+
+  pub stop_itself_serves : (priority : ℕ) (suspended : Bool) → mode_of core own ≡ Active priority suspended →
+      (first : ℕ) (others : List ℕ) → priorities (kept_of core own) ≡ first ∷ others →
+      ServesFirst core own own (event.Stop own) Ends first others (effect core own (action.Terminate own))
+  stop_itself_serves priority suspended active first others is =
+      subst (ServesFirst core own own (event.Stop own) Ends first others) (sym (terminated_itself priority suspended active))
+      (ends_serving own (event.Stop own) Ends first others is)
 
   -- THE END IS TOLD FIRST
 
-  -- an end after which the task is dormant
-  dormant_end : (t : ℕ) (told : Event) (reply : Reply) (done : Effect) → ChangesTask core own t Dormant (told ∷ []) reply done →
-      continuation_of done.core t ≡ None → activation_of done.core t ≡ activation_of core t → done.ended ≡ t ∷ [] →
-      EndsTask core own t told reply done
-  dormant_end t told reply done changes goes_on starts ended = record {
-    behind = [];
-    told_behind = subst (λ mode. IsToldBehind t mode []) (sym changes.stands) refl;
-    changes = record { stands = refl; others = changes.others; rest = changes.rest; replies = changes.replies };
-    goes_on = goes_on;
-    starts = starts;
-    ended = ended;
-  }
-
-  -- it goes on by no plan, and the plan by which it is started stays
-  no_continuation : (t : ℕ) → continuation_of (finished acted t) t ≡ None
-  no_continuation t = by_row (row_of acted t) refl
-    where
-      by_row : (row : Option TaskRow) → row_of acted t ≡ row → continuation_of (on_row row acted (λ r. with_row acted t (ends_row r))) t ≡ None
-      by_row None at = ap continuation_in at
-      by_row (Some row) at = ap continuation_in (set-same acted.tasks t row (ends_row row) at)
-
-  same_activation : (t : ℕ) → activation_of (finished acted t) t ≡ activation_of core t
-  same_activation t = by_row (row_of acted t) refl
-    where
-      by_row : (row : Option TaskRow) → row_of acted t ≡ row →
-          activation_of (on_row row acted (λ r. with_row acted t (ends_row r))) t ≡ activation_of core t
-      by_row None at = refl
-      by_row (Some row) at = ap activation_in (set-same acted.tasks t row (ends_row row) at) ∙ sym (ap activation_in at)
-
-  finished_end : (t : ℕ) (told : Event) (reply : Reply) → EndsTask core own t told reply (leading (note (finished acted t) told) reply (t ∷ []))
-  finished_end t told reply =
-      dormant_end t told reply (leading (note (finished acted t) told) reply (t ∷ []))
-      (told_change t ends_row Dormant told reply (t ∷ []) (mode_dormant acted t ends_row (λ r. refl)))
-      (no_continuation t) (same_activation t) refl
-
   pub end_told : EndsTask core own own (event.End own) Ends (effect core own action.End)
   unfolding effect
-  end_told = finished_end own (event.End own) Ends
+  end_told = ends_told own (event.End own) Ends
 
   pub trap_told : (trap : traps.Trap) → EndsTask core own own (event.Trap own trap) Ends (effect core own (action.Trap trap))
   unfolding effect
-  trap_told trap = finished_end own (event.Trap own trap) Ends
-
-  -- of an active task that is ended from outside
-  stopped_told : (t : ℕ) (reply : Reply) (priority : ℕ) (suspended : Bool) → mode_of core t ≡ Active priority suspended →
-      EndsTask core own t (event.Stop t) reply (leading (stopped_by (mode_of core t) acted t) reply (stopped_tasks (mode_of core t) t))
-  stopped_told t reply priority suspended active =
-      subst (λ mode. EndsTask core own t (event.Stop t) reply (leading (stopped_by mode acted t) reply (stopped_tasks mode t)))
-      (sym active) (finished_end t (event.Stop t) reply)
+  trap_told trap = ends_told own (event.Trap own trap) Ends
 
   pub stop_told : (t priority : ℕ) (suspended : Bool) → mode_of core t ≡ Active priority suspended → t ≢ own →
       EndsTask core own t (event.Stop t) (Hears Nothing) (effect core own (action.Terminate t))
-  unfolding effect
   stop_told t priority suspended active other =
-      subst (λ b. EndsTask core own t (event.Stop t) (Hears Nothing)
-      (leading (stopped_by (mode_of core t) acted t) (reply_if_other b) (stopped_tasks (mode_of core t) t)))
-      (sym (ne_eqb t own other)) (stopped_told t (Hears Nothing) priority suspended active)
+      subst (EndsTask core own t (event.Stop t) (Hears Nothing)) (sym (terminated t priority suspended active other))
+      (ends_told t (event.Stop t) (Hears Nothing))
 
   pub stop_itself_told : (priority : ℕ) (suspended : Bool) → mode_of core own ≡ Active priority suspended →
       EndsTask core own own (event.Stop own) Ends (effect core own (action.Terminate own))
-  unfolding effect
   stop_itself_told priority suspended active =
-      subst (λ b. EndsTask core own own (event.Stop own) Ends
-      (leading (stopped_by (mode_of core own) acted own) (reply_if_other b) (stopped_tasks (mode_of core own) own)))
-      (sym (eq-eqb own own refl)) (stopped_told own Ends priority suspended active)
+      subst (EndsTask core own own (event.Stop own) Ends) (sym (terminated_itself priority suspended active))
+      (ends_told own (event.Stop own) Ends)
 
   pub dormant_stopped : (t : ℕ) → mode_of core t ≡ Dormant → t ≢ own →
       ChangesTask core own t Dormant [] (Hears Nothing) (effect core own (action.Terminate t))

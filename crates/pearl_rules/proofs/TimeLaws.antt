@@ -1,5 +1,5 @@
--- A dormant task has no plan to go on, and the plans of tasks have series with near moments.
-use Rattle.std.proofs.Common.{◌≡◌, ℕ, ◌+◌, ◌^◌, ◌≤◌, List, [], ◌∷◌, true, Option, Some, None, IfSome, IsSome, map, refl, sym, ap, subst, ◌∙◌, arith}
+-- A dormant task has no plan to go on and keeps no start, and the plans of tasks have series with near moments.
+use Rattle.std.proofs.Common.{◌≡◌, ℕ, ◌+◌, ◌^◌, ◌≤◌, inl, inr, List, [], ◌∷◌, true, Option, Some, None, IfSome, IsSome, map, refl, sym, ap, subst, ◌∙◌, arith}
 use Rattle.std.specs.List.{AllByRecursion}
 use Rattle.std.proofs.lemmas.Bool.{true≢false}
 use Rattle.std.proofs.lemmas.Option.{none-some, same_Some}
@@ -12,6 +12,8 @@ use Rattle.pearl_rules.specs.declared.action.Repeat.TheVariants.{Once}
 use Rattle.pearl_rules.specs.declared.entry.Entry.{Entry}
 use Rattle.pearl_rules.specs.declared.row.Mode.{Mode}
 use Rattle.pearl_rules.specs.declared.row.Mode.TheVariants.{Dormant, Active}
+use Rattle.pearl_rules.specs.declared.row.Kept.{Kept}
+use Rattle.pearl_rules.specs.declared.row.Kept.TheVariants as kept
 use Rattle.pearl_rules.specs.declared.row.Plan.{Plan}
 use Rattle.pearl_rules.specs.declared.row.Activation.{Activation}
 use Rattle.pearl_rules.specs.declared.row.TaskRow.{TaskRow}
@@ -25,8 +27,8 @@ use Rattle.pearl_rules.specs.Pick.{Offered, turned}
 use Rattle.pearl_rules.specs.Slots.{Fits, IsStart, IsRepeat, IsPlan, IsPlannedRow, IsTimed, IsTimedRow, HasTimes}
 use Rattle.pearl_rules.specs.Entries.{IsFitting}
 use Rattle.pearl_rules.proofs.Places.{each_at, all_set, set-same}
-use Rattle.pearl_rules.proofs.Serving.{Stays, Starts, Goes, ClosedFor, ClosedAtEnds, OnlyValues, BringsTo, effect-stays, millisecond-keeps, arrived-keeps}
-use Rattle.pearl_rules.proofs.EffectLaws.{AnyPriority}
+use Rattle.pearl_rules.proofs.Serving.{Stays, MayKeep, Starts, Goes, ClosedFor, ClosedAtEnds, OnlyValues, BringsTo, effect-stays, millisecond-keeps, arrived-keeps}
+use Rattle.pearl_rules.proofs.EffectLaws.{AnyPriority, any_kept}
 use Rattle.pearl_rules.proofs.PickLaws.{turned-is}
 use Rattle.pearl_rules.proofs.UrgencyLaws.{lawful_planned, once_starts, later_once, with_series, plans_set, plans_moved, plans_at, opening-plans, clock_fits}
 
@@ -52,6 +54,12 @@ still_dormant Dormant mode stays is = refl
 still_dormant (Active own before) Dormant stays is = absurd stays
 still_dormant (Active own before) (Active priority suspended) stays is = absurd
     (dormant_not (Active priority suspended) is refl)
+
+-- keeps none where it kept none
+still_none : (row : TaskRow) (mode : Mode) (held : Kept) → IsTimedRow row → Stays AnyPriority row.mode mode →
+    MayKeep AnyPriority row mode held → mode ≡ Dormant → held ≡ kept.Nothing
+still_none row mode held timed stays (inl same) is = same ∙ timed.keeps_none (still_dormant row.mode mode stays is)
+still_none row mode held timed stays (inr active) is = absurd (dormant_not mode is active.0)
 
 module _ (setup : Setup) where
   -- a lawful plan with such moments
@@ -119,10 +127,23 @@ module _ (setup : Setup) where
   with_plan : (row : TaskRow) (plan : Option Plan) → IfSome plan (Goes IsGood IsActive row.mode) →
       IsPlannedRow setup row → IsTimedRow row →
       IsPlannedRow setup (record row { continuation = plan }) × IsTimedRow (record row { continuation = plan })
-  with_plan row None goes lawful timed = ((tt, lawful.1), record { dormant = λ is. refl; goes_on = tt; starts = timed.starts })
+  with_plan row None goes lawful timed = (
+    (tt, lawful.1),
+    record {
+      dormant = λ is. refl;
+      keeps_none = timed.keeps_none;
+      goes_on = tt;
+      starts = timed.starts;
+    },
+  )
   with_plan row (Some plan) goes lawful timed = (
     (goes.0.0, lawful.1),
-    record { dormant = λ is. absurd (dormant_not row.mode is goes.1); goes_on = goes.0.1; starts = timed.starts },
+    record {
+      dormant = λ is. absurd (dormant_not row.mode is goes.1);
+      keeps_none = timed.keeps_none;
+      goes_on = goes.0.1;
+      starts = timed.starts;
+    },
   )
 
   both_goes : (row : TaskRow) (plan : Option Plan) → row.continuation ≡ plan → IfSome plan (IsPlan setup) →
@@ -139,10 +160,11 @@ module _ (setup : Setup) where
   times_closed : ClosedFor AnyPriority IsGood IsActive (HasTimes setup)
   times_closed = record {
     told = λ core e has. moved core _ has.moment refl refl has;
-    stands = λ core t row mode at stays has.
+    stands = λ core t row mode held at stays keeps has.
         let timed = row_at core t row at has in
-        row_set core t (record row { mode = mode }) (plans_at setup core t row at has.lawful) (record {
+        row_set core t (record row { mode = mode; kept = held }) (plans_at setup core t row at has.lawful) (record {
           dormant = λ is. timed.dormant (still_dormant row.mode mode stays is);
+          keeps_none = still_none row mode held timed stays keeps;
           goes_on = timed.goes_on;
           starts = timed.starts;
         }) has;
@@ -152,12 +174,13 @@ module _ (setup : Setup) where
     starts = λ core t row plan at good has.
         let timed = row_at core t row at has in
         row_set core t (record row { activation = Some plan }) ((plans_at setup core t row at has.lawful).0, good.1.0)
-        (record { dormant = timed.dormant; goes_on = timed.goes_on; starts = good.1.1 }) has;
+        (record { dormant = timed.dormant; keeps_none = timed.keeps_none; goes_on = timed.goes_on; starts = good.1.1 }) has;
     going = λ core t row at has.
         let timed = row_at core t row at has in
         both_goes row row.continuation refl (plans_at setup core t row at has.lawful).0 timed.goes_on timed;
     starting = λ core t row at has.
         both_starts row.activation (plans_at setup core t row at has.lawful).1 (row_at core t row at has).starts;
+    keeping = λ core t row at has. any_kept row.kept;
     begins = λ core plan has good. good_begun core plan has good;
     active = λ mode is. is;
   }
@@ -165,12 +188,12 @@ module _ (setup : Setup) where
   times_at_ends : ClosedAtEnds (HasTimes setup)
   times_at_ends = record {
     ends = λ core t row at has.
-        row_set core t (record row { mode = Dormant; continuation = None })
+        row_set core t (record row { mode = Dormant; kept = kept.Nothing; continuation = None })
         (tt, (plans_at setup core t row at has.lawful).1)
-        (record { dormant = λ is. refl; goes_on = tt; starts = (row_at core t row at has).starts }) has;
+        (record { dormant = λ is. refl; keeps_none = λ is. refl; goes_on = tt; starts = (row_at core t row at has).starts }) has;
     prevents = λ core t row at has.
-        row_set core t (record row { continuation = None; activation = None }) (tt, tt)
-        (record { dormant = λ is. refl; goes_on = tt; starts = tt }) has;
+        row_set core t (record row { kept = kept.Nothing; continuation = None; activation = None }) (tt, tt)
+        (record { dormant = λ is. refl; keeps_none = λ is. refl; goes_on = tt; starts = tt }) has;
   }
 
   times_free : (core other : Core) → OnlyValues core other → HasTimes setup core → HasTimes setup other
@@ -209,7 +232,7 @@ module _ (setup : Setup) where
   -- at the start there are no plans
   no_rows : (tasks : List TaskEntry) → AllByRecursion IsTimedRow (map first_row tasks)
   no_rows [] = tt
-  no_rows (task ∷ tasks) = (record { dormant = λ is. refl; goes_on = tt; starts = tt }, no_rows tasks)
+  no_rows (task ∷ tasks) = (record { dormant = λ is. refl; keeps_none = λ is. refl; goes_on = tt; starts = tt }, no_rows tasks)
 
 pub opening-times : (setup : Setup) → HasTimes setup (opening setup)
 opening-times setup = record { moment = omega arith; lawful = opening-plans setup; rows = no_rows setup setup.tasks }

@@ -18,6 +18,8 @@ use Rattle.pearl_rules.specs.declared.entry.Entry.{Entry}
 use Rattle.pearl_rules.specs.declared.entry.Entry.TheVariants as entry
 use Rattle.pearl_rules.specs.declared.event.Event.{Event}
 use Rattle.pearl_rules.specs.declared.event.Event.TheVariants as event
+use Rattle.pearl_rules.specs.declared.row.Kept.{Kept}
+use Rattle.pearl_rules.specs.declared.row.Kept.TheVariants as kept
 use Rattle.pearl_rules.specs.declared.row.Mode.{Mode}
 use Rattle.pearl_rules.specs.declared.row.Mode.TheVariants.{Dormant, Active}
 use Rattle.pearl_rules.specs.declared.row.End.{End}
@@ -27,10 +29,10 @@ use Rattle.pearl_rules.specs.declared.row.Activation.{Activation}
 use Rattle.pearl_rules.specs.declared.row.TaskRow.{TaskRow}
 use Rattle.pearl_rules.specs.Core.{Core, Channel, Switch, Bytes, Values, Outward, Report, Happened, note, row_of, with_row, mode_of, is_active, told_before}
 use Rattle.pearl_rules.specs.Counts.{count_at, all_below_most}
-use Rattle.pearl_rules.specs.Plans.{on_row, changed_row, with_mode, with_continuation, with_activation, continuation_of, activation_of, started_by, started, marked_mode, with_mark, written, first_moment, last_moment, series_from, waits_for, first_series, planned, begun, serves_if, continued, serve_continuation, serve_activation_by, serve_activation, plan_continuation, plan_activation, each_task, served, millisecond, begin_continuation, begin_activation, continuation_began, reached, occurred}
+use Rattle.pearl_rules.specs.Plans.{on_row, changed_row, priorities, and_one, oldest, kept_of, with_kept, made_active, late_by, with_mode, with_continuation, with_activation, continuation_of, activation_of, started_by, started, marked_mode, with_mark, written, first_moment, last_moment, series_from, waits_for, first_series, planned, begun, serves_if, continued, serve_continuation, serve_activation_by, serve_activation, plan_continuation, plan_activation, each_task, served, millisecond, begin_continuation, begin_activation, continuation_began, reached, occurred}
 use Rattle.pearl_rules.specs.Devices.{channel_of, with_channel, is_enabled, interrupted, items_of, bytes_at, terminal_room, with_bytes, without_bytes, values_at, input_room, joined, with_value_by, with_value, without_value_by, without_value, arrived}
 use Rattle.pearl_rules.specs.Scan.{Scanned, Short, Bad, Got, scan}
-use Rattle.pearl_rules.specs.Effect.{Reply, Ends, Effect, effect, finished, answering, ending, priority_or_declared, is_at_once, activated, continues, resuming, prevented, stopped_by, stopped_tasks, reply_if_other, stopping, releasing, trying, getting, taking}
+use Rattle.pearl_rules.specs.Effect.{Reply, Ends, Effect, effect, finished, again_by, ended_with, answering, ending, priority_or_declared, is_at_once, activated, continues, resuming, prevented, stopped_by, stopped_tasks, reply_if_other, stopping, releasing, trying, getting, taking}
 use Rattle.pearl_rules.specs.Pick.{Offered, pick, last_if, is_as_urgent, can_turn, turned, shown_of, states, showing, is_ready_row}
 use Rattle.pearl_rules.specs.Laws.{effect_told_before}
 use Rattle.pearl_rules.proofs.PickLaws.{pick-offers, states-offers, possible-same}
@@ -64,15 +66,26 @@ module _ (before : List (ℕ × Report)) where
   mode-told : (core : Core) (t : ℕ) (mode : Mode) → with_mode (later core) t mode ≡ later (with_mode core t mode)
   mode-told core t mode = row-told core t (λ row. record row { mode = mode })
 
+  -- a dormant task becomes active
+  made_active-told : (core : Core) (t priority : ℕ) (held : Kept) → made_active (later core) t priority held ≡ later (made_active core t priority held)
+  made_active-told core t priority held =
+      ap (λ c. note c (event.Start t priority)) (row-told core t (λ row. record row { mode = Active priority false; kept = held }))
+      ∙ note-told (changed_row core t (λ row. record row { mode = Active priority false; kept = held })) (event.Start t priority)
+
+  -- a start of an active task
+  late-told : (core : Core) (t : ℕ) (more : Option Kept) → late_by more (later core) t ≡ later (late_by more core t)
+  late-told core t None = note-told core (event.Overrun t)
+  late-told core t (Some held) =
+      ap (λ c. note c (event.Kept t (length (priorities held)))) (row-told core t (λ row. record row { kept = held }))
+      ∙ note-told (with_kept core t held) (event.Kept t (length (priorities held)))
+
   -- a start
   started-told : (core : Core) (t priority : ℕ) → started (later core) t priority ≡ later (started core t priority)
   started-told core t priority = by_mode (mode_of core t)
     where
       by_mode : (mode : Mode) → started_by mode (later core) t priority ≡ later (started_by mode core t priority)
-      by_mode Dormant =
-          ap (λ c. note c (event.Start t priority)) (mode-told core t (Active priority false))
-          ∙ note-told (with_mode core t (Active priority false)) (event.Start t priority)
-      by_mode (Active own suspended) = note-told core (event.Overrun t)
+      by_mode Dormant = made_active-told core t priority kept.Nothing
+      by_mode (Active own suspended) = late-told core t (and_one (kept_of core t) priority)
 
   -- a mark of suspension
   mark-told : (core : Core) (t : ℕ) (suspended : Bool) → with_mark (later core) t suspended ≡ later (with_mark core t suspended)
@@ -239,11 +252,21 @@ module _ (before : List (ℕ × Report)) where
 
   -- ACTIONS
 
-  -- an end
+  -- an end, behind which the task may be started
+  again-told : (next : Option (ℕ × Kept)) (core : Core) (t : ℕ) → again_by next (later core) t ≡ later (again_by next core t)
+  again-told None core t = refl
+  again-told (Some (first, others)) core t = made_active-told core t first others
+
+  ended-told : (core : Core) (t : ℕ) (e : Event) → ended_with (later core) t e ≡ later (ended_with core t e)
+  ended-told core t e =
+      ap (λ c. again_by (oldest (kept_of core t)) c t)
+      (ap (λ c. note c e) (row-told core t (λ row. record row { mode = Dormant; kept = kept.Nothing; continuation = None }))
+      ∙ note-told (finished core t) e)
+      ∙ again-told (oldest (kept_of core t)) (note (finished core t) e) t
+
   ending-told : (core : Core) (own : ℕ) (e : Event) → ending (later core) own e ≡ effect_told_before before (ending core own e)
   ending-told core own e =
-      ap (λ c. let done : Effect = record { core = c; reply = Ends; ended = own ∷ [] } in done)
-      (ap (λ c. note c e) (row-told core own (λ row. record row { mode = Dormant; continuation = None })) ∙ note-told (finished core own) e)
+      ap (λ c. let done : Effect = record { core = c; reply = Ends; ended = own ∷ [] } in done) (ended-told core own e)
 
   -- an end from outside
   stopping-told : (core : Core) (own t : ℕ) → stopping (later core) own t ≡ effect_told_before before (stopping core own t)
@@ -255,10 +278,7 @@ module _ (before : List (ℕ × Report)) where
       by_mode : (mode : Mode) (reply : Reply) → of (stopped_by mode (later core) t) reply (stopped_tasks mode t)
           ≡ effect_told_before before (of (stopped_by mode core t) reply (stopped_tasks mode t))
       by_mode Dormant reply = refl
-      by_mode (Active priority suspended) reply =
-          ap (λ c. of c reply (t ∷ []))
-          (ap (λ c. note c (event.Stop t)) (row-told core t (λ row. record row { mode = Dormant; continuation = None }))
-          ∙ note-told (finished core t) (event.Stop t))
+      by_mode (Active priority suspended) reply = ap (λ c. of c reply (t ∷ [])) (ended-told core t (event.Stop t))
 
   -- a release
   releasing-told : (core : Core) (own : ℕ) (semaphores : List ℕ) (can_raise : Bool) →
@@ -348,7 +368,7 @@ module _ (before : List (ℕ × Report)) where
   effect-told_before core own (action.Terminate t) = stopping-told (record core { last = Some own }) own t
   effect-told_before core own (action.Prevent t) =
       answering-told (prevented (record core { last = Some own }) t) _ Nothing
-      (row-told (record core { last = Some own }) t (λ row. record row { continuation = None; activation = None }))
+      (row-told (record core { last = Some own }) t (λ row. record row { kept = kept.Nothing; continuation = None; activation = None }))
   effect-told_before core own (action.Enable device) = refl
   effect-told_before core own (action.Disable device) = refl
   effect-told_before core own (action.Trigger device) =

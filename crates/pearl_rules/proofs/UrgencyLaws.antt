@@ -1,5 +1,5 @@
 -- The priorities of tasks: the declared ones stay, and all are from 1 to 255; and each plan is a lawful one.
-use Rattle.std.proofs.Common.{◌≡◌, ℕ, ◌^◌, ◌<◌, ◌≤◌, ℤ, pos, negsuc, slice_get, List, [], ◌∷◌, Bool, true, false, Option, Some, None, IfSome, map, refl, sym, ap, subst, ◌∙◌, arith}
+use Rattle.std.proofs.Common.{◌≡◌, ℕ, ◌^◌, ◌<◌, ◌≤◌, inl, inr, ℤ, pos, negsuc, slice_get, List, [], ◌∷◌, Bool, true, false, Option, Some, None, IfSome, map, refl, sym, ap, subst, ◌∙◌, arith}
 use Rattle.std.proofs.lemmas.Int.{ints}
 use Rattle.std.specs.List.{AllByRecursion}
 use Rattle.pearl_rules.specs.declared.action.Action.{Action}
@@ -13,6 +13,8 @@ use Rattle.pearl_rules.specs.declared.entry.Entry.{Entry}
 use Rattle.pearl_rules.specs.declared.entry.Entry.TheVariants as entry
 use Rattle.pearl_rules.specs.declared.row.Mode.{Mode}
 use Rattle.pearl_rules.specs.declared.row.Mode.TheVariants.{Dormant, Active}
+use Rattle.pearl_rules.specs.declared.row.Kept.{Kept}
+use Rattle.pearl_rules.specs.declared.row.Kept.TheVariants as kept
 use Rattle.pearl_rules.specs.declared.series.Series.{Series}
 use Rattle.pearl_rules.specs.declared.row.Plan.{Plan}
 use Rattle.pearl_rules.specs.declared.row.Activation.{Activation}
@@ -21,15 +23,15 @@ use Rattle.pearl_rules.specs.declared.setup.Setup.{Setup}
 use Rattle.pearl_rules.specs.declared.setup.TaskEntry.{TaskEntry}
 use Rattle.pearl_rules.specs.Tables.{IsTaskEntry, IsInterrupt}
 use Rattle.pearl_rules.specs.Core.{Core, row_of, with_row, first_mode, first_row, declared_of, opening}
-use Rattle.pearl_rules.specs.Plans.{milliseconds, interrupt_of, after_of, period_of, end_of, written, first_series, begun, planned, millisecond}
+use Rattle.pearl_rules.specs.Plans.{priorities, milliseconds, interrupt_of, after_of, period_of, end_of, written, first_series, begun, planned, millisecond}
 use Rattle.pearl_rules.specs.Devices.{arrived}
 use Rattle.pearl_rules.specs.Effect.{declared_or_zero, priority_or_declared, effect}
 use Rattle.pearl_rules.specs.Pick.{Offered, turned}
 use Rattle.pearl_rules.specs.Slots.{IsUrgency, Fits, Lasts, IsStart, IsOnce, IsLater, IsRepeat, IsEnd, IsUrgentMode, IsUrgentRow, HasUrgencies, IsPlan, IsPlannedRow, HasPlans}
 use Rattle.pearl_rules.specs.Entries.{IsFitting}
 use Rattle.pearl_rules.proofs.Places.{each_at, all_set}
-use Rattle.pearl_rules.proofs.Serving.{Stays, Starts, Closed, ClosedAtEnds, OnlyValues, Brings, millisecond-kept, arrived-kept, effect-free}
-use Rattle.pearl_rules.proofs.EffectLaws.{AnyPriority, AnyPlan, any_continuation, with_clock_of, arrived-leaves}
+use Rattle.pearl_rules.proofs.Serving.{Stays, MayKeep, Starts, Closed, ClosedAtEnds, OnlyValues, Brings, millisecond-kept, arrived-kept, effect-free}
+use Rattle.pearl_rules.proofs.EffectLaws.{AnyPriority, AnyPlan, any_continuation, any_kept, with_clock_of, arrived-leaves}
 use Rattle.pearl_rules.proofs.PickLaws.{turned-is}
 
 -- PRIORITIES
@@ -40,6 +42,12 @@ urgent_mode Dormant Dormant stays is = tt
 urgent_mode Dormant (Active priority suspended) stays is = stays
 urgent_mode (Active own before) Dormant stays is = tt
 urgent_mode (Active own before) (Active priority suspended) stays is = subst IsUrgency stays is
+
+-- and so it is of what it keeps
+urgent_kept : (row : TaskRow) (mode : Mode) (held : Kept) → MayKeep IsUrgency row mode held → IsUrgentRow row →
+    AllByRecursion IsUrgency (priorities held)
+urgent_kept row mode held (inl same) is = subst (λ k. AllByRecursion IsUrgency (priorities k)) (sym same) is.2
+urgent_kept row mode held (inr all) is = all.1
 
 -- a task's row
 urgent_at : (core : Core) (t : ℕ) (row : TaskRow) → row_of core t ≡ Some row → HasUrgencies core → IsUrgentRow row
@@ -52,15 +60,17 @@ urgent_starts (Some plan) is = (is, tt)
 urgent_closed : Closed IsUrgency AnyPlan HasUrgencies
 urgent_closed = record {
   told = λ core e has. has;
-  stands = λ core t row mode at stays has.
+  stands = λ core t row mode held at stays keeps has.
       let is = urgent_at core t row at has in
-      all_set IsUrgentRow core.tasks has t (record row { mode = mode }) (is.0, urgent_mode row.mode mode stays is.1, is.2);
+      all_set IsUrgentRow core.tasks has t (record row { mode = mode; kept = held })
+      (is.0, urgent_mode row.mode mode stays is.1, urgent_kept row mode held keeps is, is.3);
   goes_on = λ core t row plan at lawful has. all_set IsUrgentRow core.tasks has t (record row { continuation = plan }) (urgent_at core t row at has);
   starts = λ core t row plan at lawful has.
       let is = urgent_at core t row at has in
-      all_set IsUrgentRow core.tasks has t (record row { activation = Some plan }) (is.0, is.1, lawful.0);
+      all_set IsUrgentRow core.tasks has t (record row { activation = Some plan }) (is.0, is.1, is.2, lawful.0);
   going = λ core t row at has. any_continuation row.continuation;
-  starting = λ core t row at has. urgent_starts row.activation (urgent_at core t row at has).2;
+  starting = λ core t row at has. urgent_starts row.activation (urgent_at core t row at has).3;
+  keeping = λ core t row at has. (urgent_at core t row at has).2;
   begins = λ core plan lawful. tt;
 }
 
@@ -68,10 +78,12 @@ urgent_at_ends : ClosedAtEnds HasUrgencies
 urgent_at_ends = record {
   ends = λ core t row at has.
       let is = urgent_at core t row at has in
-      all_set IsUrgentRow core.tasks has t (record row { mode = Dormant; continuation = None }) (is.0, tt, is.2);
+      all_set IsUrgentRow core.tasks has t (record row { mode = Dormant; kept = kept.Nothing; continuation = None })
+      (is.0, tt, tt, is.3);
   prevents = λ core t row at has.
       let is = urgent_at core t row at has in
-      all_set IsUrgentRow core.tasks has t (record row { continuation = None; activation = None }) (is.0, is.1, tt);
+      all_set IsUrgentRow core.tasks has t (record row { kept = kept.Nothing; continuation = None; activation = None })
+      (is.0, is.1, tt, tt);
 }
 
 urgent_free : (core other : Core) → OnlyValues core other → HasUrgencies core → HasUrgencies other
@@ -103,7 +115,7 @@ arrived-urgencies core come has = arrived-kept IsUrgency AnyPlan HasUrgencies ur
 -- the first rows
 pub opening-urgencies : (tasks : List TaskEntry) → AllByRecursion IsTaskEntry tasks → AllByRecursion IsUrgentRow (map first_row tasks)
 opening-urgencies [] all = tt
-opening-urgencies (task ∷ tasks) all = ((all.0.urgent, first task.main, tt), opening-urgencies tasks all.1)
+opening-urgencies (task ∷ tasks) all = ((all.0.urgent, first task.main, tt, tt), opening-urgencies tasks all.1)
   where
     first : (main : Bool) → IsUrgentMode (first_mode main task.priority)
     first true = all.0.urgent
@@ -225,19 +237,24 @@ module _ (setup : Setup) where
   plans_closed : Closed AnyPriority (IsPlan setup) (HasPlans setup)
   plans_closed = record {
     told = λ core e has. plans_moved core _ refl refl has;
-    stands = λ core t row mode at stays has. plans_set core t (record row { mode = mode }) (plans_at core t row at has) has;
+    stands = λ core t row mode held at stays keeps has.
+        plans_set core t (record row { mode = mode; kept = held }) (plans_at core t row at has) has;
     goes_on = λ core t row plan at lawful has. plans_set core t (record row { continuation = plan }) (lawful, (plans_at core t row at has).1) has;
     starts = λ core t row plan at lawful has.
         plans_set core t (record row { activation = Some plan }) ((plans_at core t row at has).0, lawful.1) has;
     going = λ core t row at has. (plans_at core t row at has).0;
     starting = λ core t row at has. lawful_starts setup row.activation (plans_at core t row at has).1;
+    keeping = λ core t row at has. any_kept row.kept;
     begins = λ core plan lawful. with_series plan (begun core plan).series lawful;
   }
 
   plans_at_ends : ClosedAtEnds (HasPlans setup)
   plans_at_ends = record {
-    ends = λ core t row at has. plans_set core t (record row { mode = Dormant; continuation = None }) (tt, (plans_at core t row at has).1) has;
-    prevents = λ core t row at has. plans_set core t (record row { continuation = None; activation = None }) (tt, tt) has;
+    ends = λ core t row at has.
+        plans_set core t (record row { mode = Dormant; kept = kept.Nothing; continuation = None })
+        (tt, (plans_at core t row at has).1) has;
+    prevents = λ core t row at has.
+        plans_set core t (record row { kept = kept.Nothing; continuation = None; activation = None }) (tt, tt) has;
   }
 
   plans_free : (core other : Core) → OnlyValues core other → HasPlans setup core → HasPlans setup other

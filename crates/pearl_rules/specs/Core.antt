@@ -7,6 +7,7 @@ use Rattle.pearl_value.specs.declared.kind.Kind.{Kind}
 use Rattle.pearl_format.specs.declared.item.Item.{Item}
 use Rattle.pearl_rules.specs.declared.row.Mode.{Mode}
 use Rattle.pearl_rules.specs.declared.row.Mode.TheVariants.{Dormant, Active}
+use Rattle.pearl_rules.specs.declared.row.Kept.TheVariants.{Nothing}
 use Rattle.pearl_rules.specs.declared.row.TaskRow.{TaskRow}
 use Rattle.pearl_rules.specs.declared.event.Event.{Event}
 use Rattle.pearl_rules.specs.declared.event.Event.TheVariants.{Start}
@@ -96,8 +97,13 @@ first_mode true priority = Active priority false
 first_mode false priority = Dormant
 
 abbrev pub first_row : TaskEntry → TaskRow
-first_row task =
-    record { mode = first_mode task.main task.priority; declared = task.priority; continuation = None; activation = None }
+first_row task = record {
+  mode = first_mode task.main task.priority;
+  declared = task.priority;
+  kept = Nothing;
+  continuation = None;
+  activation = None;
+}
 
 -- how a device stands at the start: interrupts are masked, and nothing has come in
 abbrev pub first_channel : Device → Channel

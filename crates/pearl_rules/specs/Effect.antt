@@ -15,10 +15,12 @@ use Rattle.pearl_rules.specs.declared.event.Event.{Event}
 use Rattle.pearl_rules.specs.declared.event.Event.TheVariants as event
 use Rattle.pearl_rules.specs.declared.row.Mode.{Mode}
 use Rattle.pearl_rules.specs.declared.row.Mode.TheVariants.{Dormant, Active}
+use Rattle.pearl_rules.specs.declared.row.Kept.{Kept}
+use Rattle.pearl_rules.specs.declared.row.Kept.TheVariants as kept
 use Rattle.pearl_rules.specs.declared.row.TaskRow.{TaskRow}
 use Rattle.pearl_rules.specs.Core.{Core, Switch, value_at, note, row_of, mode_of, is_active}
 use Rattle.pearl_rules.specs.Counts.{count_at, all_below_most, lowered, raised}
-use Rattle.pearl_rules.specs.Plans.{changed_row, started, with_mark, time_at, planned, plan_continuation, plan_activation}
+use Rattle.pearl_rules.specs.Plans.{changed_row, oldest, kept_of, made_active, started, with_mark, time_at, planned, plan_continuation, plan_activation}
 use Rattle.pearl_rules.specs.Devices.{with_channel, interrupted, items_of, bytes_at, without_bytes, values_at, without_value}
 use Rattle.pearl_rules.specs.Scan.{Scanned, Short, Bad, Got, scan}
 
@@ -33,9 +35,21 @@ pub record Effect : Type 0 where
   pub reply : Reply
   pub ended : List ℕ
 
--- the task becomes dormant, and goes on by no plan; the plan by which it is started stays
+-- the task becomes dormant, keeps nothing and goes on by no plan; the plan by which it is started stays
 abbrev pub finished : Core → ℕ → Core
-finished core t = changed_row core t (λ row. record row { mode = Dormant; continuation = None })
+finished core t = changed_row core t (λ row. record row { mode = Dormant; kept = kept.Nothing; continuation = None })
+
+abbrev pub again_by : Option (ℕ × Kept) → Core → ℕ → Core
+again_by None core t = core
+again_by (Some (first, others)) core t = made_active core t first others
+
+-- the task, which is dormant, is started with the oldest of these, if there is one, and keeps the others
+abbrev pub again : Kept → Core → ℕ → Core
+again kept core t = again_by (oldest kept) core t
+
+-- the task ends, which is told, and is started again where it kept a start
+abbrev pub ended_with : Core → ℕ → Event → Core
+ended_with core t told = again (kept_of core t) (note (finished core t) told) t
 
 -- the task goes on with this answer
 abbrev pub answering : Core → Answer → Effect
@@ -43,7 +57,7 @@ answering core answer = record { core = core; reply = Hears answer; ended = [] }
 
 -- the task ends, and this event tells it
 abbrev pub ending : Core → ℕ → Event → Effect
-ending core t told = record { core = note (finished core t) told; reply = Ends; ended = t ∷ [] }
+ending core t told = record { core = ended_with core t told; reply = Ends; ended = t ∷ [] }
 
 -- STARTS
 
@@ -78,15 +92,15 @@ continues core t start =
 abbrev pub resuming : Core → (own : ℕ) → Start → Core
 resuming core own start = plan_continuation (with_mark core own true) own (planned core start Once)
 
--- both plans of a task are gone
+-- both plans of a task are gone, and all starts that it kept
 abbrev pub prevented : Core → ℕ → Core
-prevented core t = changed_row core t (λ row. record row { continuation = None; activation = None })
+prevented core t = changed_row core t (λ row. record row { kept = kept.Nothing; continuation = None; activation = None })
 
 -- ENDS FROM OUTSIDE
 
 abbrev pub stopped_by : Mode → Core → ℕ → Core
 stopped_by Dormant core t = core
-stopped_by (Active priority suspended) core t = note (finished core t) (event.Stop t)
+stopped_by (Active priority suspended) core t = ended_with core t (event.Stop t)
 
 abbrev pub stopped_tasks : Mode → ℕ → List ℕ
 stopped_tasks Dormant t = []

@@ -1,5 +1,5 @@
 -- What the laws say of turns, of effects and of runs.
-use Rattle.std.specs.Prelude.{◌≡◌, ◌≢◌, ℕ, zero, suc, ◌-◌, ◌^◌, ◌<◌, ◌≤◌, List, [], ◌∷◌, ◌++◌, Bool, true, false, Option, Some, None, IsTrue, Contains, map, slice_get}
+use Rattle.std.specs.Prelude.{◌≡◌, ◌≢◌, ℕ, zero, suc, ◌+◌, ◌-◌, ◌^◌, ◌<◌, ◌≤◌, List, [], ◌∷◌, ◌++◌, Bool, true, false, Option, Some, None, IsTrue, Contains, map, length, slice_get}
 use Rattle.pearl_rules.specs.declared.action.Action.{Action}
 use Rattle.pearl_rules.specs.declared.action.Action.TheVariants as action
 use Rattle.pearl_rules.specs.declared.action.Answer.{Answer}
@@ -10,12 +10,14 @@ use Rattle.pearl_rules.specs.declared.row.Mode.{Mode}
 use Rattle.pearl_rules.specs.declared.row.Mode.TheVariants.{Dormant, Active}
 use Rattle.pearl_rules.specs.declared.entry.Entry.{Entry}
 use Rattle.pearl_rules.specs.declared.entry.Entry.TheVariants.{Clock, Irpt, Chars, Line, Value}
+use Rattle.pearl_rules.specs.declared.row.Kept.{Kept}
+use Rattle.pearl_rules.specs.declared.row.Kept.TheVariants as kept
 use Rattle.pearl_rules.specs.declared.row.TaskRow.{TaskRow}
 use Rattle.pearl_rules.specs.declared.setup.Setup.{Setup}
 use Rattle.pearl_rules.specs.declared.setup.TaskEntry.{TaskEntry}
 use Rattle.pearl_rules.specs.Core.{Core, Report, Happened, row_of, mode_of, is_active, is_active_mode, declared_of, told_before}
 use Rattle.pearl_rules.specs.Counts.{count_at}
-use Rattle.pearl_rules.specs.Plans.{continuation_of, activation_of, millisecond}
+use Rattle.pearl_rules.specs.Plans.{continuation_of, activation_of, priorities, kept_of, millisecond}
 use Rattle.pearl_rules.specs.Devices.{items_of, bytes_at, values_at}
 use Rattle.pearl_rules.specs.Scan.{Scanned, Got, scan}
 use Rattle.pearl_rules.specs.Effect.{Reply, Hears, Ends, Effect, answering}
@@ -54,10 +56,30 @@ pub record TellsEnds (core : Core) (own : ℕ) (done : Effect) : Type 0 where
   pub goes_on : (answer : Answer) → done.reply ≡ Hears answer → Contains done.ended own → ⊥
   pub ends : done.reply ≡ Ends → IsTrue (is_active core own) → Contains done.ended own
 
--- each task that an effect ends is dormant behind it, and so is the task that acted where it hears no answer
-pub record LeavesDormant (own : ℕ) (done : Effect) : Type 0 where
-  pub dormant : (t : ℕ) → Contains done.ended t → is_active done.core t ≡ false
-  pub ends : done.reply ≡ Ends → is_active done.core own ≡ false
+-- how a task stands behind its end, what it keeps and what is told then, where this is the oldest start that it kept, with those
+-- behind it: it is started with this one; else it is dormant
+abbrev pub mode_behind : Option (ℕ × Kept) → Mode
+mode_behind None = Dormant
+mode_behind (Some (first, others)) = Active first false
+
+abbrev pub kept_behind : Option (ℕ × Kept) → Kept
+kept_behind None = kept.Nothing
+kept_behind (Some (first, others)) = others
+
+abbrev pub events_behind : (t : ℕ) → Option (ℕ × Kept) → List Event
+events_behind t None = []
+events_behind t (Some (first, others)) = event.Start t first ∷ []
+
+abbrev pub row_behind : Option (ℕ × Kept) → TaskRow → TaskRow
+row_behind next row = record row { mode = mode_behind next; kept = kept_behind next; continuation = None }
+
+-- Each task that an effect ends is dormant behind it where it kept no start; else it is active anew, with the oldest priority that
+-- it kept, and keeps the others. The task that acted is dormant where it hears no answer and kept none.
+pub record ServesAtEnds (core : Core) (own : ℕ) (done : Effect) : Type 0 where
+  pub dormant : (t : ℕ) → Contains done.ended t → kept_of core t ≡ kept.Nothing → mode_of done.core t ≡ Dormant
+  pub serves : (t first : ℕ) (others : List ℕ) → Contains done.ended t → priorities (kept_of core t) ≡ first ∷ others →
+      (mode_of done.core t ≡ Active first false) × (priorities (kept_of done.core t) ≡ others)
+  pub ends : done.reply ≡ Ends → kept_of core own ≡ kept.Nothing → mode_of done.core own ≡ Dormant
 
 -- these events, each at this moment
 abbrev pub happened_at : ℕ → List Event → List (ℕ × Report)
@@ -86,8 +108,9 @@ pub record EndsTask (core : Core) (own t : ℕ) (told : Event) (reply : Reply) (
   pub starts : activation_of done.core t ≡ activation_of core t
   pub ended : done.ended ≡ t ∷ []
 
--- what is told of a start for which an active task has no room
+-- what is told of a start of an active task
 abbrev pub IsLate : (t : ℕ) → Event → Type 0
+IsLate t (event.Kept u number) = u ≡ t
 IsLate t (event.Overrun u) = u ≡ t
 IsLate t other = ⊥
 
@@ -96,6 +119,16 @@ pub record StartsLate (core : Core) (own t : ℕ) (mode : Mode) (done : Effect) 
   pub told : Event
   pub late : IsLate t told
   pub changes : ChangesTask core own t mode (told ∷ []) (Hears Nothing) done
+
+-- a start of an active task that keeps fewer than three: it keeps this one as its last, and their number is told
+pub record KeepsOne (core : Core) (own t priority : ℕ) (mode : Mode) (done : Effect) : Type 0 where
+  pub kept : priorities (kept_of done.core t) ≡ priorities (kept_of core t) ++ priority ∷ []
+  pub changes : ChangesTask core own t mode (event.Kept t (length (priorities (kept_of core t)) + 1) ∷ []) (Hears Nothing) done
+
+-- a task ends that kept these: its end is told and then its start with the first, and it keeps the others
+pub record ServesFirst (core : Core) (own t : ℕ) (told : Event) (reply : Reply) (first : ℕ) (others : List ℕ) (done : Effect) : Type 0 where
+  pub kept : priorities (kept_of done.core t) ≡ others
+  pub changes : ChangesTask core own t (Active first false) (told ∷ event.Start t first ∷ []) reply done
 
 -- all fields are there and good
 abbrev pub IsGot : Scanned → Type 0
@@ -190,7 +223,7 @@ IsBeforeEnd engine setup es n = (k : ℕ) → k < n → HasEnded engine setup es
 
 -- Each value is of its kind. There are as many counts as semaphores, each below 2^31, and the declared tasks with their declared
 -- priorities; all priorities are from 1 to 255. Plans are lawful ones, of which periods alone have an end. Whoever acted last is
--- a task. Up to the last moment that there is no dormant task has a plan to go on, and plans have their series.
+-- a task. Up to the last moment that there is no dormant task has a plan to go on or keeps a start, and plans have their series.
 pub record IsCoreOf (setup : Setup) (core : Core) : Type 0 where
   pub kinds : HasKinds setup core
   pub counts : HasCounts setup core

@@ -1,5 +1,5 @@
 -- When a plan serves: the time of day, the moments that a plan as written comes to, and what a plan does that serves.
-use Rattle.std.specs.Prelude.{ℕ, zero, suc, ◌+◌, ◌-◌, ◌^◌, ◌%◌, ℤ, pos, negsuc, Bool, false, Option, Some, None, length, nat_eq, if◌then◌else◌}
+use Rattle.std.specs.Prelude.{ℕ, zero, suc, ◌+◌, ◌-◌, ◌^◌, ◌%◌, ℤ, pos, negsuc, List, [], ◌∷◌, Bool, false, Option, Some, None, length, nat_eq, if◌then◌else◌}
 use Rattle.pearl_rules.specs.declared.series.Series.{Series}
 use Rattle.pearl_rules.specs.Series.{fires_if}
 use Rattle.pearl_rules.specs.declared.action.Start.{Start}
@@ -9,6 +9,8 @@ use Rattle.pearl_rules.specs.declared.action.Repeat.TheVariants.{Once, All, Unti
 use Rattle.pearl_rules.specs.declared.event.Event.TheVariants as event
 use Rattle.pearl_rules.specs.declared.row.Mode.{Mode}
 use Rattle.pearl_rules.specs.declared.row.Mode.TheVariants.{Dormant, Active}
+use Rattle.pearl_rules.specs.declared.row.Kept.{Kept}
+use Rattle.pearl_rules.specs.declared.row.Kept.TheVariants.{Nothing, One, Two, Three}
 use Rattle.pearl_rules.specs.declared.row.End.{End}
 use Rattle.pearl_rules.specs.declared.row.End.TheVariants as end
 use Rattle.pearl_rules.specs.declared.row.Plan.{Plan}
@@ -54,11 +56,53 @@ activation_of core t = activation_in (row_of core t)
 
 -- STARTS AND SUSPENDED TASKS
 
-abbrev pub started_by : Mode → Core → ℕ → ℕ → Core
-started_by Dormant core t priority = note (with_mode core t (Active priority false)) (event.Start t priority)
-started_by (Active own suspended) core t priority = note core (event.Overrun t)
+-- the priorities that are kept, from the oldest on
+abbrev pub priorities : Kept → List ℕ
+priorities Nothing = []
+priorities (One a) = a ∷ []
+priorities (Two a b) = a ∷ b ∷ []
+priorities (Three a b c) = a ∷ b ∷ c ∷ []
 
--- a start makes a dormant task active; one that is active stays as it is, and that it was to be started is told
+-- the same and one more behind them, where there are fewer than three
+abbrev pub and_one : Kept → ℕ → Option Kept
+and_one Nothing priority = Some (One priority)
+and_one (One a) priority = Some (Two a priority)
+and_one (Two a b) priority = Some (Three a b priority)
+and_one (Three a b c) priority = None
+
+-- the oldest of them, and those behind it
+abbrev pub oldest : Kept → Option (ℕ × Kept)
+oldest Nothing = None
+oldest (One a) = Some (a, Nothing)
+oldest (Two a b) = Some (a, One b)
+oldest (Three a b c) = Some (a, Two b c)
+
+abbrev pub kept_in : Option TaskRow → Kept
+kept_in None = Nothing
+kept_in (Some row) = row.kept
+
+-- what a task keeps
+abbrev pub kept_of : Core → ℕ → Kept
+kept_of core t = kept_in (row_of core t)
+
+abbrev pub with_kept : Core → ℕ → Kept → Core
+with_kept core t kept = changed_row core t (λ row. record row { kept = kept })
+
+-- a dormant task becomes active with this priority, not suspended, and keeps these starts; that it was started is told
+abbrev pub made_active : Core → ℕ → (priority : ℕ) → Kept → Core
+made_active core t priority kept =
+    note (changed_row core t (λ row. record row { mode = Active priority false; kept = kept })) (event.Start t priority)
+
+-- an active task keeps the start, where it has room for it, and else that it is lost is told
+abbrev pub late_by : Option Kept → Core → ℕ → Core
+late_by None core t = note core (event.Overrun t)
+late_by (Some kept) core t = note (with_kept core t kept) (event.Kept t (length (priorities kept)))
+
+abbrev pub started_by : Mode → Core → ℕ → ℕ → Core
+started_by Dormant core t priority = made_active core t priority Nothing
+started_by (Active own suspended) core t priority = late_by (and_one (kept_of core t) priority) core t
+
+-- a start makes a dormant task active, which keeps none then; one that is active keeps it as its last, up to three
 abbrev pub started : Core → ℕ → ℕ → Core
 started core t priority = started_by (mode_of core t) core t priority
 

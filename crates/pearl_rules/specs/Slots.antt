@@ -21,6 +21,7 @@ use Rattle.pearl_rules.specs.declared.action.Answer.{Answer}
 use Rattle.pearl_rules.specs.declared.action.Answer.TheVariants.{Nothing, One, Many}
 use Rattle.pearl_rules.specs.declared.row.Mode.{Mode}
 use Rattle.pearl_rules.specs.declared.row.Mode.TheVariants.{Dormant, Active}
+use Rattle.pearl_rules.specs.declared.row.Kept.TheVariants as kept
 use Rattle.pearl_rules.specs.declared.row.End.{End}
 use Rattle.pearl_rules.specs.declared.row.End.TheVariants as end
 use Rattle.pearl_rules.specs.declared.row.Plan.{Plan}
@@ -29,6 +30,7 @@ use Rattle.pearl_value.specs.declared.device.Device.{Device}
 use Rattle.pearl_value.specs.declared.device.Device.TheVariants as device
 use Rattle.pearl_rules.specs.declared.setup.Setup.{Setup}
 use Rattle.pearl_rules.specs.Core.{Core, Channel, Switch, Bytes, Values, Outward, cell_or_zero, value_at}
+use Rattle.pearl_rules.specs.Plans.{priorities}
 use Rattle.pearl_rules.specs.Devices.{terminal_room, input_room}
 use Rattle.pearl_value.specs.Counts.{IsPreset}
 use Rattle.pearl_rules.specs.Tables.{TakesTexts, IsInterrupt, IsReadable, input_kind, output_kind, format_of}
@@ -170,9 +172,11 @@ abbrev pub IsUrgentMode : Mode → Type 0
 IsUrgentMode Dormant = Unit {0}
 IsUrgentMode (Active priority suspended) = IsUrgency priority
 
--- and so are its declared one and that with which it is to be started
+-- and so are its declared one, those of the starts that it keeps, and that with which it is to be started
 abbrev pub IsUrgentRow : TaskRow → Type 0
-IsUrgentRow row = IsUrgency row.declared × IsUrgentMode row.mode × IfSome row.activation (λ activation. IsUrgency activation.priority)
+IsUrgentRow row =
+    IsUrgency row.declared × IsUrgentMode row.mode × AllByRecursion IsUrgency (priorities row.kept)
+    × IfSome row.activation (λ activation. IsUrgency activation.priority)
 
 -- each task has such priorities
 abbrev pub HasUrgencies : Core → Type 0
@@ -216,9 +220,10 @@ pub record IsTimed (plan : Plan) : Type 0 where
   pub has : plan.when ≡ None → IsSome plan.series
   pub near : IfSome plan.series (λ series. (series.first ≤ 2 ^ 42) × (series.period ≤ 2 ^ 40))
 
--- a dormant task has no plan to go on, and the plans of a task are such
+-- a dormant task has no plan to go on and keeps no start, and the plans of a task are such
 pub record IsTimedRow (row : TaskRow) : Type 0 where
   pub dormant : row.mode ≡ Dormant → row.continuation ≡ None
+  pub keeps_none : row.mode ≡ Dormant → row.kept ≡ kept.Nothing
   pub goes_on : IfSome row.continuation IsTimed
   pub starts : IfSome row.activation (λ activation. IsTimed activation.plan)
 

@@ -21,7 +21,12 @@ pub enum Event {
         task: u32,
         trap: Trap,
     },
-    /// A task was to be started while it was active.
+    /// A task was to be started while it was active, and keeps the start: it keeps so many now, from 1 to 3.
+    Kept {
+        task: u32,
+        number: u8,
+    },
+    /// A task was to be started while it was active and kept three starts: this one is lost.
     Overrun(u32),
     /// A masked interrupt occurred.
     Masked(u32),

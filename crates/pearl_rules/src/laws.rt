@@ -16,13 +16,14 @@ ghost use Rattle.pearl_rules.specs.declared.action.Answer.TheVariants.{Nothing, 
 ghost use Rattle.pearl_rules.specs.declared.entry.Entry.{Entry};
 ghost use Rattle.pearl_rules.specs.declared.entry.Entry.TheVariants.{Clock, Run, Tick, Pass, Chars, Turn, State};
 ghost use Rattle.pearl_rules.specs.declared.event.Event.TheVariants as event;
+ghost use Rattle.pearl_rules.specs.declared.row.Kept.TheVariants as kept;
 ghost use Rattle.pearl_rules.specs.declared.row.Mode.TheVariants.{Dormant, Active};
 ghost use Rattle.pearl_rules.specs.declared.row.TaskRow.{TaskRow};
 ghost use Rattle.pearl_rules.specs.declared.setup.Setup.{Setup};
 ghost use Rattle.pearl_rules.specs.declared.setup.TaskEntry.{TaskEntry};
 ghost use Rattle.pearl_rules.specs.Core.{Core, Report, mode_of, is_active, declared_of, first_events, opening, told_before};
 ghost use Rattle.pearl_rules.specs.Counts.{count_at};
-ghost use Rattle.pearl_rules.specs.Plans.{millisecond};
+ghost use Rattle.pearl_rules.specs.Plans.{priorities, kept_of, millisecond};
 ghost use Rattle.pearl_rules.specs.Devices.{arrived};
 ghost use Rattle.pearl_rules.specs.Effect.{Hears, Ends, answering, priority_or_declared, effect};
 ghost use Rattle.pearl_value.specs.Devices.{IsDevice};
@@ -33,7 +34,7 @@ ghost use Rattle.pearl_rules.specs.Entries.{last_moment_of_all, IsFitting, AreFi
 ghost use Rattle.pearl_rules.specs.Pick.{Offered, guard, is_eligible_by, is_eligible, pick_by, pick, IsPickedBy, IsPicked, can_turn_by, can_turn, turned_by, turned, shown_of, states_by, states, showing};
 ghost use Rattle.pearl_rules.specs.Runs.{Acts, Turns, Tells, Passes, Arrives, Coming, next_mark, kept_at, Supplier, Source, Engine, source_offers, source_step, source_after, source_run, source_next, machine_run, marked};
 ghost use Rattle.pearl_rules.specs.Faithful.{IsFaithful, Alone, Soon};
-ghost use Rattle.pearl_rules.specs.Laws.{IsFirstInRankBy, IsFirstInRank, effect_told_before, TellsEnds, LeavesDormant, ChangesTask, EndsTask, StartsLate, EndsItself, BeginsAfresh, ChangesCounts, HasEnded, EndsAlike, EndsSoon, EndsTelling, Comes, IsBeforeEnd, ComesIn, passed, with_more, machine_with_more, IsCoreOf, AreFirstStarts};
+ghost use Rattle.pearl_rules.specs.Laws.{IsFirstInRankBy, IsFirstInRank, effect_told_before, TellsEnds, ServesAtEnds, ChangesTask, EndsTask, StartsLate, KeepsOne, ServesFirst, EndsItself, BeginsAfresh, ChangesCounts, HasEnded, EndsAlike, EndsSoon, EndsTelling, Comes, IsBeforeEnd, ComesIn, passed, with_more, machine_with_more, IsCoreOf, AreFirstStarts};
 
 /// The task that acts next is the one that the rule of picking names, and there is none only where no task is eligible: whatever
 /// tells which tasks' actions are possible, and so where their offers tell it.
@@ -96,11 +97,11 @@ pub fn tells_after()
 
 /// Each task that an action makes dormant is among those that it ends, and what is kept of those begins afresh, also where one is
 /// active anew; of all other active tasks the same is kept as before. The task that acts isn't among those where it hears an
-/// answer, and stays active. No task is active anew yet: each that ends is dormant. None ends in a millisecond, nor by what
-/// comes in.
+/// answer, and stays active. A task that ends is dormant where it kept no start; else it is active anew with the oldest that it
+/// kept. None ends in a millisecond, nor by what comes in.
 pub fn ended_tasks_begin_afresh<X>()
     ensures ends { (core : Core) (own : ℕ) (action : Action) → TellsEnds core own (effect core own action) }
-    ensures dormant { (core : Core) (own : ℕ) (action : Action) → LeavesDormant own (effect core own action) }
+    ensures serves { (core : Core) (own : ℕ) (action : Action) → ServesAtEnds core own (effect core own action) }
     ensures passes { (core : Core) (t : ℕ) → IsTrue (is_active core t) → IsTrue (is_active (millisecond core) t) }
     ensures arrives { (core : Core) (entry : Entry) (t : ℕ) → IsTrue (is_active core t) → IsTrue (is_active (arrived core entry) t) }
     ensures keeps { (fresh : ℕ → X) (rows : List TaskRow) (ended : List ℕ) (before : List (Option X)) (t : ℕ) (row : TaskRow) →
@@ -108,12 +109,17 @@ pub fn ended_tasks_begin_afresh<X>()
 {}
 
 /// A start makes a dormant task active, with the priority that it names, or else the declared one, and not suspended. A task that
-/// is active stays as it is, and one event tells what becomes of the start: that it is lost.
+/// is active stays as it is, and one event tells what becomes of the start: fewer than three are kept, behind those that the task
+/// keeps; where it keeps three the start is lost.
 pub fn starts_make_dormant_tasks_active()
     ensures starts { (core : Core) (own t : ℕ) (priority : Option ℕ) → t < length core.tasks → mode_of core t ≡ Dormant →
         ChangesTask core own t (Active (priority_or_declared core t priority) false)
         (event.Start t (priority_or_declared core t priority) ∷ []) (Hears Nothing) (effect core own (Activate t Free Once priority)) }
+    ensures keeps { (core : Core) (own t before : ℕ) (suspended : Bool) (priority : Option ℕ) → mode_of core t ≡ Active before suspended →
+        length (priorities (kept_of core t)) < 3 → KeepsOne core own t (priority_or_declared core t priority) (Active before suspended)
+        (effect core own (Activate t Free Once priority)) }
     ensures overruns { (core : Core) (own t before : ℕ) (suspended : Bool) (priority : Option ℕ) → mode_of core t ≡ Active before suspended →
+        length (priorities (kept_of core t)) ≡ 3 →
         ChangesTask core own t (Active before suspended) (event.Overrun t ∷ []) (Hears Nothing) (effect core own (Activate t Free Once priority)) }
     ensures late { (core : Core) (own t before : ℕ) (suspended : Bool) (priority : Option ℕ) → mode_of core t ≡ Active before suspended →
         StartsLate core own t (Active before suspended) (effect core own (Activate t Free Once priority)) }
@@ -133,17 +139,34 @@ pub fn suspended_tasks_wait()
     ensures waits { (core : Core) (offers : Offered) (t priority : ℕ) → mode_of core t ≡ Active priority true → is_eligible core offers t ≡ false }
 {}
 
-/// A task that ends, is broken off or is ended from outside becomes dormant, and that alone is told.
+/// A task that kept no start and ends, is broken off or is ended from outside becomes dormant, and that alone is told.
 pub fn ends_make_tasks_dormant()
-    ensures ends { (core : Core) (own : ℕ) → ChangesTask core own own Dormant (event.End own ∷ []) Ends (effect core own End) }
-    ensures breaks_off { (core : Core) (own : ℕ) (trap : traps.Trap) →
+    ensures ends { (core : Core) (own : ℕ) → kept_of core own ≡ kept.Nothing →
+        ChangesTask core own own Dormant (event.End own ∷ []) Ends (effect core own End) }
+    ensures breaks_off { (core : Core) (own : ℕ) (trap : traps.Trap) → kept_of core own ≡ kept.Nothing →
         ChangesTask core own own Dormant (event.Trap own trap ∷ []) Ends (effect core own (Trap trap)) }
     ensures stops { (core : Core) (own t priority : ℕ) (suspended : Bool) → mode_of core t ≡ Active priority suspended → t ≢ own →
-        ChangesTask core own t Dormant (event.Stop t ∷ []) (Hears Nothing) (effect core own (Terminate t)) }
+        kept_of core t ≡ kept.Nothing → ChangesTask core own t Dormant (event.Stop t ∷ []) (Hears Nothing) (effect core own (Terminate t)) }
     ensures stops_itself { (core : Core) (own priority : ℕ) (suspended : Bool) → mode_of core own ≡ Active priority suspended →
-        ChangesTask core own own Dormant (event.Stop own ∷ []) Ends (effect core own (Terminate own)) }
+        kept_of core own ≡ kept.Nothing → ChangesTask core own own Dormant (event.Stop own ∷ []) Ends (effect core own (Terminate own)) }
     ensures dormant_stopped { (core : Core) (own t : ℕ) → mode_of core t ≡ Dormant → t ≢ own →
         ChangesTask core own t Dormant [] (Hears Nothing) (effect core own (Terminate t)) }
+{}
+
+/// A task that kept starts and ends, is broken off or is ended from outside is started at once with the oldest of them and its
+/// priority, not suspended, which is told behind its end. It keeps the others, in their order.
+pub fn ends_serve_the_oldest_start()
+    ensures ends { (core : Core) (own first : ℕ) (others : List ℕ) → priorities (kept_of core own) ≡ first ∷ others →
+        ServesFirst core own own (event.End own) Ends first others (effect core own End) }
+    ensures breaks_off { (core : Core) (own : ℕ) (trap : traps.Trap) (first : ℕ) (others : List ℕ) →
+        priorities (kept_of core own) ≡ first ∷ others →
+        ServesFirst core own own (event.Trap own trap) Ends first others (effect core own (Trap trap)) }
+    ensures stops { (core : Core) (own t priority : ℕ) (suspended : Bool) → mode_of core t ≡ Active priority suspended → t ≢ own →
+        (first : ℕ) (others : List ℕ) → priorities (kept_of core t) ≡ first ∷ others →
+        ServesFirst core own t (event.Stop t) (Hears Nothing) first others (effect core own (Terminate t)) }
+    ensures stops_itself { (core : Core) (own priority : ℕ) (suspended : Bool) → mode_of core own ≡ Active priority suspended →
+        (first : ℕ) (others : List ℕ) → priorities (kept_of core own) ≡ first ∷ others →
+        ServesFirst core own own (event.Stop own) Ends first others (effect core own (Terminate own)) }
 {}
 
 /// The end of a task is told first. Then the task is dormant, or active anew, which is told next. It goes on by no plan, the plan
@@ -204,8 +227,8 @@ pub fn counts_stay_counts()
     ensures arrives { (setup : Setup) (core : Core) (entry : Entry) → HasCounts setup core → HasCounts setup (arrived core entry) }
 {}
 
-/// There are always the declared tasks with their declared priorities. Every active task's priority is from 1 to 255, and so is
-/// that with which a plan starts a task.
+/// There are always the declared tasks with their declared priorities. Every active task's priority is from 1 to 255, and so are
+/// those of the starts that it keeps, and that with which a plan starts a task.
 pub fn tasks_keep_their_declared_priority()
     ensures opens { (setup : Setup) → map declared_of (opening setup).tasks ≡ map (λ task. task.priority) setup.tasks }
     ensures acts { (core : Core) (own : ℕ) (action : Action) → map declared_of (effect core own action).core.tasks ≡ map declared_of core.tasks }
@@ -240,7 +263,7 @@ pub fn periods_alone_have_an_end()
     ensures arrives { (core : Core) (entry : Entry) → HasEnds core → HasEnds (arrived core entry) }
 {}
 
-/// A dormant task has no plan to go on. A plan that waits for no interrupt has a series, and no plan's first moment is
+/// A dormant task has no plan to go on and keeps no start. A plan that waits for no interrupt has a series, and no plan's first moment is
 /// above 2^42, nor its period above 2^40 milliseconds.
 pub fn plans_have_their_series()
     ensures opens { (setup : Setup) → HasTimes setup (opening setup) }

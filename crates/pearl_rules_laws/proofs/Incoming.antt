@@ -11,17 +11,16 @@ use Rattle.pearl_value.specs.Conversions.{converted}
 use Rattle.pearl_rules.specs.declared.action.Action.TheVariants as action
 use Rattle.pearl_rules.specs.declared.action.Answer.TheVariants.{Nothing, One, Many}
 use Rattle.pearl_rules.specs.declared.event.Event.TheVariants as event
-use Rattle.pearl_rules.specs.declared.row.Mode.TheVariants.{Dormant}
 use Rattle.pearl_rules.specs.declared.row.TaskRow.{TaskRow}
-use Rattle.pearl_rules.specs.Core.{Core, Channel, Switch, Bytes, Values, Outward, Happened, note, row_of, with_row}
+use Rattle.pearl_rules.specs.Core.{Core, Channel, Switch, Bytes, Values, Outward, Happened, note, row_of}
 use Rattle.pearl_rules.specs.Plans.{time_at}
 use Rattle.pearl_rules.specs.Devices.{channel_of, items_of, bytes_at, without_bytes, with_channel, interrupted, bytes_in, values_in, terminal_room, input_room, with_bytes, joined, with_value_by, with_value, without_value_by}
-use Rattle.pearl_rules.specs.Effect.{Hears, answering, finished, ending, getting, taking, effect}
+use Rattle.pearl_rules.specs.Effect.{Hears, answering, ending, getting, taking, effect}
 use Rattle.pearl_rules.specs.Pick.{guard, is_some_value, is_complete}
 use Rattle.pearl_rules.specs.Scan.{Scanned, Short, Bad, Got, scan}
 use Rattle.pearl_rules.proofs.Offered.{set-same, set-other}
-use Rattle.pearl_rules_laws.specs.Plans.{ChangesChannel, ChangesRow, ValueWaits, BreaksOff}
-use Rattle.pearl_rules_laws.proofs.Steps.{tells, step_changes, row_changed}
+use Rattle.pearl_rules_laws.specs.Plans.{ChangesChannel, ValueWaits, BreaksOff}
+use Rattle.pearl_rules_laws.proofs.Planning.{ended_by}
 
 -- a channel that is there is written
 channel_changes : (core : Core) (device : ℕ) (before channel : Channel) → channel_of core device ≡ Some before →
@@ -201,17 +200,10 @@ get_breaks_off core own device format kinds pending used row at stands is =
     (record {
       between = between;
       channel_changes = channel_changes (record core { last = Some own }) device (Bytes pending) (Bytes (drop used pending)) at;
-      row_changes = subst (λ c. ChangesRow between c own broken (event.Trap own Format ∷ [])) (sym ends)
-          (step_changes between own row broken (event.Trap own Format ∷ []) stands);
+      row_changes = ended_by between own row stands (event.Trap own Format);
       replies = refl;
       ends = refl;
     })
   where
     between : Core
     between = with_channel (record core { last = Some own }) device (Bytes (drop used pending))
-
-    broken : TaskRow
-    broken = record row { mode = Dormant; continuation = None }
-
-    ends : note (finished between own) (event.Trap own Format) ≡ tells (with_row between own broken) (event.Trap own Format ∷ [])
-    ends = ap (λ c. note c (event.Trap own Format)) (row_changed between own row stands (λ r. record r { mode = Dormant; continuation = None }))

@@ -8,6 +8,7 @@ mod Rows
 mod Incoming
 mod Modes
 mod Reaching
+mod Keeping
 mod Alike
 mod Hearing
 mod Picking

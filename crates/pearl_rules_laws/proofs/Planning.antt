@@ -1,10 +1,10 @@
 -- What becomes of a task's plans by actions, and at which moments they serve.
-use Rattle.std.proofs.Common.{◌≡◌, ◌↔◌, inl, inr, List, ℕ, eq-eqb, eqb-true, ◌+◌, ◌^◌, ◌<◌, pos, Bool, true, false, IsTrue, if◌then◌else◌, ◌∷◌, [], Option, Some, None, refl, sym, ap, ap₂, subst, ◌∙◌, arith}
+use Rattle.std.proofs.Common.{◌≡◌, ◌↔◌, inl, inr, List, ℕ, eq-eqb, eqb-true, ◌+◌, ◌^◌, ◌<◌, pos, Bool, true, false, IsTrue, if◌then◌else◌, ◌∷◌, ◌++◌, [], Option, Some, None, refl, sym, ap, ap₂, subst, ◌∙◌, arith}
 use Rattle.std.proofs.lemmas.Bool.{true≢false}
 use Rattle.std.proofs.lemmas.Option.{none-some, same_Some}
 use Rattle.pearl_value.specs.declared.trap.Trap as traps
 use Rattle.pearl_rules.specs.Series.{fires_if}
-use Rattle.pearl_rules.proofs.Offered.{fires_as_said}
+use Rattle.pearl_rules.proofs.Offered.{fires_as_said, behind, ended-here, ended-other, ended-rest}
 use Rattle.pearl_rules.specs.declared.action.Action.TheVariants as action
 use Rattle.pearl_rules.specs.declared.action.Answer.TheVariants.{Nothing}
 use Rattle.pearl_rules.specs.declared.action.Start.{Start}
@@ -13,14 +13,16 @@ use Rattle.pearl_rules.specs.declared.action.Repeat.{Repeat}
 use Rattle.pearl_rules.specs.declared.action.Repeat.TheVariants.{Once}
 use Rattle.pearl_rules.specs.declared.event.Event.{Event}
 use Rattle.pearl_rules.specs.declared.event.Event.TheVariants as event
+use Rattle.pearl_rules.specs.declared.row.Kept.TheVariants as kept
 use Rattle.pearl_rules.specs.declared.row.Mode.TheVariants.{Dormant, Active}
 use Rattle.pearl_rules.specs.declared.row.Plan.{Plan}
 use Rattle.pearl_rules.specs.declared.row.TaskRow.{TaskRow}
 use Rattle.pearl_rules.specs.Core.{Core, note, row_of, with_row, is_active_row, is_active_mode, mode_of_row}
-use Rattle.pearl_rules.specs.Plans.{time_at, begun, started, marked_mode, with_mark, series_from, begin_series, interrupt_of, first_moment, period_of, end_of, written, last_moment, planned, waits_for, serves_if, plan_continuation, plan_activation, occurred}
+use Rattle.pearl_rules.specs.Plans.{oldest, kept_in, time_at, begun, started, marked_mode, with_mark, series_from, begin_series, interrupt_of, first_moment, period_of, end_of, written, last_moment, planned, waits_for, serves_if, plan_continuation, plan_activation, occurred}
 use Rattle.pearl_rules.specs.Devices.{is_enabled, interrupted}
-use Rattle.pearl_rules.specs.Effect.{answering, effect, finished, stopped_by, is_at_once, priority_or_declared}
-use Rattle.pearl_rules_laws.specs.Plans.{IsMoment, Waits, IsWrittenWith, ChangesRow, mode_after, start_events, starts_now, new_activation, with_new_activation, with_new_continuation}
+use Rattle.pearl_rules.specs.Effect.{answering, effect, ended_with, stopped_by, is_at_once, priority_or_declared}
+use Rattle.pearl_rules.specs.Laws.{happened_at, events_behind}
+use Rattle.pearl_rules_laws.specs.Plans.{IsMoment, Waits, IsWrittenWith, ChangesRow, EndsRow, mode_after, start_events, starts_now, new_activation, with_new_activation, with_new_continuation}
 use Rattle.pearl_rules_laws.proofs.Times.{next_time}
 use Rattle.pearl_rules_laws.proofs.Steps.{tells, tells_none, step_changes, row_changed, row_there, row_twice, mark_is, plan_continuation_is, plan_activation_is}
 
@@ -39,34 +41,41 @@ pub changes_silently : (old new : Core) (t : ℕ) (row changed : TaskRow) → ro
     ChangesRow old new t changed []
 changes_silently old new t row changed at is = changes_by old new t row changed [] at (is ∙ tells_none (with_row old t changed))
 
+-- an end
+pub ended_by : (core : Core) (t : ℕ) (row : TaskRow) → row_of core t ≡ Some row → (e : Event) → EndsRow core (ended_with core t e) t row e
+ended_by core t row at e = record {
+  this = ended-here core t e ∙ ap behind at;
+  others = λ u differ. ended-other core t u e differ;
+  rest = ended-rest core t e
+      ∙ ap (λ held. let c : Core = record core {
+        tasks = (ended_with core t e).tasks;
+        told = core.told ++ happened_at core.moment (e ∷ events_behind t (oldest held));
+      } in c) (ap kept_in at);
+}
+
 module _ (core : Core) (own t : ℕ) (row : TaskRow) (at : row_of core t ≡ Some row) where
-  pub prevent_drops : ChangesRow (acted core own) (effect core own (action.Prevent t)).core t (record row { continuation = None; activation = None }) []
+  pub prevent_drops : ChangesRow (acted core own) (effect core own (action.Prevent t)).core t
+      (record row { kept = kept.Nothing; continuation = None; activation = None }) []
   unfolding effect
   prevent_drops =
-      changes_silently (acted core own) _ t row (record row { continuation = None; activation = None }) at
-      (row_changed (acted core own) t row at (λ r. record r { continuation = None; activation = None }))
-
-  -- an end
-  finished_by : (e : Event) → ChangesRow (acted core own) (note (finished (acted core own) t) e) t (record row { mode = Dormant; continuation = None }) (e ∷ [])
-  finished_by e =
-      changes_by (acted core own) (note (finished (acted core own) t) e) t row (record row { mode = Dormant; continuation = None }) (e ∷ []) at
-      (ap (λ c. note c e) (row_changed (acted core own) t row at (λ r. record r { mode = Dormant; continuation = None })))
+      changes_silently (acted core own) _ t row (record row { kept = kept.Nothing; continuation = None; activation = None }) at
+      (row_changed (acted core own) t row at (λ r. record r { kept = kept.Nothing; continuation = None; activation = None }))
 
   pub stop_keeps : (priority : ℕ) (suspended : Bool) → row.mode ≡ Active priority suspended →
-      ChangesRow (acted core own) (effect core own (action.Terminate t)).core t (record row { mode = Dormant; continuation = None }) (event.Stop t ∷ [])
+      EndsRow (acted core own) (effect core own (action.Terminate t)).core t row (event.Stop t)
   unfolding effect
   stop_keeps priority suspended active =
-      subst (λ mode. ChangesRow (acted core own) (stopped_by mode (acted core own) t) t (record row { mode = Dormant; continuation = None }) (event.Stop t ∷ []))
-      (sym (ap mode_of_row at ∙ active)) (finished_by (event.Stop t))
+      subst (λ mode. EndsRow (acted core own) (stopped_by mode (acted core own) t) t row (event.Stop t))
+      (sym (ap mode_of_row at ∙ active)) (ended_by (acted core own) t row at (event.Stop t))
 
   pub activate_plans : (start : Start) (repeat : Repeat) (priority : Option ℕ) → is_at_once start repeat ≡ false →
       ChangesRow (acted core own) (effect core own (action.Activate t start repeat priority)).core t
       (with_new_activation core (new_activation core t start repeat priority) row)
-      (start_events t (starts_now core (Some (new_activation core t start repeat priority))) row.mode)
+      (start_events t (starts_now core (Some (new_activation core t start repeat priority))) row.mode row.kept)
   unfolding effect
   activate_plans start repeat priority later =
       let activation = new_activation core t start repeat priority in
-      changes_by (acted core own) _ t row (with_new_activation core activation row) (start_events t (starts_now core (Some activation)) row.mode) at
+      changes_by (acted core own) _ t row (with_new_activation core activation row) (start_events t (starts_now core (Some activation)) row.mode row.kept) at
       (ap (λ b. if b then started (acted core own) t (priority_or_declared core t priority) else plan_activation (acted core own) t activation) later
       ∙ plan_activation_is (acted core own) t row at activation)
 
@@ -90,14 +99,13 @@ module _ (core : Core) (own t : ℕ) (row : TaskRow) (at : row_of core t ≡ Som
       (ap is_active_row at ∙ ap is_active_mode dormant))
 
 module _ (core : Core) (own : ℕ) (row : TaskRow) (at : row_of core own ≡ Some row) where
-  pub end_keeps : ChangesRow (acted core own) (effect core own action.End).core own (record row { mode = Dormant; continuation = None }) (event.End own ∷ [])
+  pub end_keeps : EndsRow (acted core own) (effect core own action.End).core own row (event.End own)
   unfolding effect
-  end_keeps = finished_by core own own row at (event.End own)
+  end_keeps = ended_by (acted core own) own row at (event.End own)
 
-  pub trap_keeps : (trap : traps.Trap) →
-      ChangesRow (acted core own) (effect core own (action.Trap trap)).core own (record row { mode = Dormant; continuation = None }) (event.Trap own trap ∷ [])
+  pub trap_keeps : (trap : traps.Trap) → EndsRow (acted core own) (effect core own (action.Trap trap)).core own row (event.Trap own trap)
   unfolding effect
-  trap_keeps trap = finished_by core own own row at (event.Trap own trap)
+  trap_keeps trap = ended_by (acted core own) own row at (event.Trap own trap)
 
   -- a task that suspends itself, with a new plan to go on
   resumes : (priority : ℕ) (before : Bool) (start : Start) → row.mode ≡ Active priority before →

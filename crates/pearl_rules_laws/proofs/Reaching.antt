@@ -1,5 +1,5 @@
 -- Which tasks an interrupt that is let through reaches, and how they stand then.
-use Rattle.std.proofs.Common.{◌≡◌, ℕ, zero, suc, ◌+◌, ◌^◌, ◌<◌, ◌≤◌, ◌≢◌, List, [], ◌∷◌, ◌++◌, Bool, true, false, ◌&&◌, if◌then◌else◌, Option, Some, None, option_map, slice_get, refl, sym, ap, ap₂, subst, ◌∙◌, append_assoc, add-zero, zero-add, arith}
+use Rattle.std.proofs.Common.{◌≡◌, ℕ, zero, suc, ◌+◌, ◌^◌, ◌<◌, ◌≤◌, ◌≢◌, List, [], ◌∷◌, ◌++◌, Bool, true, false, ◌&&◌, if◌then◌else◌, Option, Some, None, option_map, unwrap_or, length, slice_get, refl, sym, ap, ap₂, subst, ◌∙◌, append_assoc, add-zero, zero-add, arith}
 use Rattle.std.proofs.lemmas.Bool.{true≢false}
 use Rattle.std.proofs.lemmas.Option.{none-some, same_Some, slice_get-map}
 use Rattle.pearl_rules.specs.declared.row.End.{End}
@@ -7,16 +7,18 @@ use Rattle.pearl_rules.specs.declared.row.End.TheVariants as end
 use Rattle.pearl_rules.specs.declared.entry.Entry.TheVariants.{Irpt}
 use Rattle.pearl_rules.specs.declared.event.Event.{Event}
 use Rattle.pearl_rules.specs.declared.event.Event.TheVariants as event
+use Rattle.pearl_rules.specs.declared.row.Kept.{Kept}
 use Rattle.pearl_rules.specs.declared.row.Mode.{Mode}
 use Rattle.pearl_rules.specs.declared.row.Mode.TheVariants.{Dormant, Active}
 use Rattle.pearl_rules.specs.declared.row.Activation.{Activation}
 use Rattle.pearl_rules.specs.declared.row.Plan.{Plan}
 use Rattle.pearl_rules.specs.declared.row.TaskRow.{TaskRow}
 use Rattle.pearl_rules.specs.Core.{Core, row_of, mode_of_row, mode_of}
-use Rattle.pearl_rules.specs.Plans.{last_moment, begun, waits_for, serves_if, continuation_in, continuation_of, activation_in, activation_of}
+use Rattle.pearl_rules.specs.Plans.{priorities, and_one, kept_in, kept_of, last_moment, begun, waits_for, serves_if, continuation_in, continuation_of, activation_in, activation_of}
 use Rattle.pearl_rules.specs.Devices.{is_enabled, arrived}
-use Rattle.pearl_rules.specs.Laws.{happened_at}
-use Rattle.pearl_rules_laws.specs.Plans.{ServesAtOnce, IsUntouchedBy, IsTold, IsToldLate, mode_after, start_events, plan_after, serves_after, goes_after, starts_after, continuation_after, activation_after, reached_row, reached_events}
+use Rattle.pearl_rules.specs.Laws.{happened_at, IsLate}
+use Rattle.pearl_rules.proofs.Offered.{one_more, no_room}
+use Rattle.pearl_rules_laws.specs.Plans.{ServesAtOnce, IsUntouchedBy, IsTold, IsToldLate, mode_after, kept_after, late_event, start_events, all_start_events, plan_after, serves_after, goes_after, starts_after, continuation_after, activation_after, reached_row}
 use Rattle.pearl_rules_laws.proofs.Steps.{mode_stays}
 use Rattle.pearl_rules_laws.proofs.Planning.{plan_waits, begun_serves}
 use Rattle.pearl_rules_laws.proofs.Rows.{happened_join, occurred_is}
@@ -77,28 +79,25 @@ serves_not_after core device plan other = by_test (serves_after core device plan
 -- WHAT IS TOLD
 
 -- the event of the task at place i, with those before and behind it
-record Within (all : List Event) (e : Event) : Type 0 where
-  front : List Event
-  behind : List Event
-  is : all ≡ front ++ e ∷ behind
+pub record Within (all : List Event) (e : Event) : Type 0 where
+  pub front : List Event
+  pub behind : List Event
+  pub is : all ≡ front ++ e ∷ behind
 
-event_within : (core : Core) (device k i : ℕ) (rows : List TaskRow) (row : TaskRow) → slice_get rows i ≡ Some row →
-    (e : Event) → start_events (k + i) (starts_after core device row.activation) row.mode ≡ e ∷ [] →
-    Within (reached_events core device k rows) e
-event_within core device k i [] row at e is = absurd (none-some row at)
-event_within core device k zero (first ∷ rows) row at e is = record {
+pub event_within : (starts : TaskRow → Option ℕ) (k i : ℕ) (rows : List TaskRow) (row : TaskRow) → slice_get rows i ≡ Some row →
+    (e : Event) → start_events (k + i) (starts row) row.mode row.kept ≡ e ∷ [] → Within (all_start_events starts k rows) e
+event_within starts k i [] row at e is = absurd (none-some row at)
+event_within starts k zero (first ∷ rows) row at e is = record {
   front = [];
-  behind = reached_events core device (k + 1) rows;
-  is = ap (λ es. es ++ reached_events core device (k + 1) rows)
-      (ap₂ (λ u r. start_events u (starts_after core device r.activation) r.mode) (sym (add-zero k))
-      (same_Some first row at)
-      ∙ is);
+  behind = all_start_events starts (k + 1) rows;
+  is = ap (λ es. es ++ all_start_events starts (k + 1) rows)
+      (ap₂ (λ u r. start_events u (starts r) r.mode r.kept) (sym (add-zero k)) (same_Some first row at) ∙ is);
 }
-event_within core device k (suc i) (first ∷ rows) row at e is =
+event_within starts k (suc i) (first ∷ rows) row at e is =
     let place : (k + 1) + i ≡ k + suc i = omega arith in
-    let later = event_within core device (k + 1) i rows row at e
-    (ap (λ u. start_events u (starts_after core device row.activation) row.mode) place ∙ is) in
-    let own : List Event = start_events k (starts_after core device first.activation) first.mode in
+    let later = event_within starts (k + 1) i rows row at e
+    (ap (λ u. start_events u (starts row) row.mode row.kept) place ∙ is) in
+    let own : List Event = start_events k (starts first) first.mode first.kept in
     record {
       front = own ++ later.front;
       behind = later.behind;
@@ -184,11 +183,11 @@ module _ (core : Core) (device t : ℕ) (row : TaskRow) (enabled : is_enabled co
       ap (starts_after core device) planned
       ∙ ap (λ b. if b then Some activation.priority else None) (serves_at_once near activation.plan soon)
 
-  told_at : (e : Event) → start_events t (starts_after core device row.activation) row.mode ≡ e ∷ [] →
+  told_at : (e : Event) → start_events t (starts_after core device row.activation) row.mode row.kept ≡ e ∷ [] →
       IsTold core (arrived core (Irpt device)) e
   told_at e is =
-      let found = event_within core device 0 t core.tasks row at e
-      (ap (λ u. start_events u (starts_after core device row.activation) row.mode) (zero-add t) ∙ is) in
+      let found = event_within (λ r. starts_after core device r.activation) 0 t core.tasks row at e
+      (ap (λ u. start_events u (starts_after core device row.activation) row.mode row.kept) (zero-add t) ∙ is) in
       record {
         front = happened_at core.moment found.front;
         behind = happened_at core.moment found.behind;
@@ -204,24 +203,54 @@ module _ (core : Core) (device t : ℕ) (row : TaskRow) (enabled : is_enabled co
   starts_at near activation dormant planned soon =
       let starts = starts_soon near activation planned soon in (
         mode_then ∙ ap₂ (λ o mode. mode_after (goes_after core device row.continuation) o mode) starts dormant,
-        told_at (event.Start t activation.priority) (ap₂ (λ o mode. start_events t o mode) starts dormant),
+        told_at (event.Start t activation.priority) (ap₂ (λ o mode. start_events t o mode row.kept) starts dormant),
       )
+
+  -- of an active task that is to be started, where this is what it keeps then
+  late_told : core.moment < 2 ^ 64 → (activation : Activation) (priority : ℕ) (suspended : Bool) →
+      row.mode ≡ Active priority suspended → row.activation ≡ Some activation →
+      ServesAtOnce device activation.plan → (more : Option Kept) → and_one row.kept activation.priority ≡ more →
+      IsTold core (arrived core (Irpt device)) (late_event t more)
+  late_told near activation priority suspended active planned soon more is =
+      told_at (late_event t more)
+      (ap₂ (λ o mode. start_events t o mode row.kept) (starts_soon near activation planned soon) active
+      ∙ ap (λ held. late_event t held ∷ []) is)
 
   pub overrun_at : core.moment < 2 ^ 64 → (activation : Activation) (priority : ℕ) (suspended : Bool) →
       row.mode ≡ Active priority suspended → row.activation ≡ Some activation →
-      ServesAtOnce device activation.plan → IsTold core (arrived core (Irpt device)) (event.Overrun t)
-  overrun_at near activation priority suspended active planned soon =
-      told_at (event.Overrun t)
-      (ap₂ (λ o mode. start_events t o mode) (starts_soon near activation planned soon) active)
+      ServesAtOnce device activation.plan → length (priorities row.kept) ≡ 3 →
+      IsTold core (arrived core (Irpt device)) (event.Overrun t)
+  overrun_at near activation priority suspended active planned soon three =
+      late_told near activation priority suspended active planned soon None (no_room row.kept activation.priority three)
+
+  pub kept_at : core.moment < 2 ^ 64 → (activation : Activation) (priority : ℕ) (suspended : Bool) →
+      row.mode ≡ Active priority suspended → row.activation ≡ Some activation →
+      ServesAtOnce device activation.plan → length (priorities row.kept) < 3 →
+      (priorities (kept_of (arrived core (Irpt device)) t) ≡ priorities row.kept ++ activation.priority ∷ [])
+      × IsTold core (arrived core (Irpt device)) (event.Kept t (length (priorities row.kept) + 1))
+  kept_at near activation priority suspended active planned soon room =
+      let more = one_more row.kept activation.priority room in (
+        ap priorities (ap kept_in reached_at
+            ∙ ap₂ (λ o mode. kept_after o mode row.kept) (starts_soon near activation planned soon) active
+            ∙ ap (λ held. unwrap_or held row.kept) more.1) ∙ more.2,
+        subst (λ n. IsTold core (arrived core (Irpt device)) (event.Kept t n)) more.3
+            (late_told near activation priority suspended active planned soon (Some more.0) more.1),
+      )
 
   pub late_at : core.moment < 2 ^ 64 → (activation : Activation) (priority : ℕ) (suspended : Bool) →
       row.mode ≡ Active priority suspended → row.activation ≡ Some activation →
       ServesAtOnce device activation.plan → IsToldLate core (arrived core (Irpt device)) t
-  late_at near activation priority suspended active planned soon = record {
-    late = event.Overrun t;
-    is_late = refl;
-    told = overrun_at near activation priority suspended active planned soon;
-  }
+  late_at near activation priority suspended active planned soon =
+      let more = and_one row.kept activation.priority in
+      record {
+        late = late_event t more;
+        is_late = is_late more;
+        told = late_told near activation priority suspended active planned soon more refl;
+      }
+    where
+      is_late : (more : Option Kept) → IsLate t (late_event t more)
+      is_late None = refl
+      is_late (Some more) = refl
 
   pub later_at : (activation : Activation) → row.mode ≡ Dormant → row.activation ≡ Some activation →
       activation.plan.when ≡ Some device → 0 < activation.plan.after → mode_of (arrived core (Irpt device)) t ≡ Dormant
@@ -267,14 +296,15 @@ module _ (core : Core) (device t : ℕ) (row : TaskRow) (enabled : is_enabled co
       let goes = quiet_continuation row.continuation untouched.goes_on in
       let starts = quiet_activation row.activation untouched.starts in
       reached_at
-      ∙ ap₂ (λ b o. Some (reached_with (mode_after b o row.mode))) goes.0 starts.0
-      ∙ ap (λ mode. Some (reached_with mode)) (mode_stays row.mode)
+      ∙ ap₂ (λ b o. Some (reached_with (mode_after b o row.mode) (kept_after o row.mode row.kept))) goes.0 starts.0
+      ∙ ap (λ mode. Some (reached_with mode row.kept)) (mode_stays row.mode)
       ∙ ap₂ (λ c a. let r : TaskRow = record row { continuation = c; activation = a } in Some r) goes.1 starts.1
     where
-      -- the row then, with this mode
-      reached_with : Mode → TaskRow
-      reached_with mode = record row {
+      -- the row then, with this mode and what is kept
+      reached_with : Mode → Kept → TaskRow
+      reached_with mode held = record row {
         mode = mode;
+        kept = held;
         continuation = continuation_after core device row.continuation;
         activation = activation_after core device row.activation;
       }

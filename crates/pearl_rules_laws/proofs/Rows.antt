@@ -5,6 +5,7 @@ use Rattle.pearl_rules.specs.Series.{fires_if}
 use Rattle.pearl_rules.specs.declared.row.End.{End}
 use Rattle.pearl_rules.specs.declared.row.End.TheVariants as end
 use Rattle.pearl_rules.specs.declared.event.Event.{Event}
+use Rattle.pearl_rules.specs.declared.row.Kept.{Kept}
 use Rattle.pearl_rules.specs.declared.row.Mode.{Mode}
 use Rattle.pearl_rules.specs.declared.row.Mode.TheVariants.{Dormant, Active}
 use Rattle.pearl_rules.specs.declared.row.Plan.{Plan}
@@ -16,7 +17,7 @@ use Rattle.pearl_rules.specs.Devices.{is_enabled, interrupted}
 use Rattle.pearl_rules.specs.declared.event.Event.TheVariants as event
 use Rattle.pearl_rules.specs.Laws.{happened_at}
 use Rattle.pearl_rules.proofs.Offered.{there_at}
-use Rattle.pearl_rules_laws.specs.Plans.{mode_after, start_events, starts_now, served_row, served_events, serves_after, goes_after, starts_after, continuation_after, activation_after, reached_row, reached_events}
+use Rattle.pearl_rules_laws.specs.Plans.{mode_after, kept_after, start_events, all_start_events, starts_now, served_row, served_events, serves_after, goes_after, starts_after, continuation_after, activation_after, reached_row, reached_events}
 use Rattle.pearl_rules_laws.proofs.Steps.{tells, tells_none, same_row, row_there, row_twice, mode_stays, went_on, began, serve_continuation_is, serve_activation_is, plan_continuation_is, plan_activation_is}
 
 -- ONE TASK
@@ -31,30 +32,45 @@ mode_twice false None (Active priority suspended) = refl
 mode_twice false (Some p) (Active priority suspended) = refl
 
 -- tells the same
-events_twice : (t : ℕ) (goes_on : Bool) (starts : Option ℕ) (mode : Mode) → start_events t starts (mode_after goes_on None mode) ≡ start_events t starts mode
-events_twice t goes_on None mode = refl
-events_twice t goes_on (Some p) Dormant = refl
-events_twice t true (Some p) (Active priority suspended) = refl
-events_twice t false (Some p) (Active priority suspended) = refl
+events_twice : (t : ℕ) (goes_on : Bool) (starts : Option ℕ) (mode : Mode) (held : Kept) →
+    start_events t starts (mode_after goes_on None mode) held ≡ start_events t starts mode held
+events_twice t goes_on None mode held = refl
+events_twice t goes_on (Some p) Dormant held = refl
+events_twice t true (Some p) (Active priority suspended) held = refl
+events_twice t false (Some p) (Active priority suspended) held = refl
+
+-- and keeps the same
+kept_twice : (goes_on : Bool) (starts : Option ℕ) (mode : Mode) (held : Kept) →
+    kept_after starts (mode_after goes_on None mode) held ≡ kept_after starts mode held
+kept_twice goes_on None mode held = refl
+kept_twice goes_on (Some p) Dormant held = refl
+kept_twice true (Some p) (Active priority suspended) held = refl
+kept_twice false (Some p) (Active priority suspended) held = refl
 
 -- the row and the events of a task that goes on and is then started
 both_steps : (core : Core) (t : ℕ) (row : TaskRow) (goes_on : Bool) (starts : Option ℕ) →
-    tells (with_row core t (record row { mode = mode_after false starts (mode_after goes_on None row.mode) }))
-    (start_events t starts (mode_after goes_on None row.mode))
-    ≡ tells (with_row core t (record row { mode = mode_after goes_on starts row.mode })) (start_events t starts row.mode)
+    tells (with_row core t (record row {
+      mode = mode_after false starts (mode_after goes_on None row.mode);
+      kept = kept_after starts (mode_after goes_on None row.mode) row.kept;
+    })) (start_events t starts (mode_after goes_on None row.mode) row.kept)
+    ≡ tells (with_row core t (record row { mode = mode_after goes_on starts row.mode; kept = kept_after starts row.mode row.kept }))
+    (start_events t starts row.mode row.kept)
 both_steps core t row goes_on starts =
-    ap₂ (λ mode events. tells (with_row core t (record row { mode = mode })) events) (mode_twice goes_on starts row.mode)
-    (events_twice t goes_on starts row.mode)
+    ap₂ (λ mode held. tells (with_row core t (record row { mode = mode; kept = held }))
+    (start_events t starts (mode_after goes_on None row.mode) row.kept)) (mode_twice goes_on starts row.mode)
+    (kept_twice goes_on starts row.mode row.kept)
+    ∙ ap (λ events. tells (with_row core t (record row { mode = mode_after goes_on starts row.mode; kept = kept_after starts row.mode row.kept })) events)
+    (events_twice t goes_on starts row.mode row.kept)
 
 module _ (core : Core) (t : ℕ) (row : TaskRow) (at : row_of core t ≡ Some row) where
   -- the plans of a task that fire now serve
-  served_is : served core t ≡ tells (with_row core t (served_row core row)) (start_events t (starts_now core row.activation) row.mode)
+  served_is : served core t ≡ tells (with_row core t (served_row core row)) (start_events t (starts_now core row.activation) row.mode row.kept)
   served_is =
       let goes_on = serves_if core row.continuation in
       let gone = went_on goes_on row in
       ap (λ c. serve_activation c t) (serve_continuation_is core t row at)
       ∙ serve_activation_is (with_row core t gone) t gone (row_there core t row at gone)
-      ∙ ap (λ c. tells c (start_events t (starts_now core row.activation) gone.mode)) (row_twice core t gone (began (starts_now core row.activation) gone))
+      ∙ ap (λ c. tells c (start_events t (starts_now core row.activation) gone.mode gone.kept)) (row_twice core t gone (began (starts_now core row.activation) gone))
       ∙ both_steps core t (record row { continuation = if goes_on then None else row.continuation }) goes_on (starts_now core row.activation)
 
   module _ (interrupt : ℕ) where
@@ -89,8 +105,9 @@ module _ (core : Core) (t : ℕ) (row : TaskRow) (at : row_of core t ≡ Some ro
     activation_began_is : begin_activation interrupt (activation_of core t) core t
         ≡ tells (with_row core t (record row {
           mode = mode_after false (starts_after core interrupt row.activation) row.mode;
+          kept = kept_after (starts_after core interrupt row.activation) row.mode row.kept;
           activation = activation_after core interrupt row.activation;
-        })) (start_events t (starts_after core interrupt row.activation) row.mode)
+        })) (start_events t (starts_after core interrupt row.activation) row.mode row.kept)
     activation_began_is = ap (λ plan. begin_activation interrupt plan core t) (ap activation_in at) ∙ by_plan row.activation refl
       where
         same : (plan : Option Activation) → row.activation ≡ plan →
@@ -104,27 +121,33 @@ module _ (core : Core) (t : ℕ) (row : TaskRow) (at : row_of core t ≡ Some ro
             (if waits then plan_activation core t (record plan { plan = begun core plan.plan }) else core)
             ≡ tells (with_row core t (record row {
               mode = mode_after false (if waits && serves_if core (Some (begun core plan.plan)) then Some plan.priority else None) row.mode;
+              kept = kept_after (if waits && serves_if core (Some (begun core plan.plan)) then Some plan.priority else None) row.mode row.kept;
               activation = Some (record plan { plan = if waits then begun core plan.plan else plan.plan });
-            })) (start_events t (if waits && serves_if core (Some (begun core plan.plan)) then Some plan.priority else None) row.mode)
+            })) (start_events t (if waits && serves_if core (Some (begun core plan.plan)) then Some plan.priority else None) row.mode row.kept)
         by_test true plan is = plan_activation_is core t row at (record plan { plan = begun core plan.plan })
         by_test false plan is = same (Some plan) is
 
         by_plan : (plan : Option Activation) → row.activation ≡ plan → begin_activation interrupt plan core t
             ≡ tells (with_row core t (record row {
               mode = mode_after false (starts_after core interrupt plan) row.mode;
+              kept = kept_after (starts_after core interrupt plan) row.mode row.kept;
               activation = activation_after core interrupt plan;
-            })) (start_events t (starts_after core interrupt plan) row.mode)
+            })) (start_events t (starts_after core interrupt plan) row.mode row.kept)
         by_plan None is = same None is
         by_plan (Some plan) is = by_test (waits_for interrupt plan.plan.when) plan is
 
 -- an interrupt reaches a task
 reached_is : (core : Core) (t : ℕ) (row : TaskRow) → row_of core t ≡ Some row → (interrupt : ℕ) → reached interrupt core t
-    ≡ tells (with_row core t (reached_row core interrupt row)) (start_events t (starts_after core interrupt row.activation) row.mode)
+    ≡ tells (with_row core t (reached_row core interrupt row)) (start_events t (starts_after core interrupt row.activation) row.mode row.kept)
 reached_is core t row at interrupt =
     ap (λ c. begin_activation interrupt (activation_of c t) c t) (continuation_began_is core t row at interrupt)
     ∙ activation_began_is (with_row core t gone) t gone (row_there core t row at gone) interrupt
-    ∙ ap (λ c. tells c (start_events t starts gone.mode))
-    (row_twice core t gone (record gone { mode = mode_after false starts gone.mode; activation = activation_after core interrupt row.activation }))
+    ∙ ap (λ c. tells c (start_events t starts gone.mode gone.kept))
+    (row_twice core t gone (record gone {
+      mode = mode_after false starts gone.mode;
+      kept = kept_after starts gone.mode gone.kept;
+      activation = activation_after core interrupt row.activation;
+    }))
     ∙ both_steps core t (record row {
       continuation = continuation_after core interrupt row.continuation;
       activation = activation_after core interrupt row.activation;
@@ -208,17 +231,17 @@ module _ (change : TaskRow → TaskRow) (events : ℕ → TaskRow → List Event
         ∙ ap (λ es. happened_at base.moment es)
         (ap (λ u. before ++ events u row) (sym (zero-add n)) ∙ sym (next_events n 0 base.tasks row at.1))))
 
+-- what all tell, where each is to be started so
+all_told : (change : TaskRow → TaskRow) (starts : TaskRow → Option ℕ) (t : ℕ) (rows : List TaskRow) →
+    first_events_of change (λ t row. start_events t (starts row) row.mode row.kept) (length rows) t rows ≡ all_start_events starts t rows
+all_told change starts t [] = refl
+all_told change starts t (row ∷ rows) = ap (λ es. start_events t (starts row) row.mode row.kept ++ es) (all_told change starts (t + 1) rows)
+
 -- MILLISECONDS
 
 -- the core one millisecond later, before any plan serves
 abbrev later : Core → Core
 later core = record core { moment = core.moment + 1 }
-
--- what all tell
-served_told : (core : Core) (t : ℕ) (rows : List TaskRow) →
-    first_events_of (served_row core) (λ t row. start_events t (starts_now core row.activation) row.mode) (length rows) t rows ≡ served_events core t rows
-served_told core t [] = refl
-served_told core t (row ∷ rows) = ap (λ es. start_events t (starts_now core row.activation) row.mode ++ es) (served_told core (t + 1) rows)
 
 pub millisecond_is : (core : Core) → millisecond core ≡ record core {
   moment = core.moment + 1;
@@ -226,21 +249,22 @@ pub millisecond_is : (core : Core) → millisecond core ≡ record core {
   told = core.told ++ happened_at (core.moment + 1) (served_events (later core) 0 core.tasks);
 }
 millisecond_is core =
-    each_is (served_row (later core)) (λ t row. start_events t (starts_now (later core) row.activation) row.mode) served (later core) is
+    each_is (served_row (later core)) (λ t row. start_events t (starts_now (later core) row.activation) row.mode row.kept) served (later core) is
     (length core.tasks) (omega arith)
     ∙ ap₂ (λ rows es. let c : Core = record (later core) { tasks = rows; told = core.told ++ happened_at (core.moment + 1) es } in c)
-    (all_rows (served_row (later core)) (λ t row. start_events t (starts_now (later core) row.activation) row.mode) core.tasks)
-    (served_told (later core) 0 core.tasks)
+    (all_rows (served_row (later core)) (λ t row. start_events t (starts_now (later core) row.activation) row.mode row.kept) core.tasks)
+    (all_told (served_row (later core)) (λ row. starts_now (later core) row.activation) 0 core.tasks)
   where
     -- at the same moment the same plans fire
     is : (now : Core) (t : ℕ) (row : TaskRow) → now.moment ≡ core.moment + 1 → now.clock ≡ core.clock → row_of now t ≡ Some row →
-        served now t ≡ tells (with_row now t (served_row (later core) row)) (start_events t (starts_now (later core) row.activation) row.mode)
+        served now t ≡ tells (with_row now t (served_row (later core) row)) (start_events t (starts_now (later core) row.activation) row.mode row.kept)
     is now t row moment clock at =
         served_is now t row at
         ∙ ap₂ (λ goes_on starts. tells (with_row now t (record row {
           mode = mode_after goes_on starts row.mode;
+          kept = kept_after starts row.mode row.kept;
           continuation = if goes_on then None else row.continuation;
-        })) (start_events t starts row.mode)) (same_serves row.continuation) (same_starts row.activation)
+        })) (start_events t starts row.mode row.kept)) (same_serves row.continuation) (same_starts row.activation)
       where
         same_serves : (plan : Option Plan) → serves_if now plan ≡ serves_if (later core) plan
         same_serves None = refl
@@ -251,13 +275,6 @@ millisecond_is core =
         same_starts (Some plan) = ap (λ b. if b then Some plan.priority else None) (same_serves (Some plan.plan))
 
 -- INTERRUPTS
-
-reached_told : (core : Core) (interrupt t : ℕ) (rows : List TaskRow) →
-    first_events_of (reached_row core interrupt) (λ t row. start_events t (starts_after core interrupt row.activation) row.mode) (length rows) t rows
-    ≡ reached_events core interrupt t rows
-reached_told core interrupt t [] = refl
-reached_told core interrupt t (row ∷ rows) =
-    ap (λ es. start_events t (starts_after core interrupt row.activation) row.mode ++ es) (reached_told core interrupt (t + 1) rows)
 
 -- at the same moment and with the same clock the same series begin
 module _ (now core : Core) (moment : now.moment ≡ core.moment) (clock : now.clock ≡ core.clock) where
@@ -317,16 +334,16 @@ pub occurred_is : (core : Core) (interrupt : ℕ) → is_enabled core interrupt 
 }
 occurred_is core interrupt enabled =
     ap (λ b. if b then occurred core interrupt else note core (event.Masked interrupt)) enabled
-    ∙ each_is (reached_row core interrupt) (λ t row. start_events t (starts_after core interrupt row.activation) row.mode) (reached interrupt) core is
+    ∙ each_is (reached_row core interrupt) (λ t row. start_events t (starts_after core interrupt row.activation) row.mode row.kept) (reached interrupt) core is
     (length core.tasks) (omega arith)
     ∙ ap₂ (λ rows es. let c : Core = record core { tasks = rows; told = core.told ++ happened_at core.moment es } in c)
-    (all_rows (reached_row core interrupt) (λ t row. start_events t (starts_after core interrupt row.activation) row.mode) core.tasks)
-    (reached_told core interrupt 0 core.tasks)
+    (all_rows (reached_row core interrupt) (λ t row. start_events t (starts_after core interrupt row.activation) row.mode row.kept) core.tasks)
+    (all_told (reached_row core interrupt) (λ row. starts_after core interrupt row.activation) 0 core.tasks)
   where
     is : (now : Core) (t : ℕ) (row : TaskRow) → now.moment ≡ core.moment → now.clock ≡ core.clock → row_of now t ≡ Some row →
         reached interrupt now t
-        ≡ tells (with_row now t (reached_row core interrupt row)) (start_events t (starts_after core interrupt row.activation) row.mode)
+        ≡ tells (with_row now t (reached_row core interrupt row)) (start_events t (starts_after core interrupt row.activation) row.mode row.kept)
     is now t row moment clock at =
         reached_is now t row at interrupt
-        ∙ ap₂ (λ changed starts. tells (with_row now t changed) (start_events t starts row.mode)) (same_row_after now core moment clock interrupt row)
+        ∙ ap₂ (λ changed starts. tells (with_row now t changed) (start_events t starts row.mode row.kept)) (same_row_after now core moment clock interrupt row)
         (same_starts_after now core moment clock interrupt row.activation)

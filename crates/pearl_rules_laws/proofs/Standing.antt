@@ -8,6 +8,7 @@ use Rattle.pearl_value.specs.declared.device.Device.TheVariants as device
 use Rattle.pearl_rules.specs.declared.action.Action.{Action}
 use Rattle.pearl_rules.specs.declared.action.Action.TheVariants as action
 use Rattle.pearl_rules.specs.declared.event.Shown.TheVariants as shown
+use Rattle.pearl_rules.specs.declared.row.Kept.TheVariants as kept
 use Rattle.pearl_rules.specs.declared.row.Mode.{Mode}
 use Rattle.pearl_rules.specs.declared.row.Mode.TheVariants.{Dormant, Active}
 use Rattle.pearl_rules.specs.declared.row.TaskRow.{TaskRow}
@@ -198,7 +199,13 @@ opens_task setup t task declared = record { main = λ is. begins true is; other 
     -- the row of a task with this word or without it
     row_with : Bool → TaskRow
     row_with main =
-        record { mode = first_mode main task.priority; declared = task.priority; continuation = None; activation = None }
+        record {
+          mode = first_mode main task.priority;
+          declared = task.priority;
+          kept = kept.Nothing;
+          continuation = None;
+          activation = None;
+        }
 
     begins : (main : Bool) → task.main ≡ main → row_of (opening setup) t ≡ Some (row_with main)
     begins main is = at ∙ ap (λ m. Some (row_with m)) is

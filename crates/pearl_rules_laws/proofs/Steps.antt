@@ -1,18 +1,20 @@
 -- What one task's plans do to its row, in one step.
-use Rattle.std.proofs.Common.{◌≡◌, ℕ, zero, suc, List, [], ◌∷◌, ◌++◌, Bool, true, false, if◌then◌else◌, Option, Some, None, slice_get, slice_set, refl, sym, ap, ◌∙◌, append-nil}
+use Rattle.std.proofs.Common.{◌≡◌, ℕ, zero, suc, List, [], ◌∷◌, ◌++◌, Bool, true, false, if◌then◌else◌, Option, Some, None, unwrap_or, length, slice_get, slice_set, refl, sym, ap, ◌∙◌, append-nil}
 use Rattle.std.proofs.lemmas.Option.{same_Some}
 use Rattle.pearl_rules.specs.declared.event.Event.{Event}
 use Rattle.pearl_rules.specs.declared.event.Event.TheVariants as event
+use Rattle.pearl_rules.specs.declared.row.Kept.{Kept}
+use Rattle.pearl_rules.specs.declared.row.Kept.TheVariants as kept
 use Rattle.pearl_rules.specs.declared.row.Mode.{Mode}
 use Rattle.pearl_rules.specs.declared.row.Mode.TheVariants.{Dormant, Active}
 use Rattle.pearl_rules.specs.declared.row.Plan.{Plan}
 use Rattle.pearl_rules.specs.declared.row.Activation.{Activation}
 use Rattle.pearl_rules.specs.declared.row.TaskRow.{TaskRow}
 use Rattle.pearl_rules.specs.Core.{Core, note, row_of, with_row, mode_of_row, mode_of}
-use Rattle.pearl_rules.specs.Plans.{on_row, changed_row, with_continuation, continuation_in, activation_in, started_by, started, marked_mode, with_mark, serves_if, continued, serve_continuation, serve_activation_by, serve_activation, plan_continuation, plan_activation}
+use Rattle.pearl_rules.specs.Plans.{on_row, changed_row, priorities, and_one, kept_in, late_by, with_continuation, continuation_in, activation_in, started_by, started, marked_mode, with_mark, serves_if, continued, serve_continuation, serve_activation_by, serve_activation, plan_continuation, plan_activation}
 use Rattle.pearl_rules.specs.Laws.{happened_at}
 use Rattle.pearl_rules.proofs.Offered.{set-same, set-other}
-use Rattle.pearl_rules_laws.specs.Plans.{ChangesRow, mode_after, start_events, starts_now}
+use Rattle.pearl_rules_laws.specs.Plans.{ChangesRow, mode_after, kept_after, late_event, start_events, starts_now}
 
 -- the core with these events told now
 abbrev pub tells : Core → List Event → Core
@@ -70,7 +72,7 @@ went_on goes_on row = record row {
 
 -- the row of a task that is started, where it is
 abbrev pub began : Option ℕ → TaskRow → TaskRow
-began starts row = record row { mode = mode_after false starts row.mode }
+began starts row = record row { mode = mode_after false starts row.mode; kept = kept_after starts row.mode row.kept }
 
 mode_goes : (mode : Mode) → marked_mode false mode ≡ mode_after true None mode
 mode_goes Dormant = refl
@@ -105,17 +107,28 @@ module _ (core : Core) (t : ℕ) (row : TaskRow) (at : row_of core t ≡ Some ro
       by_test false =
           sym (same_row core t row at) ∙ ap (λ mode. with_row core t (record row { mode = mode })) (sym (mode_stays row.mode))
 
-  pub started_is : (priority : ℕ) → started core t priority ≡ tells (with_row core t (began (Some priority) row)) (start_events t (Some priority) row.mode)
+  pub started_is : (priority : ℕ) → started core t priority
+      ≡ tells (with_row core t (began (Some priority) row)) (start_events t (Some priority) row.mode row.kept)
   started_is priority = ap (λ mode. started_by mode core t priority) (ap mode_of_row at) ∙ by_mode row.mode refl
     where
       by_mode : (mode : Mode) → row.mode ≡ mode → started_by mode core t priority
-          ≡ tells (with_row core t (record row { mode = mode_after false (Some priority) mode })) (start_events t (Some priority) mode)
-      by_mode Dormant is = ap (λ c. note c (event.Start t priority)) (row_changed core t row at (λ r. record r { mode = Active priority false }))
+          ≡ tells (with_row core t (record row { mode = mode_after false (Some priority) mode; kept = kept_after (Some priority) mode row.kept }))
+          (start_events t (Some priority) mode row.kept)
+      by_mode Dormant is =
+          ap (λ c. note c (event.Start t priority)) (row_changed core t row at (λ r. record r { mode = Active priority false; kept = kept.Nothing }))
       by_mode (Active own suspended) is =
-          ap (λ c. note c (event.Overrun t)) (sym (same_row core t row at) ∙ ap (λ mode. with_row core t (record row { mode = mode })) is)
+          ap (λ held. late_by (and_one held priority) core t) (ap kept_in at) ∙ by_more (and_one row.kept priority)
+        where
+          by_more : (more : Option Kept) → late_by more core t
+              ≡ tells (with_row core t (record row { mode = Active own suspended; kept = unwrap_or more row.kept })) (late_event t more ∷ [])
+          by_more None =
+              ap (λ c. note c (event.Overrun t)) (sym (same_row core t row at) ∙ ap (λ mode. with_row core t (record row { mode = mode })) is)
+          by_more (Some more) =
+              ap (λ c. note c (event.Kept t (length (priorities more))))
+              (row_changed core t row at (λ r. record r { kept = more }) ∙ ap (λ mode. with_row core t (record row { mode = mode; kept = more })) is)
 
   pub serve_activation_is : serve_activation core t
-      ≡ tells (with_row core t (began (starts_now core row.activation) row)) (start_events t (starts_now core row.activation) row.mode)
+      ≡ tells (with_row core t (began (starts_now core row.activation) row)) (start_events t (starts_now core row.activation) row.mode row.kept)
   serve_activation_is = ap (λ plan. serve_activation_by plan core t) (ap activation_in at) ∙ by_plan row.activation
     where
       nothing : core ≡ tells (with_row core t (began None row)) []
@@ -123,12 +136,13 @@ module _ (core : Core) (t : ℕ) (row : TaskRow) (at : row_of core t ≡ Some ro
           tells_none core ∙ ap (λ c. tells c []) (sym (same_row core t row at) ∙ ap (λ mode. with_row core t (record row { mode = mode })) (sym (mode_stays row.mode)))
 
       by_test : (b : Bool) (priority : ℕ) → (if b then started core t priority else core)
-          ≡ tells (with_row core t (began (if b then Some priority else None) row)) (start_events t (if b then Some priority else None) row.mode)
+          ≡ tells (with_row core t (began (if b then Some priority else None) row))
+          (start_events t (if b then Some priority else None) row.mode row.kept)
       by_test true priority = started_is priority
       by_test false priority = nothing
 
       by_plan : (plan : Option Activation) → serve_activation_by plan core t
-          ≡ tells (with_row core t (began (starts_now core plan) row)) (start_events t (starts_now core plan) row.mode)
+          ≡ tells (with_row core t (began (starts_now core plan) row)) (start_events t (starts_now core plan) row.mode row.kept)
       by_plan None = nothing
       by_plan (Some plan) = by_test (serves_if core (Some plan.plan)) plan.priority
 
@@ -146,9 +160,10 @@ module _ (core : Core) (t : ℕ) (row : TaskRow) (at : row_of core t ≡ Some ro
 
   -- a new plan to be started
   pub plan_activation_is : (plan : Activation) → plan_activation core t plan
-      ≡ tells (with_row core t (began (starts_now core (Some plan)) (record row { activation = Some plan }))) (start_events t (starts_now core (Some plan)) row.mode)
+      ≡ tells (with_row core t (began (starts_now core (Some plan)) (record row { activation = Some plan })))
+      (start_events t (starts_now core (Some plan)) row.mode row.kept)
   plan_activation_is plan =
       let planned : TaskRow = record row { activation = Some plan } in
       ap (λ c. serve_activation c t) (row_changed core t row at (λ r. record r { activation = Some plan }))
       ∙ serve_activation_is (with_row core t planned) t planned (row_there core t row at planned)
-      ∙ ap (λ c. tells c (start_events t (starts_now core (Some plan)) row.mode)) (row_twice core t planned (began (starts_now core (Some plan)) planned))
+      ∙ ap (λ c. tells c (start_events t (starts_now core (Some plan)) row.mode row.kept)) (row_twice core t planned (began (starts_now core (Some plan)) planned))

@@ -4,6 +4,7 @@ use Rattle.pearl_value.specs.declared.cell.Cell.{Cell}
 use Rattle.pearl_rules.specs.declared.action.Action.{Action}
 use Rattle.pearl_rules.specs.declared.action.Action.TheVariants as action
 use Rattle.pearl_rules.specs.declared.action.Answer.TheVariants.{Nothing}
+use Rattle.pearl_rules.specs.declared.row.Kept.TheVariants as kept
 use Rattle.pearl_rules.specs.declared.row.Mode.TheVariants.{Dormant, Active}
 use Rattle.pearl_rules.specs.declared.setup.TaskEntry.{TaskEntry}
 use Rattle.pearl_rules.specs.Core.{Core, row_of, mode_of}
@@ -31,10 +32,22 @@ pub record ChangesSlot (core : Core) (own slot : ℕ) (value : Cell) (done : Eff
   pub others : (other : ℕ) → other ≢ slot → slice_get done.core.slots other ≡ slice_get core.slots other
   pub rest : done ≡ answering (record core { last = Some own; slots = done.core.slots }) Nothing
 
--- nothing is planned for the task, it has its declared priority, and is active with it where it is MAIN, not suspended, and else dormant
+-- nothing is planned for the task, it keeps no start, has its declared priority, and is active with it where it is MAIN, not suspended, and else dormant
 pub record StandsAsDeclared (core : Core) (t : ℕ) (task : TaskEntry) : Type 0 where
   pub main : task.main ≡ true →
       row_of core t ≡
-      Some (record { mode = Active task.priority false; declared = task.priority; continuation = None; activation = None })
+      Some (record {
+        mode = Active task.priority false;
+        declared = task.priority;
+        kept = kept.Nothing;
+        continuation = None;
+        activation = None;
+      })
   pub other : task.main ≡ false →
-      row_of core t ≡ Some (record { mode = Dormant; declared = task.priority; continuation = None; activation = None })
+      row_of core t ≡ Some (record {
+        mode = Dormant;
+        declared = task.priority;
+        kept = kept.Nothing;
+        continuation = None;
+        activation = None;
+      })

@@ -1,7 +1,7 @@
 -- What plans come to: which moment a time of day is, at which moments a plan serves, which plans an interrupt concerns,
 -- and what becomes of a task where plans serve; what is told, how one device changes, and how a task is broken off
 -- there.
-use Rattle.std.specs.Prelude.{◌≡◌, ◌≢◌, ◌⊎◌, ℕ, ◌+◌, ◌*◌, ◌≤◌, ℤ, List, [], ◌∷◌, ◌++◌, Bool, true, false, ◌&&◌, if◌then◌else◌, Option, Some, None}
+use Rattle.std.specs.Prelude.{◌≡◌, ◌≢◌, ◌⊎◌, ℕ, ◌+◌, ◌*◌, ◌≤◌, ℤ, List, [], ◌∷◌, ◌++◌, Bool, true, false, ◌&&◌, if◌then◌else◌, Option, Some, None, unwrap_or, length}
 use Rattle.pearl_value.specs.declared.cell.Cell.{Cell}
 use Rattle.pearl_value.specs.declared.kind.Kind.{Kind}
 use Rattle.pearl_value.specs.declared.trap.Trap.{Trap}
@@ -10,16 +10,18 @@ use Rattle.pearl_rules.specs.declared.action.Start.TheVariants.{When, WhenAfter}
 use Rattle.pearl_rules.specs.declared.action.Repeat.{Repeat}
 use Rattle.pearl_rules.specs.declared.event.Event.{Event}
 use Rattle.pearl_rules.specs.declared.event.Event.TheVariants as event
+use Rattle.pearl_rules.specs.declared.row.Kept.{Kept}
+use Rattle.pearl_rules.specs.declared.row.Kept.TheVariants as kept
 use Rattle.pearl_rules.specs.declared.row.Mode.{Mode}
 use Rattle.pearl_rules.specs.declared.row.Mode.TheVariants.{Dormant, Active}
 use Rattle.pearl_rules.specs.declared.row.Plan.{Plan}
 use Rattle.pearl_rules.specs.declared.row.Activation.{Activation}
 use Rattle.pearl_rules.specs.declared.row.TaskRow.{TaskRow}
 use Rattle.pearl_rules.specs.Core.{Core, Report, Happened, Channel, Values, row_of}
-use Rattle.pearl_rules.specs.Plans.{time_at, planned, begun, waits_for, serves_if}
+use Rattle.pearl_rules.specs.Plans.{priorities, and_one, oldest, time_at, planned, begun, waits_for, serves_if}
 use Rattle.pearl_rules.specs.Devices.{channel_of}
 use Rattle.pearl_rules.specs.Effect.{Effect, Ends, priority_or_declared}
-use Rattle.pearl_rules.specs.Laws.{happened_at, IsLate}
+use Rattle.pearl_rules.specs.Laws.{happened_at, events_behind, row_behind, IsLate}
 
 -- TIME
 
@@ -82,11 +84,39 @@ mode_after goes_on (Some priority) Dormant = Active priority false
 mode_after true starts (Active priority suspended) = Active priority false
 mode_after false starts (Active priority suspended) = Active priority suspended
 
+-- what it keeps then, where it kept these: a dormant one none, an active one this start too, where it has room for it
+abbrev pub kept_after : (starts : Option ℕ) → Mode → Kept → Kept
+kept_after None mode held = held
+kept_after (Some priority) Dormant held = kept.Nothing
+kept_after (Some priority) (Active own suspended) held = unwrap_or (and_one held priority) held
+
+-- what is told of a start of an active task, where this is what it keeps with it
+abbrev pub late_event : (t : ℕ) → Option Kept → Event
+late_event t None = event.Overrun t
+late_event t (Some more) = event.Kept t (length (priorities more))
+
 -- what is told of it
-abbrev pub start_events : (t : ℕ) (starts : Option ℕ) → Mode → List Event
-start_events t None mode = []
-start_events t (Some priority) Dormant = event.Start t priority ∷ []
-start_events t (Some priority) (Active own suspended) = event.Overrun t ∷ []
+abbrev pub start_events : (t : ℕ) (starts : Option ℕ) → Mode → Kept → List Event
+start_events t None mode held = []
+start_events t (Some priority) Dormant held = event.Start t priority ∷ []
+start_events t (Some priority) (Active own suspended) held = late_event t (and_one held priority) ∷ []
+
+-- and of all tasks that were to be started so, in order of declaration; the first task has the number t
+abbrev pub all_start_events : (starts : TaskRow → Option ℕ) → (t : ℕ) → List TaskRow → List Event
+all_start_events starts t [] = []
+all_start_events starts t (row ∷ rows) = start_events t (starts row) row.mode row.kept ++ all_start_events starts (t + 1) rows
+
+-- one more start is kept, behind those that the task of this row kept: it is the last, their number is told, and nothing
+-- else changed
+pub record KeepsOneMore (old new : Core) (t : ℕ) (row : TaskRow) (priority : ℕ) : Type 0 where
+  pub more : Kept
+  pub last : priorities more ≡ priorities row.kept ++ priority ∷ []
+  pub changes : ChangesRow old new t (record row { kept = more }) (event.Kept t (length (priorities more)) ∷ [])
+
+-- a task ends, and this event tells it: it is dormant then, or active anew with the oldest start that it kept, and keeps the
+-- others; it goes on by no plan, and the plan by which it is started stays
+abbrev pub EndsRow : (old new : Core) (t : ℕ) → TaskRow → Event → Type 0
+EndsRow old new t row told = ChangesRow old new t (row_behind (oldest row.kept) row) (told ∷ events_behind t (oldest row.kept))
 
 -- the priority with which a task is to be started now
 abbrev pub starts_now : Core → Option Activation → Option ℕ
@@ -104,6 +134,7 @@ new_activation core t start repeat priority =
 abbrev pub with_new_activation : Core → Activation → TaskRow → TaskRow
 with_new_activation core activation row = record row {
   mode = mode_after false (starts_now core (Some activation)) row.mode;
+  kept = kept_after (starts_now core (Some activation)) row.mode row.kept;
   activation = Some activation;
 }
 
@@ -120,14 +151,13 @@ with_new_continuation core plan row = record row {
 abbrev pub served_row : Core → TaskRow → TaskRow
 served_row core row = record row {
   mode = mode_after (serves_if core row.continuation) (starts_now core row.activation) row.mode;
+  kept = kept_after (starts_now core row.activation) row.mode row.kept;
   continuation = if serves_if core row.continuation then None else row.continuation;
 }
 
--- what is told where the plans of tasks serve, in order of declaration; the first task has the number t
+-- what is told where the plans of tasks serve, the first task having the number t
 abbrev pub served_events : Core → (t : ℕ) → List TaskRow → List Event
-served_events core t [] = []
-served_events core t (row ∷ rows) =
-    start_events t (starts_now core row.activation) row.mode ++ served_events core (t + 1) rows
+served_events core = all_start_events (λ row. starts_now core row.activation)
 
 -- INTERRUPTS
 
@@ -162,15 +192,14 @@ activation_after core interrupt (Some activation) =
 abbrev pub reached_row : Core → (interrupt : ℕ) → TaskRow → TaskRow
 reached_row core interrupt row = record row {
   mode = mode_after (goes_after core interrupt row.continuation) (starts_after core interrupt row.activation) row.mode;
+  kept = kept_after (starts_after core interrupt row.activation) row.mode row.kept;
   continuation = continuation_after core interrupt row.continuation;
   activation = activation_after core interrupt row.activation;
 }
 
--- what is told then, in order of declaration
+-- what is told then
 abbrev pub reached_events : Core → (interrupt t : ℕ) → List TaskRow → List Event
-reached_events core interrupt t [] = []
-reached_events core interrupt t (row ∷ rows) =
-    start_events t (starts_after core interrupt row.activation) row.mode ++ reached_events core interrupt (t + 1) rows
+reached_events core interrupt = all_start_events (λ row. starts_after core interrupt row.activation)
 
 -- DEVICES
 
@@ -191,6 +220,6 @@ pub record ValueWaits (core : Core) (device : ℕ) : Type 0 where
 pub record BreaksOff (core : Core) (own device : ℕ) (channel : Channel) (row : TaskRow) (trap : Trap) (done : Effect) : Type 0 where
   pub between : Core
   pub channel_changes : ChangesChannel (record core { last = Some own }) between device channel
-  pub row_changes : ChangesRow between done.core own (record row { mode = Dormant; continuation = None }) (event.Trap own trap ∷ [])
+  pub row_changes : EndsRow between done.core own row (event.Trap own trap)
   pub replies : done.reply ≡ Ends
   pub ends : done.ended ≡ own ∷ []

@@ -1,6 +1,6 @@
 // Laws of what comes in: what `clock` and `irpt` do by themselves, whoever could act.
 
-ghost use Rattle.std.specs.Prelude.{◌≡◌, ℕ, ◌^◌, ◌<◌, Bool, true, false, Some, None};
+ghost use Rattle.std.specs.Prelude.{◌≡◌, ℕ, ◌+◌, ◌^◌, ◌<◌, [], ◌∷◌, ◌++◌, Bool, true, false, Some, None, length};
 ghost use Rattle.pearl_rules.specs.declared.entry.Entry.TheVariants.{Clock, Irpt};
 ghost use Rattle.pearl_rules.specs.declared.event.Event.TheVariants as event;
 ghost use Rattle.pearl_rules.specs.declared.row.Mode.TheVariants.{Dormant, Active};
@@ -9,7 +9,7 @@ ghost use Rattle.pearl_rules.specs.declared.row.Plan.{Plan};
 ghost use Rattle.pearl_rules.specs.declared.row.TaskRow.{TaskRow};
 ghost use Rattle.pearl_rules.specs.Core.{Core, row_of, mode_of};
 ghost use Rattle.pearl_rules.specs.Devices.{is_enabled, arrived};
-ghost use Rattle.pearl_rules.specs.Plans.{time_at, begun, continuation_of, activation_of};
+ghost use Rattle.pearl_rules.specs.Plans.{priorities, kept_of, time_at, begun, continuation_of, activation_of};
 ghost use Rattle.pearl_rules_laws.specs.Plans.{ServesAtOnce, IsUntouchedBy, IsTold, IsToldLate};
 
 /// `clock` says the time of day at moment 0, and changes nothing else.
@@ -20,8 +20,8 @@ pub fn clocks_say_the_time_of_day()
 {}
 
 /// An interrupt that is let through lets the suspended tasks go on that wait for it, which then have no plan to go on,
-/// and starts the dormant ones that are to be started at it, with the priority of their plan; that an active one was to
-/// be started is told. An active task that isn't to go on at it stays suspended or not, as it was. The series of a plan
+/// and starts the dormant ones that are to be started at it, with the priority of their plan. An active one that was to be
+/// started keeps the start as its last, where it keeps fewer than three, and else that is told as an overrun. An active task that isn't to go on at it stays suspended or not, as it was. The series of a plan
 /// to go on some time after it begins then, and a task that is to be started some time after it stays dormant. A plan of
 /// starts that waits for it begins anew; and a task none of whose plans waits for it stays as it is.
 pub fn interrupts_serve_those_that_wait()
@@ -38,7 +38,15 @@ pub fn interrupts_serve_those_that_wait()
         row_of core t ≡ Some row →
         core.moment < 2 ^ 64 → (activation : Activation) (priority : ℕ) (suspended : Bool) →
         row.mode ≡ Active priority suspended → row.activation ≡ Some activation →
-        ServesAtOnce device activation.plan → IsTold core (arrived core (Irpt device)) (event.Overrun t) }
+        ServesAtOnce device activation.plan → length (priorities row.kept) ≡ 3 →
+        IsTold core (arrived core (Irpt device)) (event.Overrun t) }
+    ensures is_kept { (core : Core) (device t : ℕ) (row : TaskRow) → is_enabled core device ≡ true →
+        row_of core t ≡ Some row →
+        core.moment < 2 ^ 64 → (activation : Activation) (priority : ℕ) (suspended : Bool) →
+        row.mode ≡ Active priority suspended → row.activation ≡ Some activation →
+        ServesAtOnce device activation.plan → length (priorities row.kept) < 3 →
+        (priorities (kept_of (arrived core (Irpt device)) t) ≡ priorities row.kept ++ activation.priority ∷ [])
+        × IsTold core (arrived core (Irpt device)) (event.Kept t (length (priorities row.kept) + 1)) }
     ensures late { (core : Core) (device t : ℕ) (row : TaskRow) → is_enabled core device ≡ true →
         row_of core t ≡ Some row →
         core.moment < 2 ^ 64 → (activation : Activation) (priority : ℕ) (suspended : Bool) →

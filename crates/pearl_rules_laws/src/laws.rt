@@ -21,6 +21,7 @@ ghost use Rattle.pearl_rules.specs.declared.entry.Entry.{Entry};
 ghost use Rattle.pearl_rules.specs.declared.entry.Entry.TheVariants.{Run, Turn, State, Irpt, Chars, Line};
 ghost use Rattle.pearl_rules.specs.declared.event.Event.TheVariants as event;
 ghost use Rattle.pearl_rules.specs.declared.event.Shown.TheVariants as shown;
+ghost use Rattle.pearl_rules.specs.declared.row.Kept.TheVariants as kept;
 ghost use Rattle.pearl_rules.specs.declared.row.Mode.TheVariants.{Dormant, Active};
 ghost use Rattle.pearl_rules.specs.declared.row.Plan.{Plan};
 ghost use Rattle.pearl_rules.specs.declared.row.TaskRow.{TaskRow};
@@ -34,7 +35,7 @@ ghost use Rattle.pearl_rules.specs.Pick.{Offered, guard, is_eligible, pick, show
 ghost use Rattle.pearl_rules.specs.Plans.{time_at, first_moment, period_of, end_of, last_moment};
 ghost use Rattle.pearl_rules.specs.Plans.{begin_series, planned, begun, serves_if, millisecond};
 ghost use Rattle.pearl_rules.specs.Runs.{Acts, Turns, Tells, Supplier, Source, source_offers, source_next};
-ghost use Rattle.pearl_rules_laws.specs.Plans.{IsNextTime, IsMoment, Waits, ChangesRow, ChangesChannel, start_events, starts_now, new_activation, with_new_activation, with_new_continuation, served_row, served_events, reached_row, reached_events};
+ghost use Rattle.pearl_rules_laws.specs.Plans.{IsNextTime, IsMoment, Waits, ChangesRow, EndsRow, ChangesChannel, start_events, starts_now, new_activation, with_new_activation, with_new_continuation, served_row, served_events, reached_row, reached_events};
 ghost use Rattle.pearl_rules_laws.specs.Laws.{CanAct, ChangesSlot, MayWait, StandsAsDeclared};
 
 /// A task is eligible exactly where it is active, isn't suspended, and has offered an action that can be done now.
@@ -107,7 +108,7 @@ pub fn turns_and_entries_change_nothing()
         effect core own action.Enter ≡ answering (record core { last = Some own }) Nothing }
 {}
 
-/// At its start a run is at moment 0 and midnight, nobody has acted, nothing is planned, variables and counts have their
+/// At its start a run is at moment 0 and midnight, nobody has acted, nothing is planned or kept, variables and counts have their
 /// first values, interrupts are masked and nothing waits at a device, and of the declared tasks those with MAIN are
 /// active, with their declared priority and not suspended, and the others dormant.
 pub fn runs_open_as_declared()
@@ -152,25 +153,23 @@ pub fn turns_and_states_are_one_mark()
     ensures end { (offer : Supplier) (s : Source) → s.entries ≡ [] → source_next offer s ≡ None }
 {}
 
-/// A PREVENT drops both plans of a task, and nothing else changes.
+/// A PREVENT drops both plans of a task and all starts that it keeps, and nothing else changes.
 pub fn prevents_drop_both_plans()
     ensures { (core : Core) (own t : ℕ) (row : TaskRow) → row_of core t ≡ Some row →
         ChangesRow (record core { last = Some own }) (effect core own (action.Prevent t)).core t
-        (record row { continuation = None; activation = None }) [] }
+        (record row { kept = kept.Nothing; continuation = None; activation = None }) [] }
 {}
 
-/// A task that ends, is broken off or is ended from outside goes on by no plan; the plan by which it is started stays.
+/// A task that ends, is broken off or is ended from outside goes on by no plan; the plan by which it is started stays. Where
+/// it kept starts it is active anew with the oldest, which is told behind its end, and keeps the others; else it is dormant.
 pub fn ends_keep_the_plan_of_starts()
     ensures ends { (core : Core) (own : ℕ) (row : TaskRow) → row_of core own ≡ Some row →
-        ChangesRow (record core { last = Some own }) (effect core own action.End).core own
-        (record row { mode = Dormant; continuation = None }) (event.End own ∷ []) }
+        EndsRow (record core { last = Some own }) (effect core own action.End).core own row (event.End own) }
     ensures breaks_off { (core : Core) (own : ℕ) (row : TaskRow) → row_of core own ≡ Some row → (trap : traps.Trap) →
-        ChangesRow (record core { last = Some own }) (effect core own (action.Trap trap)).core own
-        (record row { mode = Dormant; continuation = None }) (event.Trap own trap ∷ []) }
+        EndsRow (record core { last = Some own }) (effect core own (action.Trap trap)).core own row (event.Trap own trap) }
     ensures stops { (core : Core) (own t : ℕ) (row : TaskRow) → row_of core t ≡ Some row → (priority : ℕ) (suspended : Bool) →
         row.mode ≡ Active priority suspended →
-        ChangesRow (record core { last = Some own }) (effect core own (action.Terminate t)).core t
-        (record row { mode = Dormant; continuation = None }) (event.Stop t ∷ []) }
+        EndsRow (record core { last = Some own }) (effect core own (action.Terminate t)).core t row (event.Stop t) }
 {}
 
 /// A new plan takes the place of the old one of its kind, leaves the other one, and serves at once where its series fires
@@ -180,7 +179,7 @@ pub fn new_plans_replace_old_ones()
         (start : Start) (repeat : Repeat) (priority : Option ℕ) → is_at_once start repeat ≡ false →
         ChangesRow (record core { last = Some own }) (effect core own (action.Activate t start repeat priority)).core t
         (with_new_activation core (new_activation core t start repeat priority) row)
-        (start_events t (starts_now core (Some (new_activation core t start repeat priority))) row.mode) }
+        (start_events t (starts_now core (Some (new_activation core t start repeat priority))) row.mode row.kept) }
     ensures goes_on { (core : Core) (own t : ℕ) (row : TaskRow) → row_of core t ≡ Some row →
         (start : Start) (priority : ℕ) (suspended : Bool) → row.mode ≡ Active priority suspended → is_at_once start Once ≡ false →
         ChangesRow (record core { last = Some own }) (effect core own (action.Continue t start)).core t
@@ -242,8 +241,8 @@ pub fn plans_begin_and_end_as_written()
 {}
 
 /// In a millisecond the plans of all tasks serve that fire then, in order of declaration, and nothing else happens: a task
-/// goes on and its plan to do so is gone, a dormant one is started, and an active one that was to be started is told as an
-/// overrun.
+/// goes on and its plan to do so is gone, a dormant one is started, and an active one that was to be started keeps the start,
+/// or where it keeps three is told as an overrun.
 pub fn a_millisecond_serves_the_plans()
     ensures { (core : Core) → millisecond core ≡ record core {
       moment = core.moment + 1;

@@ -3,6 +3,7 @@
 
 pub mod arrivals;
 pub mod devices;
+pub mod kept;
 pub mod laws;
 pub mod runs;
 pub mod schedules;

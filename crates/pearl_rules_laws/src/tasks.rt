@@ -1,29 +1,37 @@
-// Laws of tasks whose mode alone an action changes: their plans stay, and so do all other tasks.
+// Laws of tasks of which an action changes the mode or what they keep: their plans stay, and so do all other tasks.
 
-ghost use Rattle.std.specs.Prelude.{◌≡◌, ℕ, [], ◌∷◌, Bool, true, false, Option, Some, None};
+ghost use Rattle.std.specs.Prelude.{◌≡◌, ℕ, ◌<◌, [], ◌∷◌, Bool, true, false, Option, Some, None, length};
 ghost use Rattle.pearl_rules.specs.declared.action.Action.TheVariants as action;
 ghost use Rattle.pearl_rules.specs.declared.action.Start.TheVariants.{Free};
 ghost use Rattle.pearl_rules.specs.declared.action.Repeat.TheVariants.{Once};
 ghost use Rattle.pearl_rules.specs.declared.action.Answer.TheVariants.{Nothing};
 ghost use Rattle.pearl_rules.specs.declared.event.Event.TheVariants as event;
+ghost use Rattle.pearl_rules.specs.declared.row.Kept.TheVariants as kept;
 ghost use Rattle.pearl_rules.specs.declared.row.Mode.TheVariants.{Dormant, Active};
 ghost use Rattle.pearl_rules.specs.declared.row.TaskRow.{TaskRow};
 ghost use Rattle.pearl_rules.specs.Core.{Core, row_of};
-ghost use Rattle.pearl_rules.specs.Effect.{answering, effect};
-ghost use Rattle.pearl_rules_laws.specs.Plans.{ChangesRow};
+ghost use Rattle.pearl_rules.specs.Plans.{priorities};
+ghost use Rattle.pearl_rules.specs.Effect.{answering, priority_or_declared, effect};
+ghost use Rattle.pearl_rules_laws.specs.Plans.{ChangesRow, KeepsOneMore};
 
-/// A start at once changes of a dormant task its mode alone: both plans stay as they are. Of an active task it changes
-/// nothing; that it was to be started is told.
+/// A start at once makes a dormant task active, which keeps none then: both plans stay as they are. An active task that
+/// keeps fewer than three starts keeps this one as its last, which is told with their number, and nothing else changes; where
+/// it keeps three, that it was to be started is told, and nothing changes.
 pub fn starts_at_once_keep_plans()
     ensures named { (core : Core) (own t : ℕ) (row : TaskRow) → row_of core t ≡ Some row → (priority : ℕ) → row.mode ≡ Dormant →
         ChangesRow (record core { last = Some own }) (effect core own (action.Activate t Free Once (Some priority))).core t
-        (record row { mode = Active priority false }) (event.Start t priority ∷ []) }
+        (record row { mode = Active priority false; kept = kept.Nothing }) (event.Start t priority ∷ []) }
     ensures declared { (core : Core) (own t : ℕ) (row : TaskRow) → row_of core t ≡ Some row → row.mode ≡ Dormant →
         ChangesRow (record core { last = Some own }) (effect core own (action.Activate t Free Once None)).core t
-        (record row { mode = Active row.declared false }) (event.Start t row.declared ∷ []) }
+        (record row { mode = Active row.declared false; kept = kept.Nothing }) (event.Start t row.declared ∷ []) }
+    ensures keeps { (core : Core) (own t : ℕ) (row : TaskRow) → row_of core t ≡ Some row →
+        (named : Option ℕ) (priority : ℕ) (suspended : Bool) → row.mode ≡ Active priority suspended →
+        length (priorities row.kept) < 3 →
+        KeepsOneMore (record core { last = Some own }) (effect core own (action.Activate t Free Once named)).core t row
+        (priority_or_declared core t named) }
     ensures overruns { (core : Core) (own t : ℕ) (row : TaskRow) → row_of core t ≡ Some row →
         (named : Option ℕ) (priority : ℕ) (suspended : Bool) → row.mode ≡ Active priority suspended →
-        ChangesRow (record core { last = Some own }) (effect core own (action.Activate t Free Once named)).core t
+        length (priorities row.kept) ≡ 3 → ChangesRow (record core { last = Some own }) (effect core own (action.Activate t Free Once named)).core t
         row (event.Overrun t ∷ []) }
 {}
 

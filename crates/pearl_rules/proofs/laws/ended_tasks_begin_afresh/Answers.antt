@@ -1,5 +1,5 @@
 use Rattle.pearl_rules.proofs.EndsLaws.{millisecond-lasts, arrived-lasts}
-use Rattle.pearl_rules.proofs.EndsLaws.{effect-ends, effect-dormant}
+use Rattle.pearl_rules.proofs.EndsLaws.{effect-ends, effect-serves}
 use Rattle.pearl_rules.proofs.KeptLaws.{begins_afresh}
 use Rattle.pearl_rules.proofs.laws.ended_tasks_begin_afresh.Goals as goal
 
@@ -15,5 +15,5 @@ returns-clause-passes g c = millisecond-lasts
 pub returns-clause-arrives : goal.returns-clause-arrives
 returns-clause-arrives g c = arrived-lasts
 
-pub returns-clause-dormant : goal.returns-clause-dormant
-returns-clause-dormant g c = effect-dormant
+pub returns-clause-serves : goal.returns-clause-serves
+returns-clause-serves g c = effect-serves
