@@ -1,4 +1,4 @@
--- How often tasks were started, ended, and were to be started while they weren't dormant, by the lines of a transcript.
+-- How often tasks were started and ended, and how many starts were lost, by the lines of a transcript.
 use Rattle.std.specs.Prelude.{ℕ, ◌==◌, if◌then◌else◌, List, [], ◌∷◌, ◌++◌, Bool, codes, count_by}
 use Rattle.std.specs.Fmt.{decimal}
 use Rattle.std.specs.List.{slice_split, starts_with}

@@ -7,8 +7,8 @@ ghost use Rattle.pearl_bench.specs.Counts.{behind_blank as behind_first_blank, c
 use arrayvec::ArrayVec;
 use itoa::Buffer;
 
-/// The line that tells how often tasks were started, ended, and were to be started while they weren't dormant, by a
-/// transcript of the workload with this many tasks.
+/// The line that tells how often tasks were started and ended, and how many starts were lost, by a transcript of the workload
+/// with this many tasks.
 pub fn summary(n: u8, transcript: &[u8]) -> ArrayVec<u8, 112>
     ensures { result.items ≡ summary_of n transcript.now }
 {

@@ -23,7 +23,7 @@ use Rattle.pearl_rules.proofs.Offered.{effect-counts, millisecond-counts, arrive
 use Rattle.pearl_rules.proofs.Offered.{millisecond-length, millisecond-kinds, arrived-length, arrived-kinds}
 use Rattle.pearl_rules.proofs.Offered.{effect-urgencies, millisecond-urgencies, arrived-urgencies, effect-plans}
 use Rattle.pearl_rules.proofs.Offered.{millisecond-plans, arrived-plans, Closed, ClosedAtEnds, IsFree, Brings, Starts}
-use Rattle.pearl_rules.proofs.Offered.{effect-free, arrived-kept, interrupted-kept, millisecond-kept}
+use Rattle.pearl_rules.proofs.Offered.{any_kept, effect-free, arrived-kept, interrupted-kept, millisecond-kept}
 use Rattle.pearl_kernel.specs.Kept.{Kept, done, taken, IsReportOf, IsToldNext, NamesWhatIsThere, IsLawful}
 use Rattle.pearl_rules.specs.Laws.{passed}
 use Rattle.pearl_kernel.specs.Timing.{IsQuiet}
@@ -50,11 +50,12 @@ IsNear core = core.moment ≤ last_moment_of_all
 near_closed : Closed AnyPriority AnyPlan IsNear
 near_closed = record {
   told = λ core e near. near;
-  stands = λ core t row mode at stays near. near;
+  stands = λ core t row mode kept at stays keeps near. near;
   goes_on = λ core t row plan at lawful near. near;
   starts = λ core t row plan at lawful near. near;
   going = λ core t row at near. if_any AnyPlan (λ plan. tt) row.continuation;
   starting = λ core t row at near. if_any (Starts AnyPriority AnyPlan) (λ plan. (tt, tt)) row.activation;
+  keeping = λ core t row at near. any_kept row.kept;
   begins = λ core plan lawful. tt;
 }
 

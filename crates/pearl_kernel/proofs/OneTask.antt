@@ -1,21 +1,23 @@
 -- What only changes one task's row and tells events of that task keeps each property of cores that such a change and such an event keep.
-use Rattle.std.proofs.Common.{◌≡◌, ℕ, Bool, true, false, Option, Some, None, refl, if◌then◌else◌}
+use Rattle.std.proofs.Common.{◌≡◌, ℕ, Bool, true, false, Option, Some, None, length, refl, if◌then◌else◌}
 use Rattle.pearl_rules.specs.declared.action.Start.{Start}
 use Rattle.pearl_rules.specs.declared.action.Repeat.{Repeat}
 use Rattle.pearl_rules.specs.declared.action.Repeat.TheVariants.{Once}
 use Rattle.pearl_rules.specs.declared.event.Event.{Event}
 use Rattle.pearl_rules.specs.declared.event.Event.TheVariants as event
+use Rattle.pearl_rules.specs.declared.row.Kept.{Kept}
+use Rattle.pearl_rules.specs.declared.row.Kept.TheVariants as kept
 use Rattle.pearl_rules.specs.declared.row.Mode.{Mode}
 use Rattle.pearl_rules.specs.declared.row.Mode.TheVariants.{Dormant, Active}
 use Rattle.pearl_rules.specs.declared.row.Plan.{Plan}
 use Rattle.pearl_rules.specs.declared.row.Activation.{Activation}
 use Rattle.pearl_rules.specs.declared.row.TaskRow.{TaskRow}
 use Rattle.pearl_rules.specs.Core.{Core, note, mode_of, is_active}
-use Rattle.pearl_rules.specs.Plans.{changed_row, with_mode, with_continuation, with_activation, continuation_of, activation_of}
-use Rattle.pearl_rules.specs.Plans.{started_by, started, marked_mode, with_mark, planned, begun, waits_for, serves_if, continued}
+use Rattle.pearl_rules.specs.Plans.{changed_row, with_continuation, with_activation, continuation_of, activation_of}
+use Rattle.pearl_rules.specs.Plans.{priorities, and_one, oldest, kept_of, with_kept, made_active, late_by, started_by, started, marked_mode, with_mark, planned, begun, waits_for, serves_if, continued}
 use Rattle.pearl_rules.specs.Plans.{serve_continuation, serve_activation_by, serve_activation, plan_continuation, plan_activation}
 use Rattle.pearl_rules.specs.Plans.{served, begin_continuation, begin_activation, continuation_began, reached}
-use Rattle.pearl_rules.specs.Effect.{finished, ending, is_at_once, activated, continues, resuming, prevented, stopped_by}
+use Rattle.pearl_rules.specs.Effect.{finished, again_by, ending, is_at_once, activated, continues, resuming, prevented, stopped_by}
 
 -- an event of this task
 abbrev pub IsOf : ℕ → Event → Type 0
@@ -23,6 +25,7 @@ IsOf u (event.Start task priority) = task ≡ u
 IsOf u (event.End task) = task ≡ u
 IsOf u (event.Stop task) = task ≡ u
 IsOf u (event.Trap task trap) = task ≡ u
+IsOf u (event.Kept task number) = task ≡ u
 IsOf u (event.Overrun task) = task ≡ u
 IsOf u other = ⊥
 
@@ -38,13 +41,22 @@ either P false core other p q = q
 module _ (P : Core → Type 0) (u : ℕ) (closed : Closed P u) where
   -- STARTS AND SUSPENDED TASKS
 
+  made_active-kept : (core : Core) (priority : ℕ) (held : Kept) → P core → P (made_active core u priority held)
+  made_active-kept core priority held p =
+      closed.tell (changed_row core u (λ row. record row { mode = Active priority false; kept = held })) (event.Start u priority) refl
+      (closed.row core (λ row. record row { mode = Active priority false; kept = held }) p)
+
+  late-kept : (core : Core) (more : Option Kept) → P core → P (late_by more core u)
+  late-kept core None p = closed.tell core (event.Overrun u) refl p
+  late-kept core (Some held) p = closed.tell (with_kept core u held) (event.Kept u (length (priorities held))) refl
+      (closed.row core (λ row. record row { kept = held }) p)
+
   started-kept : (core : Core) (priority : ℕ) → P core → P (started core u priority)
   started-kept core priority p = by_mode (mode_of core u)
     where
       by_mode : (mode : Mode) → P (started_by mode core u priority)
-      by_mode Dormant = closed.tell (with_mode core u (Active priority false)) (event.Start u priority) refl
-          (closed.row core (λ row. record row { mode = Active priority false }) p)
-      by_mode (Active own suspended) = closed.tell core (event.Overrun u) refl p
+      by_mode Dormant = made_active-kept core priority kept.Nothing p
+      by_mode (Active own suspended) = late-kept core (and_one (kept_of core u) priority) p
 
   pub mark-kept : (core : Core) (suspended : Bool) → P core → P (with_mark core u suspended)
   mark-kept core suspended p = closed.row core (λ row. record row { mode = marked_mode suspended (mode_of core u) }) p
@@ -121,11 +133,17 @@ module _ (P : Core → Type 0) (u : ℕ) (closed : Closed P u) where
       plan_continuation-kept (with_mark core u true) (planned core start Once) (mark-kept core true p)
 
   pub prevented-kept : (core : Core) → P core → P (prevented core u)
-  prevented-kept core p = closed.row core (λ row. record row { continuation = None; activation = None }) p
+  prevented-kept core p =
+      closed.row core (λ row. record row { kept = kept.Nothing; continuation = None; activation = None }) p
+
+  again-kept : (core : Core) (next : Option (ℕ × Kept)) → P core → P (again_by next core u)
+  again-kept core None p = p
+  again-kept core (Some (first, others)) p = made_active-kept core first others p
 
   pub ending-kept : (core : Core) (e : Event) → IsOf u e → P core → P (ending core u e).core
-  ending-kept core e is p = closed.tell (finished core u) e is
-      (closed.row core (λ row. record row { mode = Dormant; continuation = None }) p)
+  ending-kept core e is p =
+      again-kept (note (finished core u) e) (oldest (kept_of core u)) (closed.tell (finished core u) e is
+      (closed.row core (λ row. record row { mode = Dormant; kept = kept.Nothing; continuation = None }) p))
 
   pub stopped-kept : (core : Core) → P core → P (stopped_by (mode_of core u) core u)
   stopped-kept core p = by_mode (mode_of core u)

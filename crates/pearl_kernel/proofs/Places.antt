@@ -39,6 +39,12 @@ module _ {X : Type 0} where
   none-less (x ∷ xs) (suc u) zero e = e
   none-less (x ∷ xs) (suc u) (suc t) e = none-less xs u t e
 
+  -- and nothing at the place that is gone
+  pub none-here : (xs : List (Option X)) (u : ℕ) → kept_at (slice_set xs u None) u ≡ None
+  none-here [] u = refl
+  none-here (x ∷ xs) zero = refl
+  none-here (x ∷ xs) (suc u) = none-here xs u
+
   -- what is kept after something is gone was kept before
   pub some-before : (xs : List (Option X)) (u t : ℕ) (x : X) → kept_at (slice_set xs u None) t ≡ Some x →
       kept_at xs t ≡ Some x

@@ -5,6 +5,8 @@ use Rattle.std.proofs.lemmas.List.{length-append}
 use Rattle.std.specs.List.{AllByRecursion}
 use Rattle.pearl_rules.specs.declared.event.Event.{Event}
 use Rattle.pearl_rules.specs.declared.event.Event.TheVariants as event
+use Rattle.pearl_rules.specs.declared.row.Kept.{Kept}
+use Rattle.pearl_rules.specs.declared.row.Kept.TheVariants as kept
 use Rattle.pearl_rules.specs.declared.row.Mode.{Mode}
 use Rattle.pearl_rules.specs.declared.row.Mode.TheVariants.{Dormant, Active}
 use Rattle.pearl_rules.specs.declared.row.Plan.{Plan}
@@ -12,7 +14,7 @@ use Rattle.pearl_rules.specs.declared.row.Activation.{Activation}
 use Rattle.pearl_rules.specs.declared.row.TaskRow.{TaskRow}
 use Rattle.pearl_rules.specs.Core.{Core, note, row_of, with_row, mode_of}
 use Rattle.pearl_rules.specs.Plans.{on_row, changed_row, with_mode, with_continuation, with_activation, marked_mode, with_mark}
-use Rattle.pearl_rules.specs.Plans.{started_by, started, serves_if, continued, continuation_in, continuation_of, activation_in, activation_of}
+use Rattle.pearl_rules.specs.Plans.{priorities, and_one, kept_of, with_kept, made_active, late_by, started_by, started, serves_if, continued, continuation_in, continuation_of, activation_in, activation_of}
 use Rattle.pearl_rules.specs.Plans.{serve_continuation, serve_activation_by, serve_activation, plan_continuation, plan_activation}
 use Rattle.pearl_rules.specs.Plans.{each_task, served, millisecond, waits_for, begun, begin_continuation, begin_activation}
 use Rattle.pearl_rules.specs.Plans.{continuation_began, reached, occurred}
@@ -109,15 +111,26 @@ keeps-note core event = record {
 
 -- PLANS THAT SERVE
 
+keeps-made_active : (core : Core) (t priority : ℕ) (held : Kept) → Keeps 1 core (made_active core t priority held)
+keeps-made_active core t priority held =
+    let active = changed_row core t (λ row. record row { mode = Active priority false; kept = held }) in
+    keeps-then 0 1 core active (note active (event.Start t priority))
+    (keeps-row core t (λ row. record row { mode = Active priority false; kept = held }) (λ row e is. is))
+    (keeps-note active (event.Start t priority))
+
+keeps-late : (core : Core) (t : ℕ) (more : Option Kept) → Keeps 1 core (late_by more core t)
+keeps-late core t None = keeps-note core (event.Overrun t)
+keeps-late core t (Some held) =
+    let told = event.Kept t (length (priorities held)) in
+    keeps-then 0 1 core (with_kept core t held) (note (with_kept core t held) told)
+    (keeps-row core t (λ row. record row { kept = held }) (λ row e is. is)) (keeps-note (with_kept core t held) told)
+
 pub keeps-started : (core : Core) (t priority : ℕ) → Keeps 1 core (started core t priority)
 keeps-started core t priority = by_mode (mode_of core t)
   where
     by_mode : (mode : Mode) → Keeps 1 core (started_by mode core t priority)
-    by_mode Dormant =
-        let active = with_mode core t (Active priority false) in
-        keeps-then 0 1 core active (note active (event.Start t priority)) (keeps-mode core t (Active priority false))
-        (keeps-note active (event.Start t priority))
-    by_mode (Active own suspended) = keeps-note core (event.Overrun t)
+    by_mode Dormant = keeps-made_active core t priority kept.Nothing
+    by_mode (Active own suspended) = keeps-late core t (and_one (kept_of core t) priority)
 
 pub keeps-serve_continuation : (core : Core) (t : ℕ) → Keeps 0 core (serve_continuation core t)
 keeps-serve_continuation core t = by_test (serves_if core (continuation_of core t))

@@ -2,9 +2,13 @@
 use Rattle.std.proofs.Common.{◌≡◌, ℕ, zero, suc, List, [], ◌∷◌, Bool, true, false, Option, Some, None, IfSome, nat_lt}
 use Rattle.std.proofs.Common.{slice_get, slice_set, refl, sym, ap, subst, ◌∙◌}
 use Rattle.pearl_value.specs.declared.cell.Cell.{Cell}
+use Rattle.pearl_value.specs.declared.trap.Trap.TheVariants.{SemaLimit, Format}
 use Rattle.pearl_rules.specs.declared.action.Action.{Action}
 use Rattle.pearl_rules.specs.declared.action.Action.TheVariants as action
 use Rattle.pearl_rules.specs.declared.entry.Entry.{Entry}
+use Rattle.pearl_rules.specs.declared.event.Event.{Event}
+use Rattle.pearl_rules.specs.declared.event.Event.TheVariants as event
+use Rattle.pearl_rules.specs.declared.row.Kept.TheVariants as kept
 use Rattle.pearl_rules.specs.declared.row.Mode.{Mode}
 use Rattle.pearl_rules.specs.declared.row.Mode.TheVariants.{Dormant, Active}
 use Rattle.pearl_rules.specs.declared.row.Plan.{Plan}
@@ -12,14 +16,14 @@ use Rattle.pearl_rules.specs.declared.row.TaskRow.{TaskRow}
 use Rattle.pearl_rules.specs.Core.{Core, Channel, Switch, Bytes, Values, Outward, row_of, with_row, is_active_row, is_active_mode, mode_of}
 use Rattle.pearl_rules.specs.Counts.{all_below_most, count_at}
 use Rattle.pearl_rules.specs.Devices.{channel_of, interrupted, without_bytes, bytes_at, values_at, items_of, without_value_by, arrived}
-use Rattle.pearl_rules.specs.Effect.{effect, finished, priority_or_declared, prevented, stopped_by, stopped_tasks, releasing, trying}
+use Rattle.pearl_rules.specs.Effect.{effect, ended_with, priority_or_declared, prevented, stopped_by, stopped_tasks, releasing, trying}
 use Rattle.pearl_rules.specs.Effect.{getting, taking}
 use Rattle.pearl_rules.specs.Plans.{on_row, millisecond}
 use Rattle.pearl_rules.specs.Runs.{dropped, kept_at}
 use Rattle.pearl_rules.specs.Scan.{Scanned, Short, Bad, Got, scan}
 use Rattle.pearl_rules.proofs.Offered.{Stays, Starts, Closed, IsFree, arrived-kept, mark-kept, activated-kept}
-use Rattle.pearl_rules.proofs.Offered.{continues-kept, resuming-kept, interrupted-kept, millisecond-kept}
-use Rattle.pearl_kernel.proofs.Places.{none-less}
+use Rattle.pearl_rules.proofs.Offered.{any_kept, ended-other, continues-kept, resuming-kept, interrupted-kept, millisecond-kept}
+use Rattle.pearl_kernel.proofs.Places.{by_task, none-less, none-here}
 
 abbrev pub Quiet : List TaskRow → List (Option Action) → Type 0
 Quiet rows offers = (t : ℕ) → is_active_row (slice_get rows t) ≡ false → kept_at offers t ≡ None
@@ -39,16 +43,6 @@ quiet_row (r ∷ rows) offers (suc u) row still q zero e = q zero e
 quiet_row (r ∷ rows) [] (suc u) row still q (suc t) e = refl
 quiet_row (r ∷ rows) (o ∷ offers) (suc u) row still q (suc t) e = quiet_row rows offers u row still
     (λ i h. q (suc i) h) t e
-
--- a task ends
-quiet_end : (rows : List TaskRow) (offers : List (Option Action)) (u : ℕ) (row : TaskRow) → Quiet rows offers →
-    Quiet (slice_set rows u row) (slice_set offers u None)
-quiet_end [] offers u row q t e = none-less offers u t (q t e)
-quiet_end (r ∷ rows) [] u row q t e = refl
-quiet_end (r ∷ rows) (o ∷ offers) zero row q zero e = refl
-quiet_end (r ∷ rows) (o ∷ offers) zero row q (suc t) e = q (suc t) e
-quiet_end (r ∷ rows) (o ∷ offers) (suc u) row q zero e = q zero e
-quiet_end (r ∷ rows) (o ∷ offers) (suc u) row q (suc t) e = quiet_end rows offers u row (λ i h. q (suc i) h) t e
 
 abbrev AnyPriority : ℕ → Type 0
 AnyPriority priority = Unit {0}
@@ -77,11 +71,13 @@ module _ (offers : List (Option Action)) where
   closed : Closed AnyPriority AnyPlan QuietCore
   closed = record {
     told = λ core e q. q;
-    stands = λ core t row mode at stays q. same_row core t row (record row { mode = mode }) at (still row.mode mode stays) q;
+    stands = λ core t row mode held at stays keeps q.
+        same_row core t row (record row { mode = mode; kept = held }) at (still row.mode mode stays) q;
     goes_on = λ core t row plan at lawful q. same_row core t row (record row { continuation = plan }) at (λ e. e) q;
     starts = λ core t row plan at lawful q. same_row core t row (record row { activation = Some plan }) at (λ e. e) q;
     going = λ core t row at q. if_any AnyPlan (λ plan. tt) row.continuation;
     starting = λ core t row at q. if_any (Starts AnyPriority AnyPlan) (λ plan. (tt, tt)) row.activation;
+    keeping = λ core t row at q. any_kept row.kept;
     begins = λ core plan lawful. tt;
   }
 
@@ -101,18 +97,17 @@ module _ (offers : List (Option Action)) where
   quiet_prevented core u q = by_row (row_of core u) refl
     where
       by_row : (row : Option TaskRow) → row_of core u ≡ row →
-          QuietCore (on_row row core (λ r. with_row core u (record r { continuation = None; activation = None })))
+          QuietCore (on_row row core (λ r. with_row core u (record r { kept = kept.Nothing; continuation = None; activation = None })))
       by_row None at = q
-      by_row (Some row) at = same_row core u row (record row { continuation = None; activation = None }) at (λ e. e) q
+      by_row (Some row) at =
+          same_row core u row (record row { kept = kept.Nothing; continuation = None; activation = None }) at (λ e. e) q
 
-  quiet_finished : (core : Core) (u : ℕ) → QuietCore core → Quiet (finished core u).tasks (slice_set offers u None)
-  quiet_finished core u q = by_row (row_of core u)
-    where
-      by_row : (row : Option TaskRow) →
-          Quiet (on_row row core (λ r. with_row core u (record r { mode = Dormant; continuation = None }))).tasks
-          (slice_set offers u None)
-      by_row None = quiet-less core.tasks offers u q
-      by_row (Some row) = quiet_end core.tasks offers u (record row { mode = Dormant; continuation = None }) q
+  -- the task that ends has offered nothing, also where it is active again
+  quiet_finished : (core : Core) (u : ℕ) (e : Event) → QuietCore core → Quiet (ended_with core u e).tasks (slice_set offers u None)
+  quiet_finished core u e q t is =
+      by_task t u (kept_at (slice_set offers u None) t ≡ None)
+      (λ same. subst (λ v. kept_at (slice_set offers u None) v ≡ None) (sym same) (none-here offers u))
+      (λ other. none-less offers u t (q t (sym (ap is_active_row (ended-other core u t e other)) ∙ is)))
 
   quiet_stopped : (core : Core) (u : ℕ) → QuietCore core →
       Quiet (stopped_by (mode_of core u) core u).tasks (dropped (stopped_tasks (mode_of core u) u) offers)
@@ -120,12 +115,12 @@ module _ (offers : List (Option Action)) where
     where
       by_mode : (mode : Mode) → Quiet (stopped_by mode core u).tasks (dropped (stopped_tasks mode u) offers)
       by_mode Dormant = q
-      by_mode (Active priority suspended) = quiet_finished core u q
+      by_mode (Active priority suspended) = quiet_finished core u (event.Stop u) q
 
   quiet_releasing : (core : Core) (own : ℕ) (list : List ℕ) (can_raise : Bool) → QuietCore core →
       Quiet (releasing core own list can_raise).core.tasks (dropped (releasing core own list can_raise).ended offers)
   quiet_releasing core own list true q = q
-  quiet_releasing core own list false q = quiet_finished core own q
+  quiet_releasing core own list false q = quiet_finished core own (event.Trap own SemaLimit) q
 
   quiet_trying : (core : Core) (semaphore : ℕ) (is_free : Bool) → QuietCore core →
       Quiet (trying core semaphore is_free).core.tasks (dropped (trying core semaphore is_free).ended offers)
@@ -134,13 +129,13 @@ module _ (offers : List (Option Action)) where
 
   quiet_getting : (core : Core) (own device : ℕ) (scanned : Scanned) → QuietCore core →
       Quiet (getting core own device scanned).core.tasks (dropped (getting core own device scanned).ended offers)
-  quiet_getting core own device Short q = quiet_finished core own q
-  quiet_getting core own device (Bad used) q = quiet_finished (without_bytes core device used) own q
+  quiet_getting core own device Short q = quiet_finished core own (event.End own) q
+  quiet_getting core own device (Bad used) q = quiet_finished (without_bytes core device used) own (event.Trap own Format) q
   quiet_getting core own device (Got used values) q = q
 
   quiet_taking : (core : Core) (own device : ℕ) (values : List Cell) → QuietCore core →
       Quiet (taking core own device values).core.tasks (dropped (taking core own device values).ended offers)
-  quiet_taking core own device [] q = quiet_finished core own q
+  quiet_taking core own device [] q = quiet_finished core own (event.End own) q
   quiet_taking core own device (x ∷ later) q = by_channel (channel_of core device)
     where
       by_channel : (channel : Option Channel) → QuietCore (without_value_by channel core device)
@@ -183,5 +178,5 @@ module _ (offers : List (Option Action)) where
           quiet_getting acted own device (scan (items_of core format) kinds.items (bytes_at core device)) q
       by_action (action.Take device) = quiet_taking acted own device (values_at core device) q
       by_action (action.Send device value) = q
-      by_action action.End = quiet_finished acted own q
-      by_action (action.Trap trap) = quiet_finished acted own q
+      by_action action.End = quiet_finished acted own (event.End own) q
+      by_action (action.Trap trap) = quiet_finished acted own (event.Trap own trap) q

@@ -1,6 +1,6 @@
 -- The semaphores that requests name: how they are kept, and what they decide.
 use Rattle.std.proofs.Common.{◌≡◌, ℕ, ◌<◌, ◌≤◌, ◌-◌, ◌+◌, ◌⊎◌, inl, inr, List, [], ◌∷◌, Bool, true, false, ◌&&◌, ◌||◌}
-use Rattle.std.proofs.Common.{zero, suc, Option, Some, None, cond, map, replicate, length, slice_get, slice_set, slice_index_or, nat_lt, nat_eq}
+use Rattle.std.proofs.Common.{zero, suc, Option, Some, None, cond, replicate, length, slice_get, slice_set, slice_index_or, nat_lt, nat_eq}
 use Rattle.std.proofs.Common.{refl, sym, ap, ap₂, ◌∙◌, arith, eq-eqb}
 use Rattle.std.specs.Prelude.{option_map}
 use Rattle.std.specs.List.{IsDistinct}

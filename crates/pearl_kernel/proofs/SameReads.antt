@@ -12,7 +12,7 @@ use Rattle.pearl_rules.specs.Pick.{guard, is_complete, is_possible}
 use Rattle.pearl_rules.specs.Scan.{scan}
 use Rattle.pearl_kernel.specs.declared.changes.Changed.{Changed}
 use Rattle.pearl_kernel.specs.Kept.{Kept, offered}
-use Rattle.pearl_kernel.specs.Changes.{looks_at, renewed, renewed_offer, IsAsked}
+use Rattle.pearl_kernel.specs.Changes.{looks_at, renewed_offer, IsAsked}
 use Rattle.pearl_kernel.proofs.Places.{by_task}
 
 -- the first n of two lists of the same length are the same

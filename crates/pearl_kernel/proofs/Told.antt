@@ -61,6 +61,7 @@ module _ (setup : Setup) where
   names_task u (event.End task) there is = subst (λ t. t < length setup.tasks) (sym is) there
   names_task u (event.Stop task) there is = subst (λ t. t < length setup.tasks) (sym is) there
   names_task u (event.Trap task trap) there is = subst (λ t. t < length setup.tasks) (sym is) there
+  names_task u (event.Kept task number) there is = subst (λ t. t < length setup.tasks) (sym is) there
   names_task u (event.Overrun task) there is = subst (λ t. t < length setup.tasks) (sym is) there
   names_task u (event.Masked device) there is = absurd is
   names_task u (event.Lost device) there is = absurd is

@@ -1,27 +1,29 @@
 -- What each action touches besides its own task.
-use Rattle.std.proofs.Common.{◌≡◌, ◌≢◌, ℕ, ◌<◌, List, Bool, true, false, Option, Some, None, length, slice_get}
+use Rattle.std.proofs.Common.{◌≡◌, ◌≢◌, ℕ, ◌<◌, List, Bool, true, false, Option, Some, None, length, slice_get, slice_set}
 use Rattle.arrayvec.specs.ArrayVec.{ArrayVec}
 use Rattle.std.proofs.Common.{refl, sym, subst, ap, ◌∙◌}
 use Rattle.std.proofs.lemmas.Bool.{true≢false}
 use Rattle.pearl_rules.specs.declared.action.Start.{Start}
 use Rattle.pearl_rules.specs.declared.action.Repeat.{Repeat}
+use Rattle.pearl_rules.specs.declared.event.Event.{Event}
 use Rattle.pearl_rules.specs.declared.row.TaskRow.{TaskRow}
 use Rattle.pearl_rules.specs.Core.{Core, Switch, row_of, with_row}
 use Rattle.pearl_rules.specs.Counts.{count_at, lowered, raised}
 use Rattle.pearl_rules.specs.Devices.{channel_of, with_channel}
-use Rattle.pearl_rules.specs.Effect.{activated, continues, resuming}
+use Rattle.pearl_rules.specs.Effect.{ended_with, ending, activated, continues, resuming}
 use Rattle.pearl_rules.specs.Plans.{on_row, with_mark}
 use Rattle.pearl_rules.specs.Runs.{kept_at}
+use Rattle.pearl_rules.proofs.Offered.{ended-other, ended-rest}
 use Rattle.pearl_kernel.specs.declared.changes.Changed.{Changed}
 use Rattle.pearl_kernel.specs.declared.changes.Changed.TheVariants.{Nothing}
 use Rattle.pearl_kernel.specs.declared.changes.Touched.{Touched}
 use Rattle.pearl_kernel.specs.declared.changes.Touched.TheVariants.{Own, Other, Waiters, All}
-use Rattle.pearl_kernel.specs.Kept.{Kept}
+use Rattle.pearl_kernel.specs.Kept.{Kept, after}
 use Rattle.pearl_kernel.specs.Channels.{HasSwitch}
 use Rattle.pearl_kernel.specs.Changes.{ChangesOnly, Stirs}
 use Rattle.pearl_kernel.specs.Touched.{KeepsOthers, IsThere, touched_if, Leaves}
 use Rattle.pearl_sema.specs.Waiting.{AreThere, names}
-use Rattle.pearl_kernel.proofs.Places.{get-other}
+use Rattle.pearl_kernel.proofs.Places.{get-other, kept-other}
 use Rattle.pearl_kernel.proofs.OneTask as one
 use Rattle.pearl_kernel.proofs.Entries.{unchanged}
 use Rattle.pearl_kernel.proofs.Requesting.{lowered-others, raised-others}
@@ -149,6 +151,58 @@ module _ (own : ℕ) (k new : Kept) where
       kept = tt;
       others = λ t other far. (get-other k.core.tasks u t row far, refl);
       there = there;
+    })
+
+-- A TASK ENDS
+
+-- it may be active again
+ended_only : (changed : Changed) (old core : Core) (u : ℕ) (e : Event) → ChangesOnly changed old core →
+    ChangesOnly changed old (ended_with core u e)
+ended_only changed old core u e only =
+    let rest = ended-rest core u e in
+    same_but changed old core (ended_with core u e) only (ap (λ (x : Core). x.counts) rest)
+    (ap (λ (x : Core). x.channels) rest) (ap (λ (x : Core). x.formats) rest)
+
+ended_others : (k : Kept) (u t : ℕ) (e : Event) → t ≢ u →
+    (row_of (ended_with k.core u e) t ≡ row_of k.core t) × (kept_at (slice_set k.offers u None) t ≡ kept_at k.offers t)
+ended_others k u t e far = (ended-other k.core u t e far, kept-other k.offers u t None far)
+
+-- from outside
+pub leaves-ended : (own u : ℕ) (k new : Kept) (e : Event) → u < length k.core.tasks →
+    new ≡ after k (ending k.core u e) → Leaves own k new (Other u)
+leaves-ended own u k new e there is = subst (λ (x : Kept). Leaves own k x (Other u)) (sym is) (record {
+  only = ended_only Nothing k.core k.core u e (unchanged k.core);
+  kept = tt;
+  others = λ t other far. ended_others k u t e far;
+  there = there;
+})
+
+-- a task that is dormant stays so
+pub leaves-dormant : (own u : ℕ) (k new : Kept) → u < length k.core.tasks → new ≡ k → Leaves own k new (Other u)
+leaves-dormant own u k new there is = subst (λ (x : Kept). Leaves own k x (Other u)) (sym is) (record {
+  only = unchanged k.core;
+  kept = tt;
+  others = λ t other far. (refl, refl);
+  there = there;
+})
+
+-- after what waits at a device may have changed
+pub leaves-broken_off : (own : ℕ) (k mid new : Kept) (changed : Option Changed) (e : Event) → mid.offers ≡ k.offers →
+    Stirs k.core mid.core changed → new ≡ after mid (ending mid.core own e) → Leaves own k new (touched_if changed)
+leaves-broken_off own k mid new None e offers stirs is = subst (λ (x : Kept). Leaves own k x Own) (sym is) (record {
+  only = ended_only Nothing k.core mid.core own e stirs.1;
+  kept = tt;
+  others = λ t other far.
+      let left = ended_others mid own t e other in
+      (left.0 ∙ ap (λ rows. slice_get rows t) stirs.0, left.1 ∙ ap (λ xs. kept_at xs t) offers);
+  there = tt;
+})
+leaves-broken_off own k mid new (Some changed) e offers stirs is =
+    subst (λ (x : Kept). Leaves own k x (All changed)) (sym is) (record {
+      only = ended_only changed k.core mid.core own e stirs;
+      kept = tt;
+      others = λ t other far. absurd far;
+      there = tt;
     })
 
 -- AN ACTION

@@ -51,6 +51,7 @@ NamesWhatIsThere setup (event.Start task priority) = task < length setup.tasks
 NamesWhatIsThere setup (event.End task) = task < length setup.tasks
 NamesWhatIsThere setup (event.Stop task) = task < length setup.tasks
 NamesWhatIsThere setup (event.Trap task trap) = task < length setup.tasks
+NamesWhatIsThere setup (event.Kept task number) = task < length setup.tasks
 NamesWhatIsThere setup (event.Overrun task) = task < length setup.tasks
 NamesWhatIsThere setup (event.Masked device) = device < length setup.devices
 NamesWhatIsThere setup (event.Lost device) = device < length setup.devices

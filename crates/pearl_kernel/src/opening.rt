@@ -9,7 +9,7 @@ use crate::channel::Channel;
 use crate::happened::Told;
 use pearl_format::item::Item;
 use pearl_rules::event::Event;
-use pearl_rules::row::{Mode, TaskRow};
+use pearl_rules::row::{Kept, Mode, TaskRow};
 use pearl_rules::setup::TaskEntry;
 use pearl_value::cell::{Cell, copy_of};
 use pearl_value::device::Device;
@@ -30,6 +30,7 @@ fn first_row(task: &TaskEntry) -> TaskRow
     TaskRow {
         mode,
         declared: task.priority,
+        kept: Kept::Nothing,
         continuation: None,
         activation: None,
     }

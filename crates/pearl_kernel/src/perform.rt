@@ -3,7 +3,7 @@
 ghost use Rattle.std.specs.List.{AllByRecursion};
 ghost use Rattle.std.specs.Prelude.{◌≡◌, ◌<◌, ◌≤◌, [], ◌∷◌, None, IsTrue, true, length, nat_lt};
 ghost use Rattle.pearl_rules.specs.Counts.{all_below_most, all_free, count_at, lowered};
-ghost use Rattle.pearl_rules.specs.Effect.{Hears, effect, effect_of, ending, activated, priority_or_declared, is_at_once};
+ghost use Rattle.pearl_rules.specs.Effect.{Hears, effect, effect_of, finished, again, ending, activated, priority_or_declared, is_at_once};
 ghost use Rattle.pearl_rules.specs.Effect.{continues, resuming, prevented, stopping, releasing, trying, getting, taking};
 ghost use Rattle.pearl_rules.specs.Devices.{channel_of, interrupted, items_of, bytes_at, values_at, without_bytes};
 ghost use Rattle.pearl_rules.specs.Plans.{with_mark, time_at};
@@ -37,7 +37,7 @@ use pearl_exchange::heard::{Beside, Heard};
 use pearl_exchange::offer::{Offer, What};
 use pearl_rules::action::{Repeat, Start};
 use pearl_rules::event::Event;
-use pearl_rules::row::{Activation, Mode};
+use pearl_rules::row::{Activation, Kept, Mode};
 use pearl_scan::scan::Scanned;
 use pearl_value::cell::{Cell, copy_of};
 use pearl_value::kind::Kind;
@@ -159,17 +159,42 @@ impl State {
         }
     }
 
-    // A task becomes dormant, and its offer and the plan by which it goes on are gone.
+    // A task ends, and its offer is gone. Where it kept starts it is started with the oldest.
     fn finish(&mut self, task: u32, event: Event)
         requires { HasRoom self.old task }
         ensures { self.new ≡ after self.old (ending self.old.core task event) }
     {
+        let kept = self.kept(task);
         self.clear_offer(task);
+        self.make_dormant(task, event);
+        self.start_again(task, kept);
+    }
+
+    // A task becomes dormant, which this event tells. What it kept is gone, and so is the plan by which it goes on.
+    fn make_dormant(&mut self, task: u32, event: Event)
+        requires there { task < length self.old.core.tasks }
+        requires room { self.old.core.told ≡ [] }
+        ensures state { self.new ≡ record self.old { core = noted (finished self.old.core task) event } }
+        ensures there { task < length self.new.core.tasks }
+        ensures room { length self.new.core.told ≡ 1 }
+    {
         let mut row = self.row(task);
         row.mode = Mode::Dormant;
+        row.kept = Kept::Nothing;
         row.continuation = None;
         self.set_row(task, row);
         self.note(event);
+    }
+
+    // A dormant task is started with the oldest of these, if there is one, and keeps the others.
+    fn start_again(&mut self, task: u32, kept: Kept)
+        requires there { task < length self.old.core.tasks }
+        requires room { length self.old.core.told ≡ 1 }
+        ensures { self.new ≡ record self.old { core = again kept self.old.core task } }
+    {
+        if let Some((first, others)) = kept.oldest() {
+            self.make_active(task, first, others);
+        }
     }
 
     // A start of a task, now or by a plan, with this priority or with the declared one.
@@ -264,7 +289,7 @@ impl State {
         goes_on(own, Touched::Other(task))
     }
 
-    // Both plans of a task are gone.
+    // Both plans of a task are gone, and all starts that it kept.
     fn prevent(&mut self, own: u32, task: u32) -> Done
         requires { task < length self.old.core.tasks }
         ensures state { self.new ≡ record self.old { core = prevented self.old.core task } }
@@ -272,6 +297,7 @@ impl State {
         ensures leaves { Leaves own self.old self.new result.touched }
     {
         let mut row = self.row(task);
+        row.kept = Kept::Nothing;
         row.continuation = None;
         row.activation = None;
         self.set_row(task, row);

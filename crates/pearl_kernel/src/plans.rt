@@ -3,7 +3,7 @@
 ghost use Rattle.std.specs.Prelude.{◌≡◌, ◌^◌, ◌<◌, ◌≤◌, [], Some, length};
 ghost use Rattle.pearl_rules.specs.Plans.{time_at, next_at, milliseconds, interrupt_of, after_of, period_of, end_of};
 ghost use Rattle.pearl_rules.specs.Plans.{written, last_moment, series_from, begun};
-ghost use Rattle.pearl_rules.specs.Plans.{first_moment, planned, started, with_mark};
+ghost use Rattle.pearl_rules.specs.Plans.{first_moment, planned, kept_of, made_active, late_by, started, with_mark};
 ghost use Rattle.pearl_rules.specs.Plans.{with_continuation, with_activation, continued, serves_if, serve_continuation};
 ghost use Rattle.pearl_rules.specs.Plans.{serve_activation, plan_continuation, plan_activation, served};
 ghost use Rattle.pearl_rules.specs.Plans.{waits_for, continuation_began, begin_activation, activation_of, reached, occurred};
@@ -15,7 +15,7 @@ use crate::changes::Changed;
 use crate::state::State;
 use pearl_rules::action::{Repeat, Start};
 use pearl_rules::event::Event;
-use pearl_rules::row::{Activation, End, Mode, Plan};
+use pearl_rules::row::{Activation, End, Kept, Mode, Plan};
 use pearl_rules::series::Series;
 
 // The milliseconds of a day.
@@ -24,26 +24,59 @@ const DAY: u64 = 86_400_000;
 // STARTS AND SUSPENDED TASKS
 
 impl State {
-    /// A dormant task becomes active with this priority; where the task is active, that is told, and it stays so.
+    /// A dormant task becomes active with this priority. An active one keeps the start as its last, where it keeps fewer
+    /// than three; else that it is lost is told.
     pub fn start(&mut self, task: u32, priority: u8)
         requires there { task < length self.old.core.tasks }
         requires room { length self.old.core.told < 200 }
         ensures { self.new ≡ record self.old { core = started self.old.core task priority } }
     {
         match self.mode(task) {
-            Mode::Dormant => {
-                let suspended = false;
-                self.set_mode(
-                    task,
-                    Mode::Active {
-                        priority,
-                        suspended,
-                    },
-                );
-                self.note(Event::Start { task, priority });
-            }
-            Mode::Active { .. } => self.note(Event::Overrun(task)),
+            Mode::Dormant => self.make_active(task, priority, Kept::Nothing),
+            Mode::Active { .. } => self.keep(task, self.kept(task).and_one(priority)),
         }
+    }
+
+    /// A dormant task becomes active with this priority, and keeps these starts.
+    pub fn make_active(&mut self, task: u32, priority: u8, kept: Kept)
+        requires there { task < length self.old.core.tasks }
+        requires room { length self.old.core.told < 200 }
+        ensures { self.new ≡ record self.old { core = made_active self.old.core task priority kept } }
+    {
+        let mut row = self.row(task);
+        row.mode = Mode::Active {
+            priority,
+            suspended: false,
+        };
+        row.kept = kept;
+        self.set_row(task, row);
+        self.note(Event::Start { task, priority });
+    }
+
+    // An active task keeps these starts, the last of which is a new one; none where it had no room for that.
+    fn keep(&mut self, task: u32, more: Option<Kept>)
+        requires there { task < length self.old.core.tasks }
+        requires room { length self.old.core.told < 200 }
+        ensures { self.new ≡ record self.old { core = late_by more self.old.core task } }
+    {
+        match more {
+            None => self.note(Event::Overrun(task)),
+            Some(kept) => {
+                let mut row = self.row(task);
+                row.kept = kept;
+                self.set_row(task, row);
+                let number = kept.count();
+                self.note(Event::Kept { task, number });
+            }
+        }
+    }
+
+    /// The starts that a task keeps.
+    pub fn kept(&self, task: u32) -> Kept
+        requires { task < length self.now.core.tasks }
+        ensures { result ≡ kept_of self.now.core task }
+    {
+        self.row(task).kept
     }
 
     /// An active task has this mark of suspension from now on.

@@ -8,7 +8,7 @@ use Rattle.pearl_rules.specs.Core.{Core}
 use Rattle.pearl_rules.specs.Devices.{arrived}
 use Rattle.pearl_rules.specs.Effect.{effect}
 use Rattle.pearl_rules.specs.Plans.{millisecond}
-use Rattle.pearl_rules.proofs.Offered.{Closed, ClosedAtEnds, IsFree, Starts, Brings, millisecond-kept, arrived-kept}
+use Rattle.pearl_rules.proofs.Offered.{any_kept, Closed, ClosedAtEnds, IsFree, Starts, Brings, millisecond-kept, arrived-kept}
 use Rattle.pearl_rules.proofs.Offered.{effect-free}
 
 abbrev AnyPriority : ℕ → Type 0
@@ -27,11 +27,12 @@ IsAt moment core = core.moment ≡ moment
 at_closed : (moment : ℕ) → Closed AnyPriority AnyPlan (IsAt moment)
 at_closed moment = record {
   told = λ core e at. at;
-  stands = λ core t row mode here stays at. at;
+  stands = λ core t row mode kept here stays keeps at. at;
   goes_on = λ core t row plan here lawful at. at;
   starts = λ core t row plan here lawful at. at;
   going = λ core t row here at. if_any AnyPlan (λ plan. tt) row.continuation;
   starting = λ core t row here at. if_any (Starts AnyPriority AnyPlan) (λ plan. (tt, tt)) row.activation;
+  keeping = λ core t row here at. any_kept row.kept;
   begins = λ core plan lawful. tt;
 }
 

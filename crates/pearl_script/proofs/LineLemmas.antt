@@ -3,7 +3,7 @@ use Rattle.std.proofs.Common.{◌≡◌, ℕ, ◌<◌, List, [], ◌∷◌, ◌+
 use Rattle.std.proofs.lemmas.List.{append-nil}
 use Rattle.std.proofs.lemmas.Grind.{flat_map-append}
 use Rattle.pearl_rules.specs.declared.event.Event.{Event}
-use Rattle.pearl_rules.specs.declared.event.Event.TheVariants.{Start, End, Stop, Trap, Overrun, Masked, Lost, Out, Send}
+use Rattle.pearl_rules.specs.declared.event.Event.TheVariants.{Start, End, Stop, Trap, Kept, Overrun, Masked, Lost, Out, Send}
 use Rattle.pearl_rules.specs.declared.event.Shown.{Shown}
 use Rattle.pearl_rules.specs.declared.event.Shown.TheVariants.{Dormant, Suspended, Blocked, Running, Runnable}
 use Rattle.pearl_rules.specs.declared.setup.Setup.{Setup}
@@ -31,6 +31,7 @@ event_line_nonempty moment (Start task priority) setup = ended_nonempty _ (codes
 event_line_nonempty moment (End task) setup = ended_nonempty _ (codes "\n") (omega arith)
 event_line_nonempty moment (Stop task) setup = ended_nonempty _ (codes "\n") (omega arith)
 event_line_nonempty moment (Trap task trap) setup = ended_nonempty _ (codes "\n") (omega arith)
+event_line_nonempty moment (Kept task number) setup = ended_nonempty _ (codes "\n") (omega arith)
 event_line_nonempty moment (Overrun task) setup = ended_nonempty _ (codes "\n") (omega arith)
 event_line_nonempty moment (Masked device) setup = ended_nonempty _ (codes "\n") (omega arith)
 event_line_nonempty moment (Lost device) setup = ended_nonempty _ (codes "\n") (omega arith)

@@ -4,7 +4,7 @@ use Rattle.std.specs.Fmt.{decimal}
 use Rattle.std.specs.List.{flat_map}
 use Rattle.pearl_value.specs.WellFormed.{IsValue}
 use Rattle.pearl_rules.specs.declared.event.Event.{Event}
-use Rattle.pearl_rules.specs.declared.event.Event.TheVariants.{Start, End, Stop, Trap, Overrun, Masked, Lost, Out, Send}
+use Rattle.pearl_rules.specs.declared.event.Event.TheVariants.{Start, End, Stop, Trap, Kept, Overrun, Masked, Lost, Out, Send}
 use Rattle.pearl_rules.specs.declared.event.Shown.{Shown}
 use Rattle.pearl_rules.specs.declared.event.Shown.TheVariants.{Dormant, Suspended, Blocked, Running, Runnable}
 use Rattle.pearl_rules.specs.declared.setup.Setup.{Setup}
@@ -18,6 +18,7 @@ IsEventOf setup (Start task priority) = task < length setup.tasks
 IsEventOf setup (End task) = task < length setup.tasks
 IsEventOf setup (Stop task) = task < length setup.tasks
 IsEventOf setup (Trap task trap) = task < length setup.tasks
+IsEventOf setup (Kept task number) = task < length setup.tasks
 IsEventOf setup (Overrun task) = task < length setup.tasks
 IsEventOf setup (Masked device) = device < length setup.devices
 IsEventOf setup (Lost device) = device < length setup.devices
@@ -30,6 +31,7 @@ event_line moment (Start task priority) setup = decimal moment ++ codes " start 
 event_line moment (End task) setup = decimal moment ++ codes " end " ++ task_name setup task ++ codes "\n"
 event_line moment (Stop task) setup = decimal moment ++ codes " stop " ++ task_name setup task ++ codes "\n"
 event_line moment (Trap task trap) setup = decimal moment ++ codes " trap " ++ task_name setup task ++ codes " " ++ trap_word trap ++ codes "\n"
+event_line moment (Kept task number) setup = decimal moment ++ codes " kept " ++ task_name setup task ++ codes " " ++ decimal number ++ codes "\n"
 event_line moment (Overrun task) setup = decimal moment ++ codes " overrun " ++ task_name setup task ++ codes "\n"
 event_line moment (Masked device) setup = decimal moment ++ codes " masked" ++ codes " " ++ decimal (device_number setup device) ++ codes "\n"
 event_line moment (Lost device) setup = decimal moment ++ codes " lost " ++ sort_word setup device ++ codes " " ++ decimal (device_number setup device) ++ codes "\n"

@@ -33,6 +33,11 @@ pub fn event_line(moment: u64, event: &Event, setup: &Setup, into: &mut ArrayVec
             push_bytes(word_of(*trap), into);
             push_bytes(b"\n", into);
         }
+        Event::Kept { task, number } => {
+            begin(moment, b" kept ", into);
+            push_bytes(name_of(setup, *task), into);
+            push_last(b" ", *number, into);
+        }
         Event::Overrun(task) => task_line(moment, b" overrun ", name_of(setup, *task), into),
         Event::Masked(device) => {
             begin(moment, b" masked", into);

@@ -1,4 +1,4 @@
-use Rattle.std.proofs.Common.{List, ℕ, ap, sym, subst}
+use Rattle.std.proofs.Common.{List, ℕ, sym, subst}
 use Rattle.pearl_kernel.specs.declared.changes.Changed.TheVariants.{Counts}
 use Rattle.pearl_kernel.specs.declared.changes.Touched.{Touched}
 use Rattle.pearl_kernel.specs.Changes.{AreRenewedBut}

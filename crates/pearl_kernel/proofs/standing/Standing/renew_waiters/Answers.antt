@@ -1,4 +1,4 @@
-use Rattle.std.proofs.Common.{◌<◌, None, length, subst, arith}
+use Rattle.std.proofs.Common.{◌<◌, None, length, subst}
 use Rattle.pearl_kernel.specs.declared.changes.Changed.TheVariants.{Counts}
 use Rattle.pearl_kernel.proofs.Requesting.{waits-there}
 use Rattle.pearl_kernel.proofs.Renewing.{IsBehindIfWaiting, none-renewed, fewer-left, waiter-renewed, renewed-less}
