@@ -23,7 +23,6 @@ mod Setups
 mod Offering
 mod Answers
 mod Standing
-mod Picks
 mod Telling
 mod Runs
 mod Example

@@ -8,7 +8,7 @@ use Rattle.pearl_rules.specs.Devices.{bytes_at}
 use Rattle.pearl_rules.specs.Pick.{Offered, is_complete, guard, is_possible, pick, states}
 use Rattle.pearl_rules.specs.Runs.{next_mark, machine_next, machine_offers, source_next, source_offers, unsettled}
 use Rattle.pearl_rules.specs.Scan.{scan}
-use Rattle.pearl_faithful.proofs.Picks.{pick-same, states-same}
+use Rattle.pearl_rules.proofs.Offered.{pick-same, states-same}
 use Rattle.pearl_program.specs.PlainPrograms.{PlainProg}
 use Rattle.pearl_instructions.specs.declared.object.Parts.{Parts as Object}
 use Rattle.pearl_instructions.specs.Engines.{machine_run, marked}

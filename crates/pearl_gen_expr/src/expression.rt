@@ -8,6 +8,7 @@ ghost use Rattle.pearl_gen_expr.specs.Emitting.{Extends, Emits, EmitsExpr, Emits
 
 use crate::bounds::{element_count, index_bounds};
 use pearl_instructions::boxed::Boxed;
+use pearl_instructions::constant::Constant;
 use pearl_instructions::instr::Instr;
 use pearl_program::expression::{Argument, Call, Expr, Target, Variable};
 use pearl_program::literal::Literal;
@@ -110,7 +111,7 @@ fn emit_const(alloc: Global, code: &mut Vec<Instr>, literal: &Literal) -> Result
     ensures added { (p : PlainProg) → OnOk result (EmitsExpr p (OfLiteral (cell_of literal.now)) code.old.items code.new.items) }
     ensures kept { Extends code.old.items code.new.items }
 {
-    let value = Boxed::new(alloc, literal.cell())?;
+    let value = Constant::new(alloc, &literal.cell())?;
     emit(code, Instr::Const(value))?;
     Ok(())
 }

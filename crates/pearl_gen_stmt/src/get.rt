@@ -14,6 +14,7 @@ use crate::site::{Site, variable_kind};
 use pearl_gen_expr::bounds::element_count;
 use pearl_gen_expr::expression::emit_offset;
 use pearl_instructions::boxed::Boxed;
+use pearl_instructions::constant::Constant;
 use pearl_instructions::instr::{Instr, Reading};
 use pearl_program::expression::{Target, Variable};
 use pearl_program::statement::Get;
@@ -57,7 +58,7 @@ fn emit_found(
     ensures kept { Extends code.old.items code.new.items }
 {
     if target.bounds.is_empty() {
-        let zero = Boxed::new(alloc, Cell::Fixed { len: 31, value: 0 })?;
+        let zero = Constant::new(alloc, &Cell::Fixed { len: 31, value: 0 })?;
         emit(code, Instr::Const(zero))?;
         return Ok(());
     }

@@ -12,7 +12,7 @@ use crate::pending::{Pending, emit, emit_pending};
 use crate::site::{Site, cell_kind};
 use crate::transfer::emit_converted;
 use pearl_gen_expr::expression::emit_expr;
-use pearl_instructions::boxed::Boxed;
+use pearl_instructions::constant::Constant;
 use pearl_instructions::instr::Instr;
 use pearl_program::expression::Expr;
 use pearl_program::statement::Counter;
@@ -34,7 +34,7 @@ fn emit_counted(
     let kind = cell_kind(site, counter.cell)?;
     match value {
         None => {
-            let one = Boxed::new(alloc, Cell::Fixed { len: 31, value: 1 })?;
+            let one = Constant::new(alloc, &Cell::Fixed { len: 31, value: 1 })?;
             emit(code, Instr::Const(one))?;
             emit(code, Instr::Conv(kind))?;
             Ok(())

@@ -9,7 +9,7 @@ ghost use Rattle.pearl_gen_stmt.specs.StmtCode.{StoresAt, RepeatsAt, RenewAt};
 ghost use Rattle.pearl_gen_stmt.specs.Emission.{setting_of, Adds};
 
 use crate::pending::emit;
-use pearl_instructions::boxed::Boxed;
+use pearl_instructions::constant::Constant;
 use pearl_instructions::instr::Instr;
 use pearl_program::literal::Literal;
 use pearl_program::statement::Renewal;
@@ -25,7 +25,7 @@ fn emit_stores(
     ensures kept { Extends code.old.items code.new.items }
 {
     for (index, constant) in constants.iter().enumerate() {
-        let value = Boxed::new(alloc, constant.cell())?;
+        let value = Constant::new(alloc, &constant.cell())?;
         emit(code, Instr::Const(value))?;
         emit(code, Instr::Store(u64::from(cell) + index as u64))?;
     }

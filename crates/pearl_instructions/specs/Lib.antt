@@ -30,6 +30,8 @@ pub mod Actions
 pub mod Owned
 -- what is asked of each object, before any rule of the validator
 pub mod Lawful
+-- which value is held by a literal
+pub mod Literals
 -- where the slots of an object's leaves begin
 pub mod Slots
 -- what holds of every valid object

@@ -1,8 +1,8 @@
 // The instructions of the stack machine.
 
 use crate::boxed::Boxed;
+use crate::constant::Constant;
 use crate::schedule::{OnceForm, RepeatForm, StartForm};
-use pearl_value::cell::Cell;
 use pearl_value::kind::Kind;
 use pearl_value::listing::Listing;
 use pearl_value::operator::{Dyad, Monad};
@@ -45,7 +45,7 @@ pub struct Reading {
 #[derive(Drop)]
 pub enum Instr {
     /// Pushes a literal.
-    Const(Boxed<Cell>),
+    Const(Constant),
     /// Pushes a copy of a cell.
     Load(u64),
     /// Takes a value off into a cell.

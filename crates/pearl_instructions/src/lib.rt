@@ -3,6 +3,7 @@
 #![tactic(auto)]
 
 pub mod boxed;
+pub mod constant;
 pub mod instr;
 pub mod laws;
 pub mod object;

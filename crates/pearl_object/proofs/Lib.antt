@@ -12,4 +12,5 @@ mod Standing
 mod Reading
 mod CodeTable
 mod Lines
+mod ColumnLaws
 pub mod Offered

@@ -18,3 +18,5 @@ pub mod Tables
 pub mod Objects
 -- the text that an object is listed as
 pub mod Listing
+-- what the validator's rules read of an instruction, and the operands that its bytes and its listing have
+pub mod Columns

@@ -14,6 +14,7 @@ use pearl_fields::fault::ReadFault;
 use pearl_fields::part::{Part, list};
 use pearl_fields::reader::Reader;
 use pearl_instructions::boxed::Boxed;
+use pearl_instructions::constant::Constant;
 use pearl_instructions::instr::{Activation, Bounds, Continuation, Instr, Reading};
 use pearl_value::listing::Listing;
 use pearl_value::operator::{Dyad, Monad};
@@ -101,7 +102,7 @@ fn read_on_cells(reader: &mut Reader, alloc: Global, opcode: u8) -> Result<Instr
     match opcode {
         0 => {
             let value = read_literal(reader, None)?;
-            Ok(Instr::Const(Boxed::new(alloc, value)?))
+            Ok(Instr::Const(Constant::new(alloc, &value)?))
         }
         1 => Ok(Instr::Load(reader.number()?)),
         2 => Ok(Instr::Store(reader.number()?)),

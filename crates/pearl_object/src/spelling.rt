@@ -85,7 +85,7 @@ pub fn put_operands<W: Spelling>(out: &mut Vec<u8>, instr: &Instr) -> Result<(),
             W::number(out, *m)?;
             W::number(out, *n)?;
         }
-        Instr::Const(value) => W::literal(out, value.get())?,
+        Instr::Const(value) => W::literal(out, &value.cell())?,
         Instr::Fill { first, count, kind } => {
             W::number(out, *first)?;
             W::number(out, *count)?;

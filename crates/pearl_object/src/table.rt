@@ -3,6 +3,7 @@
 ghost use Rattle.std.specs.Prelude.{◌≡◌, ◌↔◌, All, Contains, IfSome, IsTrue, None, Some};
 ghost use Rattle.pearl_instructions.specs.declared.instr.Instr.{Instr};
 ghost use Rattle.pearl_object.specs.CodeRows.{rises, AreTheCodes, HasItsForm};
+ghost use Rattle.pearl_object.specs.Columns.{ColumnsAgree};
 
 /// An opcode, its name, and a letter for each of its operands: `c` a cell, `n` a count, `v` a leaf, `i` an instruction,
 /// `p` a procedure, `t` a task, `s` a semaphore, `d` a device and `f` a format, which are numbers; `I` and `S` lists of `i`
@@ -126,4 +127,10 @@ pub fn find_code(rows: &[CodeRow], opcode: u8) -> Option<CodeRow>
 /// Each instruction has the operands that its opcode's letters tell.
 pub fn instructions_have_their_forms()
     ensures { (i : Instr) → HasItsForm i }
+{}
+
+/// Of the operands in an instruction's bytes and its listing, those that the validator's rules name: each where its letter
+/// stands, and no other.
+pub fn columns_agree()
+    ensures { (i : Instr) → ColumnsAgree i }
 {}

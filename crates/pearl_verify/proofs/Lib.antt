@@ -6,3 +6,4 @@ mod Flowing
 mod Judging
 mod Asking
 mod Fitting
+mod Routines

@@ -1,5 +1,5 @@
 -- How shapes get their numbers, and that shapes of one number are one.
-use Rattle.std.proofs.Common.{◌≡◌, ℕ, zero, suc, ◌+◌, ◌<◌, List, [], ◌∷◌, ◌++◌, Option, Some, None, refl, sym, ap, ◌∙◌, arith, true, false, inl, inr, eqb-true, eq-eqb, length, take, drop, reverse, get_or, slice_get}
+use Rattle.std.proofs.Common.{◌≡◌, ℕ, zero, suc, ◌+◌, ◌<◌, ◌≤◌, List, [], ◌∷◌, ◌++◌, Option, Some, None, refl, sym, ap, ◌∙◌, arith, true, false, inl, inr, eqb-true, eq-eqb, length, take, drop, reverse, get_or, slice_get}
 use Rattle.std.specs.Prelude.{◌⊎◌, is_some, ◌==◌, if◌then◌else◌, option_and_then, unwrap_or}
 use Rattle.std.specs.Cmp.{unsigned_ties, tied_then}
 use Rattle.std.specs.Ordering.{nat_cmp, ordering_then, is_eq}
@@ -67,9 +67,9 @@ at_new m n k e w x is h = elim (cases_Bool (is_eq (order k e))) [
   | inr other ↦ inr (sym (is ∙ ap (λ b. if b then Some w else get order m e) other) ∙ h)
 ]
 
-pub tree_more : (m n : Edges) (k : Edge) (w : ℕ) (was : Option ℕ) → IsTree m → get order m k ≡ None → w ≡ btree_map_len m + 1 → was ≡ get order m k →
+pub tree_more : (m n : Edges) (k : Edge) (w : ℕ) (was : Option ℕ) → IsTree m → k.below ≤ btree_map_len m → get order m k ≡ None → w ≡ btree_map_len m + 1 → was ≡ get order m k →
     btree_map_len n ≡ btree_map_len m + (if is_some was then 0 else 1) → Updates order m n k (Some w) → IsTree n
-tree_more m n k w was tree none is old_is longer updates = let long : btree_map_len n ≡ btree_map_len m + 1 = longer ∙ ap (λ o. btree_map_len m + (if is_some o then 0 else 1)) (old_is ∙ none) in record {
+tree_more m n k w was tree known none is old_is longer updates = let long : btree_map_len n ≡ btree_map_len m + 1 = longer ∙ ap (λ o. btree_map_len m + (if is_some o then 0 else 1)) (old_is ∙ none) in record {
   some = λ e x h. elim (at_new m n k e w x (updates.0 e) h) [
     | inl new ↦ omega (arith, new.1, is, long)
     | inr old ↦ (let p = tree.some e x old in (p.0, omega (arith, p.1, long)))
@@ -84,7 +84,19 @@ tree_more m n k w was tree none is old_is longer updates = let long : btree_map_
       | inr also ↦ tree.apart e f x old also
     ]
   ];
+  rises = λ e x h. elim (at_new m n k e w x (updates.0 e) h) [
+    | inl new ↦ (let same : k.below ≡ e.below = ap (λ z. z.below) new.0 in omega (arith, new.1, is, known, same))
+    | inr old ↦ tree.rises e x old
+  ];
 }
+
+-- nothing stands on the shape with the last number
+pub none_on_last : (m : Edges) (below : ℕ) (k : CellKind) → IsTree m → btree_map_len m ≤ below → None ≡ child m below k
+none_on_last m below k tree past = by (child m below k) refl
+  where
+    by : (found : Option ℕ) → child m below k ≡ found → None ≡ child m below k
+    by None e = sym e
+    by (Some n) e = absurd (let rises = tree.rises (edge_on below k) n e in let few = (tree.some (edge_on below k) n e).1 in omega (arith, rises, few, past))
 
 pub grows_more : (m n : Edges) (k : Edge) (w : ℕ) → get order m k ≡ None → Updates order m n k (Some w) → Grows m n
 grows_more m n k w none updates e x h = elim (cases_Bool (is_eq (order k e))) [

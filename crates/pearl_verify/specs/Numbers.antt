@@ -54,10 +54,11 @@ abbrev pub number_of : Edges → Shape → Option ℕ
 number_of edges [] = Some 0
 number_of edges (k ∷ s) = option_and_then (λ below. child edges below k) (number_of edges s)
 
--- no two edges have one number, and none has that of the empty shape
+-- no two edges have one number, none has that of the empty shape, and each has a greater one than the shape below
 pub record IsTree (edges : Edges) : Type 0 where
   pub some : (e : Edge) (n : ℕ) → get order edges e ≡ Some n → (0 < n) × (n ≤ btree_map_len edges)
   pub apart : (e f : Edge) (n : ℕ) → get order edges e ≡ Some n → get order edges f ≡ Some n → e ≡ f
+  pub rises : (e : Edge) (n : ℕ) → get order edges e ≡ Some n → e.below < n
 
 -- each number stays
 abbrev pub Grows : Edges → Edges → Type 0

@@ -9,6 +9,7 @@ use Rattle.pearl_instructions.specs.Kinds.{v3, v4, v5}
 use Rattle.pearl_instructions.specs.Valid.{keep, v7, v8, v10, v11, v12, judged_at, unsound}
 use Rattle.pearl_verify.specs.declared.verify.VerifyFault.{VerifyFault}
 use Rattle.pearl_verify.specs.declared.verify.VerifyFault.TheVariants.{Unsound, NoMemory}
+use Rattle.pearl_verify.specs.declared.verify.BrokenRule.{BrokenRule}
 use Rattle.pearl_verify.specs.declared.routine.Broken.{Broken}
 use Rattle.std.specs.Prelude.{slice_get}
 
@@ -37,11 +38,16 @@ abbrev pub StandsBefore : ℕ → ℕ → ℕ → ℕ → Type 0
 StandsBefore s j r i = (s < r) ⊎ ((s ≡ r) × (j < i))
 
 -- the least routine, instruction and rule that fails
+abbrev pub FailsFirst : Object → ℕ → ℕ → ℕ → Type 0
+FailsFirst o r i rule = (unsound o r i ≡ Some rule) × ((s j : ℕ) → StandsBefore s j r i → unsound o s j ≡ None)
+
+abbrev pub IsFirst : Object → BrokenRule → Type 0
+IsFirst o b = FailsFirst o b.routine b.instruction b.rule
+
 abbrev pub IsLeast : Object → VerifyFault → Type 0
-IsLeast o (Unsound r i rule) = (unsound o r i ≡ Some rule) × ((s j : ℕ) → StandsBefore s j r i → unsound o s j ≡ None)
+IsLeast o (Unsound r i rule) = FailsFirst o r i rule
 IsLeast o NoMemory = Unit {0}
 
 -- a fault of this routine: its first instruction at which a rule fails, and the least one that does
-abbrev pub BreaksFirst : Object → ℕ → VerifyFault → Type 0
-BreaksFirst o r (Unsound s i rule) = (s ≡ r) × (unsound o r i ≡ Some rule) × ((j : ℕ) → j < i → unsound o r j ≡ None)
-BreaksFirst o r NoMemory = Unit {0}
+abbrev pub BreaksFirst : Object → ℕ → BrokenRule → Type 0
+BreaksFirst o r b = (b.routine ≡ r) × (unsound o r b.instruction ≡ Some b.rule) × ((j : ℕ) → j < b.instruction → unsound o r j ≡ None)

@@ -97,7 +97,7 @@ pub(crate) fn pushed_kind(
     ensures { result ≡ pushed_kind object.now code.now instr.now kinds.now }
 {
     match instr {
-        Instr::Const(literal) => Some(cell_kind(literal.get())),
+        Instr::Const(literal) => Some(cell_kind(&literal.cell())),
         Instr::Load(cell) => cell_at(code, *cell),
         Instr::Conv(to) => Some(CellKind::Plain(*to)),
         Instr::Index(_) => Some(CellKind::Plain(Kind::Fixed(31))),

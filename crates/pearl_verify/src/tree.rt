@@ -1,6 +1,7 @@
 // The numbers of shapes, so that two shapes are compared in one step.
 
-ghost use Rattle.std.specs.Prelude.{◌≡◌, Some, reverse, IfOk, OnOk};
+ghost use Rattle.std.specs.Prelude.{◌≡◌, ◌≤◌, Some, reverse, IfOk, OnOk};
+ghost use Rattle.std.specs.BTreeMap.{btree_map_len};
 ghost use Rattle.pearl_verify.specs.Numbers.{edge_on, child, number_of, IsTree, Grows};
 
 use pearl_value::kind::{CellKind, Kind};
@@ -59,14 +60,26 @@ impl ShapeTree {
         self.edges.get(&edge_on(below, kind)).copied()
     }
 
+    // The same, in one step where nothing can stand on it: numbers rise, so nothing stands on the last one.
+    fn child_known(&self, below: usize, kind: CellKind) -> Option<usize>
+        requires { IsTree self.now.edges }
+        ensures { result ≡ child self.now.edges below kind }
+    {
+        if below >= self.edges.len() {
+            return None;
+        }
+        self.child(below, kind)
+    }
+
     // The same, with a new number where there is none.
     fn grow(&mut self, below: usize, kind: CellKind) -> Result<usize, NoMemory>
-        requires { IsTree self.old.edges }
+        requires tree { IsTree self.old.edges }
+        requires known { below ≤ btree_map_len self.old.edges }
         ensures tree { OnOk result (IsTree self.new.edges) }
         ensures grows { OnOk result (Grows self.old.edges self.new.edges) }
         ensures number { IfOk result (λ number. child self.new.edges below kind ≡ Some number) }
     {
-        match self.child(below, kind) {
+        match self.child_known(below, kind) {
             Some(number) => Ok(number),
             None => {
                 let number = self.edges.len() + 1;

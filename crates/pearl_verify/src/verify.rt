@@ -1,9 +1,9 @@
 // The validator.
 
-ghost use Rattle.std.specs.Prelude.{◌≡◌, ◌+◌, ◌<◌, ◌≤◌, ◌^◌, ℕ, Some, None, length, map, IfOk, IfErr, IfSome, OnOk, MatchOption};
+ghost use Rattle.std.specs.Prelude.{◌≡◌, ◌+◌, ◌<◌, ◌^◌, ℕ, Some, None, length, map, IfOk, IfErr, IfSome, MatchOption};
 ghost use Rattle.pearl_instructions.specs.Objects.{routine_at};
 ghost use Rattle.pearl_instructions.specs.Valid.{unsound, IsValid};
-ghost use Rattle.pearl_verify.specs.Verdicts.{BreaksFirst, IsLeast};
+ghost use Rattle.pearl_verify.specs.Verdicts.{BreaksFirst, IsFirst, IsLeast};
 ghost use Rattle.pearl_verify.specs.Formats.{format_row};
 
 use crate::formats::{FormatRow, format_rows};
@@ -28,10 +28,19 @@ pub enum VerifyFault {
     NoMemory,
 }
 
+/// A rule that fails in the code of a routine, and the instruction at which it does.
+#[derive(Clone, Copy, PartialEq, Eq, Debug)]
+pub struct BrokenRule {
+    pub routine: usize,
+    pub instruction: usize,
+    pub rule: u8,
+}
+
 /// The code of a routine: the procedures come first, and then the tasks.
 fn code_at(object: &Parts, routine: usize) -> Option<&Code>
     ensures code { MatchOption result (routine_at object.now routine ≡ None) (λ code. routine_at object.now routine ≡ Some code.now) }
     ensures few { IfSome result (λ code. routine < length object.now.procedures + length object.now.tasks) }
+    ensures next { IfSome result (λ code. routine + 1 < 2 ^ 64) }
 {
     let procedures = object.procedures.as_slice();
     if routine < procedures.len() {
@@ -49,55 +58,49 @@ fn judge_at(
     formats: &[FormatRow],
     routine: usize,
     code: &Code,
-) -> Result<(), VerifyFault>
+) -> Result<Option<BrokenRule>, NoMemory>
     requires formats { formats.now ≡ map format_row object.now.formats }
     requires code { routine_at object.now routine ≡ Some code.now }
-    requires few { routine < 2 ^ 32 }
-    ensures ok { OnOk result ((i : ℕ) → unsound object.now routine i ≡ None) }
-    ensures err { IfErr result (BreaksFirst object.now routine) }
+    ensures { IfOk result (λ found. MatchOption found ((i : ℕ) → unsound object.now routine i ≡ None) (BreaksFirst object.now routine)) }
 {
-    match judge_routine(alloc, object, formats, routine, code) {
-        Ok(None) => Ok(()),
-        Ok(Some(broken)) => Err(VerifyFault::Unsound {
-            routine: routine as u32,
-            instruction: broken.instruction as u64,
+    match judge_routine(alloc, object, formats, routine, code)? {
+        None => Ok(None),
+        Some(broken) => Ok(Some(BrokenRule {
+            routine,
+            instruction: broken.instruction,
             rule: broken.rule,
-        }),
-        Err(_) => Err(VerifyFault::NoMemory),
+        })),
     }
 }
 
 /// Judges all routines, up to the first in which a rule fails.
-fn judge_all(alloc: Global, object: &Parts, formats: &[FormatRow]) -> Result<(), VerifyFault>
-    requires formats { formats.now ≡ map format_row object.now.formats }
-    requires procedures { length object.now.procedures ≤ 200 }
-    requires tasks { length object.now.tasks ≤ 200 }
-    ensures ok { OnOk result (IsValid object.now) }
-    ensures err { IfErr result (IsLeast object.now) }
+fn judge_all(
+    alloc: Global,
+    object: &Parts,
+    formats: &[FormatRow],
+) -> Result<Option<BrokenRule>, NoMemory>
+    requires { formats.now ≡ map format_row object.now.formats }
+    ensures { IfOk result (λ found. MatchOption found (IsValid object.now) (IsFirst object.now)) }
 {
     let mut routine = 0;
     'routines: while let Some(code) = code_at(object, routine) {
-        judge_at(alloc, object, formats, routine, code)?;
+        if let Some(broken) = judge_at(alloc, object, formats, routine, code)? {
+            return Ok(Some(broken));
+        }
         routine += 1;
     }
-    Ok(())
+    Ok(None)
 }
 
-/// Nothing where no rule fails in the code of any routine, else the least routine, instruction and rule that fails. The
-/// parts need not be those of an object.
+/// The least routine, instruction and rule that fails, or nothing where none does. The parts need not be those of an object.
 ///
 /// What it takes grows with the object as written, times the logarithm of a routine's stated shapes: each of these gets a
 /// number once, so that at a jump two numbers are compared, and of a PUT's or GET's format at most 65 items are looked at.
-pub fn judge_object(alloc: Global, object: &Parts) -> Result<(), VerifyFault>
-    requires procedures { length object.now.procedures ≤ 200 }
-    requires tasks { length object.now.tasks ≤ 200 }
-    ensures ok { OnOk result (IsValid object.now) }
-    ensures err { IfErr result (IsLeast object.now) }
+pub fn judge_object(alloc: Global, object: &Parts) -> Result<Option<BrokenRule>, NoMemory>
+    ensures { IfOk result (λ found. MatchOption found (IsValid object.now) (IsFirst object.now)) }
 {
-    match format_rows(alloc, object.formats.as_slice()) {
-        Ok(formats) => judge_all(alloc, object, formats.as_slice()),
-        Err(_) => Err(VerifyFault::NoMemory),
-    }
+    let formats = format_rows(alloc, object.formats.as_slice())?;
+    judge_all(alloc, object, formats.as_slice())
 }
 
 /// The same object as a valid one, or the least routine, instruction and rule that fails. It costs what `judge_object`
@@ -106,7 +109,15 @@ pub fn verify(alloc: Global, object: Object) -> Result<Valid, VerifyFault>
     ensures ok { IfOk result (λ valid. (valid ≡ object) × IsValid object) }
     ensures err { IfErr result (IsLeast object) }
 {
-    judge_object(alloc, object.parts())?;
+    match judge_object(alloc, object.parts()) {
+        Ok(None) => {}
+        Ok(Some(broken)) => return Err(VerifyFault::Unsound {
+            routine: broken.routine as u32,
+            instruction: broken.instruction as u64,
+            rule: broken.rule,
+        }),
+        Err(_) => return Err(VerifyFault::NoMemory),
+    }
     match Valid::new(alloc, object) {
         Ok(valid) => Ok(valid),
         Err(_) => Err(VerifyFault::NoMemory),

@@ -97,13 +97,13 @@ returns-in-Dyadic c = does_as c.args.code.now c.args.instr.now (Dyadic c.in-Dyad
 
 pub literal-requires-clause-ready : goal.literal-requires-clause-ready
 literal-requires-clause-ready c =
-    subst (λ x. Applies (on_top (λ f lower. leaves f lower (x ∷ f.operands)) c.args.stack.now.frames) c.args.stack.now.room) (sym c.get.ensures)
+    subst (λ x. Applies (on_top (λ f lower. leaves f lower (x ∷ f.operands)) c.args.stack.now.frames) c.args.stack.now.room) (sym c.cell.ensures)
     (ready_at c.args.code.now c.args.instr.now (Const c.in-Const.x) (sizes_of c.args.stack.now.frames) c.args.stack.now c.in-Const.is c.requires)
 
 pub returns-in-Const : goal.returns-in-Const
 returns-in-Const c =
     does_as c.args.code.now c.args.instr.now (Const c.in-Const.x) c.args.stack.now c.literal.new.stack (told c.literal.result) c.in-Const.is
-    (subst (λ x. Does (on_top (λ f lower. leaves f lower (x ∷ f.operands)) c.args.stack.now.frames) c.args.stack.now c.literal.new.stack (told c.literal.result)) c.get.ensures c.literal.ensures)
+    (subst (λ x. Does (on_top (λ f lower. leaves f lower (x ∷ f.operands)) c.args.stack.now.frames) c.args.stack.now c.literal.new.stack (told c.literal.result)) c.cell.ensures c.literal.ensures)
 
 pub on_jumps-requires-clause-family : goal.on_jumps-requires-clause-family
 on_jumps-requires-clause-family c = beyond_cells c.args.instr.now c.in_default.not-Const c.in_default.not-Load c.in_default.not-Store c.in_default.not-Fill c.in_default.not-Drop c.in_default.not-LoadAt c.in_default.not-StoreAt c.in_default.not-RefCell c.in_default.not-RefCellAt c.in_default.not-Conv c.in_default.not-Index c.in_default.not-NonZero c.in_default.not-Monadic c.in_default.not-Dyadic

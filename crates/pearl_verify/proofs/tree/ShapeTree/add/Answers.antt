@@ -8,4 +8,5 @@ loop-kind-preserved c = (
       refl c.in_ok-number.ensures.grows c.loop-kind.invariant.0 c.in_ok-number.ensures.number,
   c.in_ok-number.ensures.tree,
   (λ e x h. c.in_ok-number.ensures.grows e x (c.loop-kind.invariant.2 e x h)),
+  (c.in_ok-number.ensures.tree.some _ _ c.in_ok-number.ensures.number).1,
 )
