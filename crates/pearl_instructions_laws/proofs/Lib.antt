@@ -1,0 +1,5 @@
+mod Places
+mod Stepping
+mod InBounds
+mod Ending
+mod Examples

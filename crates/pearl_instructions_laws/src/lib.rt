@@ -1,0 +1,4 @@
+// What holds over whole runs of any valid object, whoever made it.
+#![tactic(auto)]
+
+pub mod laws;
