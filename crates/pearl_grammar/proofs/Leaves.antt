@@ -1,24 +1,21 @@
 -- Parts of one token, and those that expressions are made of: the facts that productions take of them.
-use Rattle.std.proofs.Common.{◌≡◌, ℕ, ◌+◌, ◌<◌, ◌≤◌, ◌⊎◌, inl, inr, List, [], ◌∷◌, Some, refl, ap, ◌∙◌, arith}
+use Rattle.std.proofs.Common.{ℕ, ◌+◌, ◌<◌, inl, inr, List, [], ◌∷◌, Some, ap, ◌∙◌, arith}
 use Rattle.std.specs.Option.{option_map}
 use Rattle.pearl_tree.specs.declared.token.What.TheVariants as what
-use Rattle.pearl_tree.specs.declared.token.Token.{Token}
 use Rattle.pearl_tree.specs.declared.literal.Sign.TheVariants as sign
 use Rattle.pearl_tree.specs.declared.literal.Literal.TheVariants as literal
-use Rattle.pearl_tree.specs.declared.expression.Expr.{Expr}
-use Rattle.pearl_tree.specs.Standing.{Spelling, what_at, HasWord, SpellsName, SpellsNumber, SpellsEach}
-use Rattle.pearl_tree.specs.Expressions.{SpellsSign, SpellsLiteral, SpellsExpr, SpellsWhole, SpellsOwnRef, SpellsSelector}
+use Rattle.pearl_tree.specs.Standing.{what_at, SpellsName, SpellsNumber}
+use Rattle.pearl_tree.specs.Expressions.{SpellsSign, SpellsLiteral, SpellsExpr, SpellsOwnRef, SpellsSelector}
 use Rattle.pearl_tree.specs.Tokens.{IsLawfulWhat}
 use Rattle.pearl_tree.specs.declared.limit.TheConstants as limit
 use Rattle.pearl_tree.specs.declared.symbol.TheConstants as s
 use Rattle.pearl_tree.proofs.Offered.{literal_after, terms_after, selector_after}
-use Rattle.pearl_parse_expr.specs.Least.{AlikeBefore}
 use Rattle.pearl_parse_expr.proofs.Offered as local
 use Rattle.pearl_parse_expr.proofs.Offered.{Keeps, Kept, each_keeps, token_of, x_name, x_token, letter_lawful, parts_of}
 use Rattle.pearl_parse_expr.proofs.Offered.{literal_head}
 use Rattle.pearl_grammar.specs.Rules.{SpellsOneWord}
-use Rattle.pearl_grammar.proofs.Rests.{Ends, Fills, ends_fill, fills_as, fills_token}
-use Rattle.pearl_grammar.proofs.Tokens.{Kind, AWord, ASymbol, AnId, ANumber, ALiteral, AnyToken, Among, Leads, some_kind}
+use Rattle.pearl_grammar.proofs.Rests.{Ends, ends_fill, fills_as, fills_token}
+use Rattle.pearl_grammar.proofs.Tokens.{Kind, ASymbol, AnId, ANumber, ALiteral, Among, Leads, some_kind}
 use Rattle.pearl_grammar.proofs.RuleFacts.{Leaf}
 
 -- ---- names and numbers

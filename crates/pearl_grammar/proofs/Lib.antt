@@ -1,11 +1,13 @@
-pub mod Rests
-pub mod States
-pub mod Joins
-pub mod Tokens
-pub mod RuleFacts
-pub mod Walk
-pub mod Told
-pub mod Said
-pub mod Leaves
-pub mod Productions
-pub mod DeclarationFacts
+mod Rests
+mod States
+mod Joins
+mod Tokens
+mod RuleFacts
+mod Walk
+mod Told
+mod Said
+mod Leaves
+mod Productions
+mod DeclarationFacts
+mod TypeFacts
+pub mod Offered

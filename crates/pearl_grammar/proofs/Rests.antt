@@ -1,15 +1,12 @@
 -- What is left of a part, once its first tokens are read, told in both ways: whatever part begins as this one does goes on
 -- by it, however the tokens behind a stop are replaced; and whatever tokens make it complete the part. A few make it.
 use Rattle.std.specs.Option.{option_map}
-use Rattle.std.proofs.Common.{◌≡◌, ℕ, zero, suc, ◌+◌, ◌*◌, ◌<◌, ◌≤◌, ◌^◌, ◌⊎◌, inl, inr, Bool, false, List, [], ◌∷◌}
-use Rattle.std.proofs.Common.{length, Option, Some, slice_get, IfSome, refl, sym, ap, subst, ◌∙◌, arith}
+use Rattle.std.proofs.Common.{◌≡◌, ℕ, zero, suc, ◌+◌, ◌*◌, ◌<◌, ◌≤◌, ◌^◌, ◌⊎◌, inl, inr, List, [], ◌∷◌}
+use Rattle.std.proofs.Common.{length, Some, slice_get, IfSome, refl, sym, ap, subst, ◌∙◌, arith}
 use Rattle.pearl_tree.specs.Tokens.{IsLawfulWhat}
-use Rattle.pearl_tree.specs.Stops.{BeginAlike}
-use Rattle.pearl_tree.specs.declared.token.What.{What}
 use Rattle.pearl_tree.specs.declared.token.Token.{Token}
 use Rattle.pearl_tree.specs.Standing.{Spelling, what_at}
 use Rattle.pearl_parse_expr.specs.Least.{AlikeBefore, LawfulFrom, ReachesIn}
-use Rattle.pearl_parse_expr.specs.Stops.{IsLongest, EndsEarly}
 use Rattle.pearl_parse_expr.proofs.Offered as local
 use Rattle.pearl_parse_expr.proofs.Offered.{begun, begun_alike, order, IsLocal, clash, shorter}
 

@@ -1,13 +1,13 @@
 -- The tokens that each production spells are those that its definition says.
-use Rattle.std.proofs.Common.{rules, ◌+◌, refl, subst}
+use Rattle.std.proofs.Common.{rules, ℕ, ◌+◌, refl, subst}
 use Rattle.pearl_tree.specs.Standing.{SpellsBracketedNumber}
 use Rattle.pearl_tree.specs.Expressions.{SpellsConst}
-use Rattle.pearl_tree.specs.Types.{SpellsNames, SpellsInt, SpellsUpper, SpellsBound, SpellsBounds, SpellsBasic}
+use Rattle.pearl_tree.specs.Types.{SpellsNames, SpellsInt, SpellsUpper, SpellsBound, SpellsBounds, SpellsBasic, SpellsField}
 use Rattle.pearl_tree.specs.Declarations.{SpellsDevice, SpellsPrio, SpellsItem, SpellsSema, SpellsDeclared, SpellsClass}
 use Rattle.pearl_tree.specs.Declarations.{SpellsControl, SpellsSpec, SpellsParam}
 use Rattle.pearl_tree.specs.Modules.{SpellsReturns}
 use Rattle.pearl_tree.specs.Standing.{SpellsName, SpellsList}
-use Rattle.pearl_grammar.specs.Laws.{IsSaid, SemasAreActedOn}
+use Rattle.pearl_grammar.specs.Laws.{IsSaid, LengthsAreSaid, TypesAreSaid, VariablesAreSaid, SpecificationsAreSaid, SemasAreActedOn}
 use Rattle.pearl_grammar.specs.Declarations as rule
 
 pub names_said : IsSaid SpellsNames rule.names_rule rule.names_parts
@@ -33,6 +33,9 @@ bounds_said = search rules
 
 pub basic_said : IsSaid SpellsBasic rule.basic_rule rule.basic_parts
 basic_said = search rules
+
+pub field_said : (depth : ℕ) → IsSaid (λ tokens. SpellsField tokens depth) (rule.field_rule depth) (rule.field_parts depth)
+field_said = search rules
 
 pub item_said : IsSaid SpellsItem rule.item_rule rule.item_parts
 item_said = search rules
@@ -63,6 +66,18 @@ prio_said = search rules
 
 pub returns_said : IsSaid SpellsReturns rule.returns_rule rule.returns_parts
 returns_said = search rules
+
+pub length_said : LengthsAreSaid
+length_said = search rules
+
+pub type_said : TypesAreSaid
+type_said = search rules
+
+pub declare_said : VariablesAreSaid
+declare_said = search rules
+
+pub specify_said : SpecificationsAreSaid
+specify_said = search rules
 
 pub semas_said : SemasAreActedOn
 semas_said depth tokens from x to = (

@@ -1,5 +1,5 @@
 -- Kinds of tokens, and which of them begin a part.
-use Rattle.std.proofs.Common.{◌≡◌, ℕ, zero, suc, ◌+◌, ◌<◌, ◌≤◌, ◌⊎◌, inl, inr, Bool, true, List, [], ◌∷◌, ◌++◌, length}
+use Rattle.std.proofs.Common.{◌≡◌, ℕ, zero, suc, ◌<◌, ◌⊎◌, inl, inr, Bool, true, false, ◌||◌, List, [], ◌∷◌, ◌++◌, length}
 use Rattle.std.proofs.Common.{Option, Some, None, true≢false, refl, subst, ap, ◌∙◌, sym, arith}
 use Rattle.pearl_tree.specs.declared.name.Name.{Name}
 use Rattle.pearl_tree.specs.declared.token.What.{What}
@@ -33,11 +33,13 @@ Among (kind ∷ kinds) token = IsOf kind token ⊎ Among kinds token
 abbrev pub kind_of : What → Kind
 kind_of (what.Word code) = AWord code
 kind_of (what.Symbol code) = ASymbol code
+kind_of (what.Id text) = AnId
 kind_of _ = AnyToken
 
 pub is_kind : (here : What) (token : Option What) → token ≡ Some here → IsOf (kind_of here) token
 is_kind (what.Word code) token h = h
 is_kind (what.Symbol code) token h = h
+is_kind (what.Id text) token h = (record { text = text; place = 0 }, h)
 is_kind here token h = (here, h)
 
 -- a test has this answer at each token of a kind, or of some kinds
@@ -67,6 +69,10 @@ pub answers : (answer : Bool) (test : Option What → Bool) (kinds : List Kind) 
 answers answer test [] token a h = absurd h
 answers answer test (kind ∷ kinds) token a (inl h) = one_answers answer test kind token a.0 h
 answers answer test (kind ∷ kinds) token a (inr h) = answers answer test kinds token a.1 h
+
+pub neither : (a b : Bool) → a ≡ false → b ≡ false → (a || b) ≡ false
+neither false b none h = h
+neither true b none h = none
 
 -- ---- a token of some kind stands within the tokens
 

@@ -1,24 +1,25 @@
 -- What the contracts of readers say of a part, as it is taken into a rule; and what is known at the end of a rule, as the
 -- contracts of readers say it.
 use Rattle.std.proofs.Common.{◌≡◌, ℕ, ◌+◌, ◌<◌, ◌≤◌, ◌⊎◌, inl, inr, max, Bool, true, false, List, length, Option, Vec}
-use Rattle.std.proofs.Common.{Result, Ok, Err, refl, sym, subst, arith}
+use Rattle.std.proofs.Common.{Some, Ok, Err, refl, sym, subst, ap, ◌∙◌, arith}
 use Rattle.pearl_tree.specs.declared.token.What.{What}
 use Rattle.pearl_tree.specs.declared.token.Token.{Token}
-use Rattle.pearl_tree.specs.Standing.{Spelling, what_at}
+use Rattle.pearl_tree.specs.Standing.{Spelling, what_at, HasSymbol, SpellsSymbolFlag}
+use Rattle.pearl_tree.specs.declared.token.What.TheVariants as what
 use Rattle.pearl_parse_expr.specs.declared.reading.Halt.{Halt}
 use Rattle.pearl_parse_expr.specs.declared.reading.Halt.TheVariants.{Refused, NoMemory}
 use Rattle.pearl_parse_expr.specs.declared.reading.Reading.{Reading}
-use Rattle.pearl_parse_expr.specs.Stops.{IsLongest, IsOnly, IsHalted, EndsEarly}
-use Rattle.pearl_parse_expr.specs.Least.{ReachesIn, GoesIn, HaltsIn}
+use Rattle.pearl_parse_expr.specs.Stops.{IsLongest, IsHalted, EndsEarly, is_symbol}
+use Rattle.pearl_parse_expr.specs.Least.{GoesIn, HaltsIn}
 use Rattle.pearl_parse_expr.specs.Reads.{ReadsOnlyAs, ReadsAs, ReadsMaybe, Reads, ReadsOnly, ReadsList, ReadsOnlyList}
 use Rattle.pearl_parse_expr.specs.Reads.{ReadsMaybeList}
 use Rattle.pearl_parse_expr.proofs.Offered.{clash, shorter}
 use Rattle.pearl_grammar.specs.Rules.{End}
-use Rattle.pearl_grammar.specs.Reached.{GoesBehind, HaltsBehind, IsStopped}
+use Rattle.pearl_grammar.specs.Reached.{GoesBehind, IsStopped, behind, never}
 use Rattle.pearl_grammar.proofs.Rests.{Ends}
 use Rattle.pearl_grammar.proofs.States as states
 use Rattle.pearl_grammar.proofs.RuleFacts.{Left}
-use Rattle.pearl_grammar.proofs.Walk.{Walk, Took, Lacks, never, state_as}
+use Rattle.pearl_grammar.proofs.Walk.{Walk, Took, Lacks, state_as}
 
 -- ---- parts that were read, behind what was stopped at `low`
 
@@ -50,6 +51,18 @@ module _ {Y : Type 0} {inner : ℕ} {spells : List Token → Spelling Y} {tokens
   took_maybe {extends} read is within = took {extends = extends} x.stop new read.spells read.longest
       (omega (arith, read.bounds)) read.least is within
 
+  -- it was stopped where it ends
+  pub took_once : {extends : Option What → Bool} {room : ℕ} → ReadsMaybe room spells spells spells extends tokens at (Ok x) →
+      x.stop ≡ x.end → new ≡ max x.stop low → low ≤ length tokens → Took inner spells extends tokens at low x.part x.end new
+  took_once {extends} {room} read once is within = took {extends = extends} x.stop new read.spells read.longest
+      (omega (arith, read.bounds)) (record { goes = inl once }) is within
+
+pub took_only_list : {Y A : Type 0} {inner : ℕ} {spells : List Token → Spelling (List Y)} {tokens : List Token}
+    {at low new : ℕ} {x : Reading (Vec Y A)} → ReadsOnlyList inner spells tokens at (Ok x) → new ≡ max x.stop low →
+    low ≤ length tokens → Took inner spells never tokens at low x.part.items x.end new
+took_only_list {x = x} read is within = took {extends = never} x.stop _ read.spells
+    (λ others agree y to h. inl (read.only others agree y to h)) (omega (arith, read.ahead)) read.least is within
+
 module _ {Y A : Type 0} {inner : ℕ} {spells : List Token → Spelling (List Y)} {extends : Option What → Bool}
     {tokens : List Token} {at low new : ℕ} {x : Reading (Vec Y A)} where
   pub took_list : ReadsList inner spells extends tokens at (Ok x) → new ≡ max x.stop low → low ≤ length tokens →
@@ -62,12 +75,22 @@ module _ {Y A : Type 0} {inner : ℕ} {spells : List Token → Spelling (List Y)
   took_maybe_list read is within = took {extends = extends} x.stop new read.spells read.longest
       (omega (arith, read.bounds)) read.least is within
 
--- ---- parts that were not read
+-- a symbol that may be missing, and stands there
+pub took_symbol : {inner : ℕ} {symbol : ℕ} {tokens : List Token} {at low new : ℕ} → HasSymbol tokens at symbol →
+    at < length tokens → is_symbol symbol (Some (what.Symbol symbol)) ≡ true → new ≡ max (at + 1) low → low ≤ length tokens →
+    Took inner (λ tokens. SpellsSymbolFlag tokens symbol) (is_symbol symbol) tokens at low true (at + 1) new
+took_symbol {inner} {symbol} {tokens} {at} {low} {new} here there itself is within =
+    took {extends = is_symbol symbol} (at + 1) new (here, refl)
+    (λ others agree y to h. by others (sym (agree at (omega arith)) ∙ here) y to h) (omega (arith, there))
+    (record { goes = inl refl }) is within
+  where
+    by : (others : List Token) → HasSymbol others at symbol → (y : Bool) (to : ℕ) → SpellsSymbolFlag others symbol at y to →
+        (to ≡ at + 1) ⊎ EndsEarly (is_symbol symbol) others (at + 1) to
+    by others stands true to h = inl h.1
+    by others stands false to h = inr
+        (omega (arith, h), subst (λ k. is_symbol symbol (what_at others k) ≡ true) (sym h) (ap (is_symbol symbol) stands ∙ itself))
 
--- a part is refused where another one before it was stopped
-abbrev pub behind : Halt → ℕ → Halt
-behind NoMemory stop = NoMemory
-behind (Refused at) stop = Refused (max at stop)
+-- ---- parts that were not read
 
 module _ {Y : Type 0} {inner : ℕ} {spells : List Token → Spelling Y} {tokens : List Token} {at low : ℕ} where
   pub lacks : (halt result : Halt) → IsHalted spells tokens at halt → HaltsIn inner spells tokens at halt →
@@ -84,6 +107,15 @@ module _ {Y : Type 0} {inner : ℕ} {spells : List Token → Spelling Y} {tokens
         );
         least = (k, refused.1, refused.2, least, refl);
       })
+
+  -- where what stands before it was told a token later, but none that is its own
+  pub lacks_past : (before : ℕ) (halt result : Halt) → IsHalted spells tokens at halt → HaltsIn inner spells tokens at halt →
+      result ≡ behind halt before → low ≤ before → before ≤ max low at → low ≤ length tokens →
+      Lacks inner spells tokens at low result
+  lacks_past before NoMemory result refused least is above below within = lacks NoMemory result refused least is within
+  lacks_past before (Refused k) result refused least is above below within =
+      let same : max k before ≡ max k low = omega (arith, above, below, refused.1) in
+      lacks (Refused k) result refused least (is ∙ ap Refused same) within
 
   -- nothing before it was stopped behind it
   pub lacks_first : (halt : Halt) → IsHalted spells tokens at halt → HaltsIn inner spells tokens at halt → low ≤ at →

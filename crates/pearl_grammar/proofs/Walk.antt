@@ -2,33 +2,26 @@
 -- token of `early`. From the beginning each token, part and choice that is read makes one step; at the end, and where a
 -- token or a part is missing, what is known is what the reader's contract says.
 use Rattle.std.proofs.Common.{◌≡◌, ℕ, ◌+◌, ◌*◌, ◌<◌, ◌≤◌, ◌^◌, ◌⊎◌, inl, inr, max, Bool, true, false, ◌||◌, List, length}
-use Rattle.std.proofs.Common.{Option, Some, Vec, Result, Ok, Err, refl, sym, ap, subst, ◌∙◌, arith}
+use Rattle.std.proofs.Common.{Option, Some, refl, sym, ap, subst, ◌∙◌, arith}
 use Rattle.pearl_tree.specs.declared.token.What.{What}
 use Rattle.pearl_tree.specs.declared.token.Token.{Token}
 use Rattle.pearl_tree.specs.Standing.{Spelling, what_at}
 use Rattle.pearl_tree.specs.Stops.{BeginAlike}
 use Rattle.pearl_parse_expr.specs.declared.reading.Halt.{Halt}
 use Rattle.pearl_parse_expr.specs.declared.reading.Halt.TheVariants.{Refused, NoMemory}
-use Rattle.pearl_parse_expr.specs.declared.reading.Reading.{Reading}
-use Rattle.pearl_parse_expr.specs.Stops.{IsLongest, IsOnly, IsHalted, EndsEarly, StopsWithin}
-use Rattle.pearl_parse_expr.specs.Least.{AlikeBefore, ReachesIn, GoesIn, HaltsIn}
-use Rattle.pearl_parse_expr.specs.Reads.{ReadsOnlyAs, ReadsAs, ReadsMaybe, Reads, ReadsOnly, ReadsList, ReadsOnlyList}
-use Rattle.pearl_parse_expr.specs.Reads.{ReadsMaybeList}
+use Rattle.pearl_parse_expr.specs.Stops.{IsLongest, EndsEarly, StopsWithin}
+use Rattle.pearl_parse_expr.specs.Least.{AlikeBefore, ReachesIn}
 use Rattle.pearl_parse_expr.proofs.Offered as local
 use Rattle.pearl_parse_expr.proofs.Offered.{clash, shorter, order, or_first, or_second, placed_within}
-use Rattle.pearl_grammar.specs.Rules.{First, Second, Part, One, Rule, End, Mark, Behind, Then, Or, Value, Held, SpellsPart}
+use Rattle.pearl_grammar.specs.Rules.{First, Second, Part, One, Rule, Mark, Behind, Then, Or, Value, Held, SpellsPart}
 use Rattle.pearl_grammar.specs.Rules.{Spells}
-use Rattle.pearl_grammar.specs.Reached.{GoesBehind, HaltsBehind, IsStopped}
+use Rattle.pearl_grammar.specs.Reached.{GoesBehind, HaltsBehind, IsStopped, never}
 use Rattle.pearl_grammar.proofs.Rests.{Rest, Next, Makes}
 use Rattle.pearl_grammar.proofs.States.{State}
 use Rattle.pearl_grammar.proofs.States as states
 use Rattle.pearl_grammar.proofs.Tokens.{Among, AllAnswer, answers}
-use Rattle.pearl_grammar.proofs.RuleFacts.{Left, LeftPart, PartFacts, Facts, IsFirm, least_of, fill_of, firsts_of}
-use Rattle.pearl_grammar.proofs.RuleFacts.{part_is_local, part_after, rule_fills, rule_leads, rule_begins, rule_stands}
-
--- a part that has one end
-abbrev pub never : Option What → Bool
-never token = false
+use Rattle.pearl_grammar.proofs.RuleFacts.{Left, Facts, IsFirm, least_of, fill_of, firsts_of}
+use Rattle.pearl_grammar.proofs.RuleFacts.{part_is_local, rule_fills, rule_leads, rule_begins, rule_stands}
 
 pub record Walk {X : Type 0} (room : ℕ) (whole : List Token → Spelling X) (tokens : List Token) (from low : ℕ)
     (rule : Rule) (facts : Facts rule) (early : Option What → Bool) (at stop : ℕ) : Type 0 where
@@ -349,18 +342,16 @@ left rest others at to (inl g) = g
 left rest others at to (inr e) = absurd (clash _ e.1 refl)
 
 module _ {X : Type 0} {room : ℕ} {whole : List Token → Spelling X} {tokens : List Token} {from low : ℕ} where
-  -- the token is missing with which what is left begins
-  pub missing : {rule : Rule} {facts : Facts rule} {at stop k : ℕ} (wanted : Option What → Bool) →
-      Walk room whole tokens from low rule facts never at stop → wanted (what_at tokens at) ≡ false →
-      AllAnswer true wanted (firsts_of rule facts) → 1 ≤ least_of rule facts → fill_of rule facts ≤ room → k ≡ max stop at →
-      Lacks room whole tokens from low (Refused k)
-  missing {rule} {facts} {at} {stop} {k} wanted a absent all solid few is = record {
+  -- no token stands there with which what is left begins
+  pub lacking : {rule : Rule} {facts : Facts rule} {at stop k : ℕ} → Walk room whole tokens from low rule facts never at stop →
+      (Among (firsts_of rule facts) (what_at tokens at) → ⊥) → 1 ≤ least_of rule facts → fill_of rule facts ≤ room →
+      k ≡ max stop at → Lacks room whole tokens from low (Refused k)
+  lacking {rule} {facts} {at} {stop} {k} a none solid few is = record {
     refused = (
       λ others agree x to h.
           let g = left (Left rule) others at to (a.goes others (shorter tokens others stop k (omega (arith, is)) agree) x to h) in
-          clash _ (answers true wanted (firsts_of rule facts) (what_at others at) all
-          (rule_begins rule facts a.firm solid others at g.0 to g.1))
-          (ap wanted (sym (agree at (omega (arith, is)))) ∙ absent),
+          none (subst (λ token. Among (firsts_of rule facts) token) (sym (agree at (omega (arith, is))))
+          (rule_begins rule facts a.firm solid others at g.0 to g.1)),
       omega (arith, is, a.near),
       omega (arith, is, a.level.is),
       omega (arith, is, a.inside, a.level.inside),
@@ -368,6 +359,14 @@ module _ {X : Type 0} {room : ℕ} {whole : List Token → Spelling X} {tokens :
     least = states.halt_token room whole tokens from low (fill_of rule facts) (Left rule) (rule_fills rule facts a.firm) few
         at stop k a.level is;
   }
+
+  -- known by a test
+  pub missing : {rule : Rule} {facts : Facts rule} {at stop k : ℕ} (wanted : Option What → Bool) →
+      Walk room whole tokens from low rule facts never at stop → wanted (what_at tokens at) ≡ false →
+      AllAnswer true wanted (firsts_of rule facts) → 1 ≤ least_of rule facts → fill_of rule facts ≤ room → k ≡ max stop at →
+      Lacks room whole tokens from low (Refused k)
+  missing {rule} {facts} {at} {stop} {k} wanted a absent all solid few is =
+      lacking a (λ some. clash _ (answers true wanted (firsts_of rule facts) (what_at tokens at) all some) absent) solid few is
 
   -- a part is missing
   pub part_missing : {inner : ℕ} {part : Part} {rest : Rule} {facts : Facts (Then part rest)} {at stop : ℕ} {halt : Halt} →

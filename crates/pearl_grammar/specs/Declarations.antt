@@ -15,6 +15,7 @@ use Rattle.pearl_tree.specs.declared.typing.Sort.{Sort}
 use Rattle.pearl_tree.specs.declared.typing.Basic.{Basic}
 use Rattle.pearl_tree.specs.declared.typing.Basic.TheVariants as basic
 use Rattle.pearl_tree.specs.declared.typing.Typing.{Typing}
+use Rattle.pearl_tree.specs.declared.typing.Field.{Field}
 use Rattle.pearl_tree.specs.declared.declaration.DeviceWord.{DeviceWord}
 use Rattle.pearl_tree.specs.declared.declaration.Device.{Device}
 use Rattle.pearl_tree.specs.declared.declaration.Prio.{Prio}
@@ -32,11 +33,11 @@ use Rattle.pearl_tree.specs.declared.token.What.TheVariants as what
 use Rattle.pearl_tree.specs.declared.token.Token.{Token}
 use Rattle.pearl_tree.specs.Standing.{Spelling, SpellsName, SpellsNumber, SpellsBracketedNumber}
 use Rattle.pearl_tree.specs.Expressions.{SpellsSign, SpellsLiteral, SpellsConst}
-use Rattle.pearl_tree.specs.Types.{SpellsNames, SpellsInt, SpellsUpper, SpellsBound, SpellsBounds, SpellsBasic, SpellsWholeTyping, sort_word}
-use Rattle.pearl_tree.specs.Declarations.{SpellsItem, SpellsSema, SpellsClass, SpellsControl, IsDeviceWord, direction_word}
+use Rattle.pearl_tree.specs.Types.{SpellsNames, SpellsInt, SpellsUpper, SpellsBound, SpellsBounds, SpellsBasic, SpellsTyping, SpellsWholeTyping, sort_word}
+use Rattle.pearl_tree.specs.Declarations.{SpellsItem, SpellsSema, SpellsDeclared, SpellsClass, SpellsSpec, SpellsControl, IsDeviceWord, direction_word}
 use Rattle.pearl_tree.specs.declared.symbol.TheConstants as s
 use Rattle.pearl_tree.specs.declared.word_code.TheConstants as w
-use Rattle.pearl_grammar.specs.Rules.{First, Second, Part, One, Flag, Sign, Maybe, Bracketed, MaybeBracketed, MaybeHeaded, Rule, End, Mark, Behind, Then, Or, Held, word, symbol, SpellsOneWord}
+use Rattle.pearl_grammar.specs.Rules.{First, Second, Part, One, Flag, Sign, Maybe, Listed, Bracketed, MaybeBracketed, MaybeHeaded, Rule, End, Mark, Behind, Then, Or, Held, word, symbol, SpellsOneWord}
 
 -- ---- parts
 
@@ -49,17 +50,26 @@ number = One Number SpellsNumber
 abbrev pub int : Part
 int = One Int SpellsInt
 
+abbrev pub literal : Part
+literal = One Literal SpellsLiteral
+
 abbrev pub constant : Part
 constant = One Const SpellsConst
 
 abbrev pub names : Part
 names = One Names SpellsNames
 
+abbrev pub bracketed_number : Part
+bracketed_number = One Number SpellsBracketedNumber
+
 abbrev pub bounds : Part
 bounds = One (Parts Bound) SpellsBounds
 
 abbrev pub plain_type : Part
 plain_type = One Basic SpellsBasic
+
+abbrev pub whole_type : Part
+whole_type = One Typing SpellsWholeTyping
 
 abbrev pub sort : Part
 sort = One Sort (SpellsOneWord sort_word)
@@ -70,6 +80,10 @@ direction = One Direction (SpellsOneWord direction_word)
 -- id | INTERRUPT
 abbrev pub SpellsDeviceWord : List Token → Spelling DeviceWord
 SpellsDeviceWord tokens from word to = IsDeviceWord tokens from word × (to ≡ from + 1)
+
+-- ";"
+abbrev pub close : Rule
+close = symbol s.SEMICOLON End
 
 -- ---- names, numbers and constants
 
@@ -90,7 +104,7 @@ bracketed_number_parts x = (x, tt)
 
 -- const = [ "+" | "-" ] literal
 abbrev pub constant_rule : Rule
-constant_rule = Mark (Then (Maybe (One sign.Sign SpellsSign)) (Then (One Literal SpellsLiteral) End))
+constant_rule = Mark (Then (Maybe (One sign.Sign SpellsSign)) (Then literal End))
 
 abbrev pub constant_parts : Const → Held constant_rule
 constant_parts x = (x.place, (x.sign, (x.literal, tt)))
@@ -127,7 +141,7 @@ bounds_parts x = (x.items.items, tt)
 
 -- basic = ( FIXED | BIT | CHAR ) [ "(" number ")" ] | CLOCK | DURATION
 abbrev pub basic_rule : Rule
-basic_rule = Or (Mark (Then sort (Then (Maybe (One Number SpellsBracketedNumber)) End)))
+basic_rule = Or (Mark (Then sort (Then (Maybe bracketed_number) End)))
     (Or (Mark (word w.CLOCK End)) (Mark (word w.DURATION End)))
 
 abbrev pub basic_parts : Basic → Held basic_rule
@@ -135,12 +149,18 @@ basic_parts (basic.Sized sort number place) = First (place, (sort, (number, tt))
 basic_parts (basic.Clock place) = Second (First (place, tt))
 basic_parts (basic.Duration place) = Second (Second (place, tt))
 
+-- field = names [ bounds ] type, with so many STRUCTs at most within one another
+abbrev pub field_rule : ℕ → Rule
+field_rule depth = Mark (Then names (Then bounds (Then (One Typing (λ tokens. SpellsTyping tokens depth)) End)))
+
+abbrev pub field_parts : (depth : ℕ) → Field → Held (field_rule depth)
+field_parts depth x = (x.place, (x.names, (x.bounds, (x.typing, tt))))
+
 -- ---- declarations
 
 -- item = names [ bounds ] [ INV ] type [ INIT "(" const { "," const } ")" ]
 abbrev pub item_rule : Rule
-item_rule = Mark (Then names (Then bounds (Then (Flag w.INV) (Then (One Typing SpellsWholeTyping)
-    (Then (MaybeHeaded w.INIT constant) End)))))
+item_rule = Mark (Then names (Then bounds (Then (Flag w.INV) (Then whole_type (Then (MaybeHeaded w.INIT constant) End)))))
 
 abbrev pub item_parts : Item → Held item_rule
 item_parts x = (x.place, (x.names, (x.bounds, (x.inv, (x.typing, (x.init.items.items, tt))))))
@@ -177,16 +197,15 @@ abbrev pub control_parts : Bool → Held control_rule
 control_parts true = First tt
 control_parts false = Second tt
 
--- spec = names INTERRUPT | names DATION ( IN | OUT | INOUT ) ( ALPHIC | BASIC basic ) [ "CONTROL" "(" ALL ")" ]
+-- spec = names ( INTERRUPT | DATION ( IN | OUT | INOUT ) ( ALPHIC | BASIC basic ) [ "CONTROL" "(" ALL ")" ] )
 abbrev pub spec_rule : Rule
-spec_rule = Or (Mark (Then names (word w.INTERRUPT End)))
-    (Mark (Then names (word w.DATION (Then direction (Then (One Class SpellsClass)
-    (Then (One Bool SpellsControl) End))))))
+spec_rule = Mark (Then names (Or (word w.INTERRUPT End)
+    (word w.DATION (Then direction (Then (One Class SpellsClass) (Then (One Bool SpellsControl) End))))))
 
 abbrev pub spec_parts : Spec → Held spec_rule
-spec_parts (spec.Interrupt names place) = First (place, (names, tt))
+spec_parts (spec.Interrupt names place) = (place, (names, First tt))
 spec_parts (spec.Dation names direction class control place) =
-    Second (place, (names, (direction, (class, (control, tt)))))
+    (place, (names, Second (direction, (class, (control, tt)))))
 
 -- param = names basic [ IDENT ]
 abbrev pub param_rule : Rule
@@ -211,8 +230,23 @@ returns_parts x = (x, tt)
 
 -- device = id ":" ( id | INTERRUPT ) "(" number ")" ";"
 abbrev pub device_rule : Rule
-device_rule = Mark (Then id (symbol s.COLON (Then (One DeviceWord SpellsDeviceWord) (symbol s.LEFT_ROUND (Then number
-    (symbol s.RIGHT_ROUND (symbol s.SEMICOLON End)))))))
+device_rule = Mark (Then id (symbol s.COLON (Then (One DeviceWord SpellsDeviceWord) (Then bracketed_number close))))
 
 abbrev pub device_parts : Device → Held device_rule
 device_parts x = (x.place, (x.name, (x.word, (x.number, tt))))
+
+-- LENGTH ( FIXED | BIT | CHAR ) "(" number ")" ";"
+abbrev pub length_rule : Rule
+length_rule = Mark (word w.LENGTH (Then sort (Then bracketed_number close)))
+
+-- TYPE id type ";"
+abbrev pub type_rule : Rule
+type_rule = Mark (word w.TYPE (Then id (Then whole_type close)))
+
+-- DCL ( item | sema ) { "," ( item | sema ) } ";"
+abbrev pub declare_rule : Rule
+declare_rule = Mark (word w.DCL (Then (Listed (One Declared SpellsDeclared)) close))
+
+-- SPC spec { "," spec } ";"
+abbrev pub specify_rule : Rule
+specify_rule = Mark (word w.SPC (Then (Listed (One Spec SpellsSpec)) close))

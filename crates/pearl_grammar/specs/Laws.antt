@@ -1,6 +1,16 @@
 -- What holds of productions: the tokens that a rule spells are those that spell the part which holds these places and
 -- parts.
 use Rattle.std.specs.Prelude.{ℕ, ◌↔◌, List}
+use Rattle.pearl_tree.specs.declared.name.Name.{Name}
+use Rattle.pearl_tree.specs.declared.name.Number.{Number}
+use Rattle.pearl_tree.specs.declared.parts.Parts.{Parts}
+use Rattle.pearl_tree.specs.declared.typing.Sort.{Sort}
+use Rattle.pearl_tree.specs.declared.typing.Typing.{Typing}
+use Rattle.pearl_tree.specs.declared.declaration.Declared.{Declared}
+use Rattle.pearl_tree.specs.declared.declaration.Spec.{Spec}
+use Rattle.pearl_tree.specs.declared.tree.Decl.TheVariants as decl
+use Rattle.pearl_tree.specs.Modules.{SpellsDecl}
+use Rattle.pearl_grammar.specs.Declarations as declaration
 use Rattle.pearl_tree.specs.declared.token.Token.{Token}
 use Rattle.pearl_tree.specs.Standing.{Spelling}
 use Rattle.pearl_tree.specs.declared.statement.Stmt.{Exit, OnTask, OnSemas, OnInterrupt, Send, Take, Return}
@@ -11,6 +21,28 @@ use Rattle.pearl_grammar.specs.Statements as rule
 abbrev pub IsSaid : {X : Type 0} → (List Token → Spelling X) → (rule : Rule) → (X → Held rule) → Type 0
 IsSaid {X} spells rule parts = (tokens : List Token) (from : ℕ) (x : X) (to : ℕ) →
     spells tokens from x to ↔ Spells rule tokens from (parts x) to
+
+-- ---- declarations
+
+abbrev pub LengthsAreSaid : Type 0
+LengthsAreSaid = (sort : Sort) (number : Number) (place : ℕ) (tokens : List Token) (from to : ℕ) →
+    SpellsDecl tokens from (decl.Length sort number place) to ↔
+    Spells declaration.length_rule tokens from (place, (sort, (number, tt))) to
+
+abbrev pub TypesAreSaid : Type 0
+TypesAreSaid = (name : Name) (typing : Typing) (place : ℕ) (tokens : List Token) (from to : ℕ) →
+    SpellsDecl tokens from (decl.Type name typing place) to ↔
+    Spells declaration.type_rule tokens from (place, (name, (typing, tt))) to
+
+abbrev pub VariablesAreSaid : Type 0
+VariablesAreSaid = (declared : Parts Declared) (place : ℕ) (tokens : List Token) (from to : ℕ) →
+    SpellsDecl tokens from (decl.Declare declared place) to ↔
+    Spells declaration.declare_rule tokens from (place, (declared.items.items, tt)) to
+
+abbrev pub SpecificationsAreSaid : Type 0
+SpecificationsAreSaid = (specs : Parts Spec) (place : ℕ) (tokens : List Token) (from to : ℕ) →
+    SpellsDecl tokens from (decl.Specify specs place) to ↔
+    Spells declaration.specify_rule tokens from (place, (specs.items.items, tt)) to
 
 -- ---- statements that hold no others, however many of those that do stand around them
 

@@ -1,5 +1,6 @@
 -- How far some part goes on, where that is told no earlier than what stands before it was stopped.
-use Rattle.std.specs.Prelude.{◌≡◌, ℕ, ◌≤◌, max, List, length}
+use Rattle.std.specs.Prelude.{◌≡◌, ℕ, ◌≤◌, max, Bool, false, List, length, Option}
+use Rattle.pearl_tree.specs.declared.token.What.{What}
 use Rattle.pearl_tree.specs.declared.token.Token.{Token}
 use Rattle.pearl_tree.specs.Standing.{Spelling}
 use Rattle.pearl_parse_expr.specs.declared.reading.Halt.{Halt}
@@ -24,3 +25,12 @@ abbrev pub IsStopped : {X : Type 0} → (List Token → Spelling X) → List Tok
 IsStopped {X} spells tokens from least_stop NoMemory = Unit {0}
 IsStopped {X} spells tokens from least_stop (Refused stop) =
     Stuck spells tokens from stop × (from ≤ stop) × (least_stop ≤ stop) × (stop ≤ length tokens)
+
+-- a part is refused where another one before it was stopped
+abbrev pub behind : Halt → ℕ → Halt
+behind NoMemory stop = NoMemory
+behind (Refused at) stop = Refused (max at stop)
+
+-- a part that has one end
+abbrev pub never : Option What → Bool
+never token = false

@@ -1,5 +1,5 @@
 -- The productions of statements that hold no others, and how a tree holds their parts.
-use Rattle.std.specs.Prelude.{◌≡◌, ℕ, ◌+◌, List}
+use Rattle.std.specs.Prelude.{ℕ}
 use Rattle.pearl_tree.specs.declared.expression.Expr.{Expr}
 use Rattle.pearl_tree.specs.declared.expression.Ref.{Ref}
 use Rattle.pearl_tree.specs.declared.statement.TaskWord.{TaskWord}
@@ -13,20 +13,15 @@ use Rattle.pearl_tree.specs.declared.statement.Send.{Send}
 use Rattle.pearl_tree.specs.declared.statement.Take.{Take}
 use Rattle.pearl_tree.specs.Expressions.{SpellsWhole, SpellsOwnRef}
 use Rattle.pearl_tree.specs.Statements.{task_word, sema_word, interrupt_word, SpellsValue}
-use Rattle.pearl_tree.specs.declared.symbol.TheConstants as s
 use Rattle.pearl_tree.specs.declared.word_code.TheConstants as w
-use Rattle.pearl_grammar.specs.Rules.{Part, One, Maybe, Listed, Rule, End, Mark, Then, Held, word, symbol, SpellsOneWord}
-use Rattle.pearl_grammar.specs.Declarations.{id}
+use Rattle.pearl_grammar.specs.Rules.{Part, One, Maybe, Listed, Rule, Mark, Then, Held, word, SpellsOneWord}
+use Rattle.pearl_grammar.specs.Declarations.{id, close}
 
 abbrev pub expression : Part
 expression = One Expr SpellsWhole
 
 abbrev pub reference : Part
 reference = One Ref SpellsOwnRef
-
--- ";"
-abbrev pub close : Rule
-close = symbol s.SEMICOLON End
 
 -- id ";"
 abbrev pub station : Rule

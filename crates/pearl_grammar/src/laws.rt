@@ -6,7 +6,9 @@ ghost use Rattle.pearl_tree.specs.Types as types;
 ghost use Rattle.pearl_tree.specs.Declarations as grammar;
 ghost use Rattle.pearl_tree.specs.Modules as modules;
 ghost use Rattle.pearl_grammar.specs.Declarations as rules;
-ghost use Rattle.pearl_grammar.specs.Laws.{IsSaid, Exits, TasksAreActedOn, SemasAreActedOn, InterruptsAreActedOn, Sends, Takes, Returns};
+ghost use Rattle.std.specs.Prelude.{ℕ};
+ghost use Rattle.pearl_grammar.specs.Laws.{IsSaid, LengthsAreSaid, TypesAreSaid, VariablesAreSaid, SpecificationsAreSaid};
+ghost use Rattle.pearl_grammar.specs.Laws.{Exits, TasksAreActedOn, SemasAreActedOn, InterruptsAreActedOn, Sends, Takes, Returns};
 
 /// The productions of names, numbers in brackets and constants spell what their definitions say.
 pub fn names_are_said()
@@ -22,6 +24,7 @@ pub fn types_are_said()
     ensures bound { IsSaid types.SpellsBound rules.bound_rule rules.bound_parts }
     ensures bounds { IsSaid types.SpellsBounds rules.bounds_rule rules.bounds_parts }
     ensures basic { IsSaid types.SpellsBasic rules.basic_rule rules.basic_parts }
+    ensures field { (depth : ℕ) → IsSaid (λ tokens. types.SpellsField tokens depth) (rules.field_rule depth) (rules.field_parts depth) }
 {}
 
 /// Those of variables and semaphores do.
@@ -37,6 +40,14 @@ pub fn specifications_are_said()
     ensures control { IsSaid grammar.SpellsControl rules.control_rule rules.control_parts }
     ensures spec { IsSaid grammar.SpellsSpec rules.spec_rule rules.spec_parts }
     ensures device { IsSaid grammar.SpellsDevice rules.device_rule rules.device_parts }
+{}
+
+/// Those of declarations that have no body do.
+pub fn declarations_are_said()
+    ensures length { LengthsAreSaid }
+    ensures typing { TypesAreSaid }
+    ensures declared { VariablesAreSaid }
+    ensures specs { SpecificationsAreSaid }
 {}
 
 /// Those of parameters, priorities and results do.

@@ -1,5 +1,5 @@
 -- What is told of a whole whose parts are read, are not read, or may be missing.
-use Rattle.std.proofs.Common.{refl, ◌≡◌, ℕ, ◌+◌, ◌*◌, ◌<◌, ◌≤◌, ◌||◌, sym, ap, ◌∙◌}
+use Rattle.std.proofs.Common.{refl, ◌≡◌, ℕ, ◌+◌, ◌<◌, ◌≤◌, ◌||◌, sym, ap, ◌∙◌}
 use Rattle.std.proofs.Common.{max, Result, Ok, Err, IfOk, IfErr, Bool, true, false, List, Vec, Option, Some, None, ◌⊎◌}
 use Rattle.std.proofs.Common.{inl, inr}
 use Rattle.std.proofs.Common.{length, subst, arith}
@@ -11,14 +11,12 @@ use Rattle.pearl_tree.specs.Stops.{BeginAlike}
 use Rattle.pearl_parse_expr.specs.declared.reading.Halt.{Halt}
 use Rattle.pearl_parse_expr.specs.declared.reading.Halt.TheVariants.{Refused, NoMemory}
 use Rattle.pearl_parse_expr.specs.Stops.{IsLongest, IsOnly, IsAhead, Stuck, EndsEarly, IsHalted}
-use Rattle.pearl_parse_expr.specs.Least.{AlikeBefore, ReachesIn, GoesIn, HaltsIn, Reaches, GoesToHalt, IsLeast}
-use Rattle.pearl_parse_expr.specs.Reads.{ReadsOnlyAs, ReadsOnly, ReadsAs, Reads, ReadsList, ReadsMaybe, ReadsMaybeList}
+use Rattle.pearl_parse_expr.specs.Least.{AlikeBefore, ReachesIn, GoesIn, HaltsIn, Reaches, IsLeast}
+use Rattle.pearl_parse_expr.specs.Reads.{ReadsOnlyAs, ReadsOnly, ReadsAs, Reads, ReadsList, ReadsMaybe}
 use Rattle.pearl_parse_expr.specs.declared.reading.Reading.{Reading}
 use Rattle.pearl_parse_expr.proofs.Offered.{IsLocal, goes, goes_as, goes_max, halts_as, reach_of, reaches_as}
-use Rattle.pearl_parse_expr.proofs.Offered.{reaches_closed, reaches_max, shorter, or_first, or_second, clash}
-use Rattle.pearl_tree.specs.Tokens.{IsLawfulWhat}
-use Rattle.std.specs.Option.{option_map}
-use Rattle.pearl_parse_decl.specs.Readings.{behind, IsOptional, IsPast, ReadsMaybePart}
+use Rattle.pearl_parse_expr.proofs.Offered.{shorter, or_first, or_second, clash}
+use Rattle.pearl_parse_decl.specs.Readings.{IsOptional, IsPast, ReadsMaybePart}
 
 -- ---- no part is read
 
@@ -51,20 +49,7 @@ Has {X} {Y} first whole tokens from at stop =
     (others : List Token) → BeginAlike tokens others stop → (y : Y) (to : ℕ) → whole others from y to →
     (x : X) × (k : ℕ) × first others at x k
 
-pub halted_behind : {X Y : Type 0} (first : List Token → Spelling X) (whole : List Token →
-    Spelling Y) (tokens : List Token) (from at stop : ℕ) (halt : Halt) →
-    from ≤ at → stop ≤ length tokens → Has first whole tokens from at stop →
-    IsHalted first tokens at halt → IsHalted whole tokens from (behind halt stop)
-halted_behind first whole tokens from at stop NoMemory below within has h = tt
-halted_behind first whole tokens from at stop (Refused last) below within has h = (
-  λ others agree y to whole.
-      let read = has others (shorter tokens others stop (max last stop) (omega arith) agree) y to whole in
-      h.0 others (shorter tokens others last (max last stop) (omega arith) agree) read.0 read.1 read.2,
-  omega (arith, h.1),
-  omega (arith, h.2, within),
-)
-
--- the same of parts that begin at the same token, where it was read up to `past` which of them there is
+-- parts that begin at the same token, where it was read up to `past` which of them there is
 pub halted_past : {X Y : Type 0} (first : List Token → Spelling X) (whole : List Token →
     Spelling Y) (tokens : List Token) (from past : ℕ) (halt : Halt) →
     IsPast past halt → Has first whole tokens from from past →
@@ -136,17 +121,6 @@ maybe_is_longest {X} spells extends tokens from end stop ahead near opens only =
 
 -- ---- how far some part goes on
 
--- a part within another one, behind parts that were stopped before it
-pub halts_behind : {X Y : Type 0} (spells : List Token → Spelling X) (whole : List Token →
-    Spelling Y) (tokens : List Token) (from at stop : ℕ) (halt : Halt) → stop ≤ at →
-    ((k : ℕ) → at ≤ k → k ≤ length tokens → Reaches spells tokens at k → Reaches whole tokens from k) →
-    IsHalted spells tokens at halt → GoesToHalt spells tokens at halt →
-    GoesToHalt whole tokens from (behind halt stop)
-halts_behind spells whole tokens from at stop NoMemory before step h r = tt
-halts_behind spells whole tokens from at stop (Refused k) before step h r =
-    let same : k ≡ max k stop = omega (arith, h.1) in
-    subst (λ k. Reaches whole tokens from k) same (step k h.1 h.2 r)
-
 -- a part that is told as another one is
 pub least_as : {X Y Z : Type 0} (spells : List Token → Spelling X) (whole : List Token →
     Spelling Y) (tokens : List Token) (from : ℕ) (result : Result (Reading Z) Halt) →
@@ -177,19 +151,6 @@ ends_with part whole tokens from at before makes = record {
       (λ others alike long short x h. makes others stop near long alike x h) r;
 }
 
--- it ends with the part and one token
-pub closes_with : {X Y : Type 0} (part : List Token → Spelling X) (whole : List Token → Spelling Y) → IsLocal part →
-    (tokens : List Token) (from at : ℕ) → from < at → (last : Token) → IsLawfulWhat last.what →
-    ((others : List Token) (stop : ℕ) → at ≤ stop → stop ≤ length tokens → AlikeBefore tokens others stop →
-    length others + 8 * from ≤ 9 * stop + 16 → (m : ℕ) → length others ≡ m + 1 →
-    what_at others m ≡ Some last.what → (x : X) → part others at x m → (y : Y) × whole others from y (m + 1)) →
-    Holds 16 16 part whole tokens from at
-closes_with part whole local tokens from at before last known makes = record {
-  carries = λ stop near within r. reaches_closed part whole tokens from at stop last before known
-      (λ others alike short m size end x h. makes others stop near within alike short m size
-      (ap (option_map (λ token. token.what)) end) x h) local r;
-}
-
 -- a part as it was read, and stopped
 pub record WasRead {X : Type 0} (room : ℕ) (part : List Token → Spelling X) (tokens : List Token) (from : ℕ) (x : X)
     (end stop : ℕ) : Type 0 where
@@ -199,14 +160,6 @@ pub record WasRead {X : Type 0} (room : ℕ) (part : List Token → Spelling X) 
 
 module _ {X : Type 0} {room : ℕ} {part : List Token → Spelling X} {tokens : List Token} {from : ℕ}
     {reading : Reading X} where
-  pub only_is_read : ReadsOnly room part tokens from (Ok reading) →
-      WasRead room part tokens from reading.part reading.end reading.stop
-  only_is_read read = record {
-    spells = read.spells;
-    within = (omega (arith, read.ahead), read.ahead.1, read.ahead.2);
-    least = read.least;
-  }
-
   module _ {extends : Option What → Bool} where
     pub longest_is_read : Reads room part extends tokens from (Ok reading) →
         WasRead room part tokens from reading.part reading.end reading.stop
@@ -231,16 +184,6 @@ pub list_is_read : {X A : Type 0} {room : ℕ} (part : List Token → Spelling (
 list_is_read part read = record {
   spells = read.spells;
   within = (omega (arith, read.ahead), read.ahead.1, read.ahead.2);
-  least = read.least;
-}
-
-pub maybe_list_is_read : {X A : Type 0} {room : ℕ} (part : List Token → Spelling (List X))
-    {extends : Option What → Bool} {tokens : List Token} {from : ℕ} {reading : Reading (Vec X A)} →
-    ReadsMaybeList room part extends tokens from (Ok reading) →
-    WasRead room part tokens from reading.part.items reading.end reading.stop
-maybe_list_is_read part read = record {
-  spells = read.spells;
-  within = (read.bounds.0, read.bounds.1, read.bounds.3);
   least = read.least;
 }
 
@@ -290,35 +233,6 @@ module _ {X Y : Type 0} {inner room : ℕ} {part : List Token → Spelling X} {w
         refused = tt;
         least = goes_max whole tokens from stop (end + 1) last is unclosed;
       }
-
--- a part within a whole isn't read, behind others that were stopped
-module _ {X Y Z : Type 0} (spells : List Token → Spelling X) (whole : List Token → Spelling Y)
-    {told : List Token → Spelling Z} {extends : Option What → Bool}
-    (tokens : List Token) (from at stop : ℕ) (halt : Halt) (result : Halt) (is : result ≡ behind halt stop)
-    (on : from ≤ at) (within : stop ≤ length tokens) (has : Has spells whole tokens from at stop)
-    (none : IsHalted spells tokens at halt) where
-  pub read_behind : GoesToHalt whole tokens from (behind halt stop) →
-      ReadsAs 16 told whole extends tokens from (Err result)
-  read_behind least =
-      subst (λ halt. ReadsAs 16 told whole extends tokens from (Err halt)) (sym is)
-      (none_read (halted_behind spells whole tokens from at stop halt on within has none) least)
-
-module _ {X Y : Type 0} {part : List Token → Spelling X} {whole : List Token → Spelling Y}
-    {tokens : List Token} {from at : ℕ} (holds : Holds 16 16 part whole tokens from at) (stop : ℕ)
-    (before : Reaches whole tokens from stop) where
-  halts_max : (halt : Halt) → IsHalted part tokens at halt → GoesToHalt part tokens at halt →
-      GoesToHalt whole tokens from (behind halt stop)
-  halts_max NoMemory none least = tt
-  halts_max (Refused k) none least =
-      reaches_max whole tokens from k stop (max k stop) refl (holds.carries k none.1 none.2 least) before
-
-  -- the same, where some whole goes on as far as those parts were stopped
-  pub unread_behind : {Z : Type 0} {told : List Token → Spelling Z} {extends : Option What → Bool}
-      {result : Halt} (halt : Halt) → result ≡ behind halt stop → from ≤ at → stop ≤ length tokens →
-      Has part whole tokens from at stop → IsHalted part tokens at halt → GoesToHalt part tokens at halt →
-      ReadsAs 16 told whole extends tokens from (Err result)
-  unread_behind {Z} {told} {extends} {result} halt is on within has none least =
-      read_behind part whole tokens from at stop halt result is on within has none (halts_max halt none least)
 
 -- ---- a part that may be missing
 

@@ -1,14 +1,10 @@
 mod Lists
 mod Behind
 mod Types
-mod Items
-mod Specifications
 mod Constants
 mod Leaves
-mod LocalLists
-mod LocalDeclarations
-mod Devices
+mod Kept
+mod DeclaredKinds
+mod Structs
 mod ListReach
-mod TypeReach
-mod DeclReach
 pub mod Offered

@@ -1,15 +1,14 @@
 -- Lists in brackets, and behind a word: what other tokens can spell that begin as these do.
 use Rattle.std.proofs.Common.{◌≡◌, ℕ, ◌+◌, ◌<◌, ◌≤◌, Bool, true, false, List, [], ◌∷◌}
-use Rattle.std.proofs.Common.{Option, Some, ◌⊎◌, inl, inr, refl, sym, ap, subst, ◌∙◌, arith}
+use Rattle.std.proofs.Common.{Option, ◌⊎◌, inl, inr, sym, ap, subst, ◌∙◌, arith}
 use Rattle.pearl_tree.specs.declared.token.What.{What}
-use Rattle.pearl_tree.specs.declared.token.What.TheVariants as what
 use Rattle.pearl_tree.specs.declared.token.Token.{Token}
-use Rattle.pearl_tree.specs.Standing.{Spelling, what_at, HasSymbol, SpellsList, SpellsBracketed}
+use Rattle.pearl_tree.specs.Standing.{Spelling, what_at, HasSymbol, SpellsBracketed}
 use Rattle.pearl_tree.specs.Standing.{SpellsMaybeBracketed, SpellsMaybeHeaded}
 use Rattle.pearl_tree.specs.declared.symbol.TheConstants as s
-use Rattle.pearl_parse_expr.specs.Stops.{IsLongest, Stuck, IsOnly, EndsEarly, is_symbol, is_word, by_comma}
+use Rattle.pearl_parse_expr.specs.Stops.{IsLongest, Stuck, IsOnly, EndsEarly, is_word}
 use Rattle.pearl_parse_decl.specs.Readings.{by_bracket}
-use Rattle.pearl_parse_expr.proofs.Offered.{clash, shorter}
+use Rattle.pearl_parse_expr.proofs.Offered.{clash}
 
 -- where no token goes on with the part, it ends where it was read to
 pub settled : (extends : Option What → Bool) (others : List Token) (end m : ℕ) →
@@ -17,35 +16,7 @@ pub settled : (extends : Option What → Bool) (others : List Token) (end m : �
 settled extends others end m (inl same) never = same
 settled extends others end m (inr early) never = absurd (clash _ early.1 never)
 
-module _ {X : Type 0} (spells : List Token → Spelling X) (extends : Option What → Bool) where
-  -- the bracket that closes a list stands at one place
-  module _ (no_bracket : extends (Some (what.Symbol s.RIGHT_ROUND)) ≡ false) where
-    closes : (others : List Token) (from end : ℕ) →
-        ((xs : List X) (to : ℕ) → SpellsList others (spells others) (from + 1) xs to →
-        (to ≡ end) ⊎ EndsEarly (by_comma extends) others end to) →
-        (xs : List X) (to : ℕ) → SpellsBracketed others (spells others) from xs to →
-        HasSymbol others end s.RIGHT_ROUND × (to ≡ end + 1)
-    closes others from end longest xs to h =
-        let none : by_comma extends (what_at others h.0) ≡ false = rw (h.3, no_bracket) refl in
-        let same = settled (by_comma extends) others end h.0 (longest xs h.0 h.2) none in
-        (subst (λ k. HasSymbol others k s.RIGHT_ROUND) same h.3, omega (arith, same, h.4))
-
-    pub bracketed_is_only : (tokens : List Token) (from end stop new : ℕ) → stop ≤ new →
-        IsLongest (λ tokens. SpellsList tokens (spells tokens)) (by_comma extends) tokens (from + 1) end stop →
-        IsOnly (λ tokens. SpellsBracketed tokens (spells tokens)) tokens from (end + 1) new
-    bracketed_is_only tokens from end stop new below longest = λ others agree xs to h.
-        (closes others from end (λ xs to h. longest others (shorter tokens others stop new below agree) xs to h) xs to
-        h).1
-
-    pub bracketed_is_open : (tokens : List Token) (from end stop : ℕ) → end ≤ stop →
-        IsLongest (λ tokens. SpellsList tokens (spells tokens)) (by_comma extends) tokens (from + 1) end stop →
-        is_symbol s.RIGHT_ROUND (what_at tokens end) ≡ false →
-        Stuck (λ tokens. SpellsBracketed tokens (spells tokens)) tokens from stop
-    bracketed_is_open tokens from end stop below longest unclosed = λ others agree xs to h.
-        let closed = closes others from end (λ xs to h. longest others agree xs to h) xs to h in
-        clash _ (ap (is_symbol s.RIGHT_ROUND) closed.0)
-        (ap (is_symbol s.RIGHT_ROUND) (sym (agree end below)) ∙ unclosed)
-
+module _ {X : Type 0} (spells : List Token → Spelling X) where
   -- [ "(" part { "," part } ")" ]
   pub maybe_is_longest : (tokens : List Token) (from end stop : ℕ) → from < end → from ≤ stop →
       HasSymbol tokens from s.LEFT_ROUND →

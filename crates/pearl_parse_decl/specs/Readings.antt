@@ -1,5 +1,5 @@
 -- With which tokens a part goes on that could end before them, and what is told of a part that is not read.
-use Rattle.std.specs.Prelude.{◌≡◌, ℕ, ◌+◌, ◌≤◌, ◌||◌, max, Bool, false, List, length}
+use Rattle.std.specs.Prelude.{◌≡◌, ℕ, ◌+◌, ◌≤◌, ◌||◌, Bool, List, length}
 use Rattle.std.specs.Prelude.{Option, Some, None, Result, Ok, Err}
 use Rattle.pearl_tree.specs.declared.token.What.{What}
 use Rattle.pearl_tree.specs.declared.token.Token.{Token}
@@ -13,10 +13,7 @@ use Rattle.pearl_parse_expr.specs.declared.reading.Reading.{Reading}
 use Rattle.pearl_parse_expr.specs.Least.{AlikeBefore, ReachesIn}
 use Rattle.pearl_parse_expr.specs.Reads.{ReadsMaybe}
 pub use Rattle.pearl_parse_expr.specs.Stops.{by_comma}
-
--- a part that has one end
-abbrev pub never : Option What → Bool
-never token = false
+pub use Rattle.pearl_grammar.specs.Reached.{behind, never}
 
 -- a part behind which `"(" number ")"` may stand
 abbrev pub by_bracket : Option What → Bool
@@ -64,11 +61,6 @@ IsOptional from (Ok reading) maybe =
     maybe ≡ record { part = Some reading.part; end = reading.end; stop = reading.stop }
 IsOptional from (Err (Refused stop)) maybe = maybe ≡ record { part = None; end = from; stop = stop }
 IsOptional from (Err NoMemory) maybe = ⊥
-
--- a part is refused where another one before it was stopped
-abbrev pub behind : Halt → ℕ → Halt
-behind NoMemory stop = NoMemory
-behind (Refused at) stop = Refused (max at stop)
 
 -- a part is refused at this token or behind it, or not read for want of memory
 abbrev pub IsPast : ℕ → Halt → Type 0

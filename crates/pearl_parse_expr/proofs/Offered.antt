@@ -16,9 +16,9 @@ pub use Rattle.pearl_parse_expr.proofs.PastEnd.{no_token}
 pub use Rattle.pearl_parse_expr.proofs.Local.{what, place, name, number, literal_local, terms_local, selector_local}
 -- tokens that go on with a part as far as some number: those before it, and others behind them
 pub use Rattle.pearl_parse_expr.proofs.Reaching.{begun, begun_alike, what_stands, place_stands, Lawful, none_lawful}
-pub use Rattle.pearl_parse_expr.proofs.Reaching.{one_lawful, order, IsLocal, completed, reach_of, goes, reaches_max}
+pub use Rattle.pearl_parse_expr.proofs.Reaching.{one_lawful, order, IsLocal, completed, reach_of, goes}
 pub use Rattle.pearl_parse_expr.proofs.Reaching.{goes_max, reaches_as_in, reaches_as, goes_as, halts_as}
-pub use Rattle.pearl_parse_expr.proofs.Reaching.{reaches_closed_in, reaches_closed, reached_halt, placed, placed_within}
+pub use Rattle.pearl_parse_expr.proofs.Reaching.{reaches_closed_in, reached_halt, placed, placed_within}
 pub use Rattle.pearl_parse_expr.proofs.Reaching.{token_of}
 -- the ids that stand where one is missing: one letter is no word
 pub use Rattle.pearl_parse_expr.proofs.Ids.{letter_token, x_name, x_token, letter_lawful, x_lawful}

@@ -1,8 +1,12 @@
 -- What `declared` answers: no names, or behind them a semaphore or a variable that is read, or isn't.
-use Rattle.std.proofs.Common.{rules, sym}
-use Rattle.pearl_parse_expr.proofs.Offered.{longest_read, residual}
-use Rattle.pearl_parse_decl.proofs.Behind.{part_unread}
-use Rattle.pearl_parse_decl.proofs.DeclReach.{declared_names, item_kind, kind_read, kind_unread, sema_kind}
+use Rattle.std.proofs.Common.{rules, Err, sym, arith}
+use Rattle.pearl_tree.specs.Declarations.{SpellsItem}
+use Rattle.pearl_parse_expr.specs.Reads.{Reads}
+use Rattle.pearl_parse_expr.proofs.Offered.{residual}
+use Rattle.pearl_grammar.proofs.Offered.{item_start, mark_read, part_missing, lacks_first, none_longest}
+use Rattle.pearl_parse_decl.specs.Readings.{extends_item}
+use Rattle.pearl_parse_decl.proofs.Behind.{none_read}
+use Rattle.pearl_parse_decl.proofs.DeclaredKinds.{declared_halts, item_kind, kind_read, kind_unread, sema_kind}
 use Rattle.pearl_parse_decl.proofs.item.declared.Goals as goal
 
 pub returns-in-Ok : goal.returns-in-Ok
@@ -36,6 +40,9 @@ returns-in-Err-item_behind c =
 pub returns-in_err-names : goal.returns-in_err-names
 returns-in_err-names c =
     rw (residual c.in_err-names.field-0.0 c.from_residual.result c.from_residual.ensures)
-    (longest_read _
-    (part_unread (declared_names c.args.tokens.now c.args.from) (search rules) c.in_err-names.ensures.refused
-    c.in_err-names.ensures.least))
+    (let names = c.in_err-names.ensures in
+    let none : Reads 16 SpellsItem extends_item c.args.tokens.now c.args.from (Err c.in_err-names.field-0.0) =
+    none_longest _ (part_missing (mark_read (item_start c.args.tokens.now c.args.from c.requires (search rules)))
+    (lacks_first c.in_err-names.field-0.0 names.refused names.least (omega arith)) (omega arith) (omega arith)) in
+    none_read (search rules)
+    (declared_halts c.args.tokens.now c.args.from c.in_err-names.field-0.0 none.refused none.least))

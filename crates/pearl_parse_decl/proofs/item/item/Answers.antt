@@ -1,12 +1,9 @@
 -- What `item` answers where no names stand there.
-use Rattle.std.proofs.Common.{rules}
-use Rattle.pearl_parse_expr.proofs.Offered.{longest_read}
-use Rattle.pearl_parse_decl.proofs.Behind.{part_unread}
-use Rattle.pearl_parse_decl.proofs.DeclReach.{item_names}
+use Rattle.std.proofs.Common.{rules, arith}
+use Rattle.pearl_grammar.proofs.Offered.{item_start, mark_read, part_missing, lacks_first, none_longest}
 use Rattle.pearl_parse_decl.proofs.item.item.Goals as goal
 
 pub returns-in-Err : goal.returns-in-Err
 returns-in-Err c =
-    longest_read _
-    (part_unread (item_names c.args.tokens.now c.args.from) (search rules) c.in-Err.ensures.refused
-    c.in-Err.ensures.least)
+    none_longest _ (part_missing (mark_read (item_start c.args.tokens.now c.args.from c.requires (search rules)))
+    (lacks_first c.in-Err.halt c.in-Err.ensures.refused c.in-Err.ensures.least (omega arith)) (omega arith) (omega arith))

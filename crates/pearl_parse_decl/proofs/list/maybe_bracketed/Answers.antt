@@ -13,7 +13,7 @@ returns-in-Ok-clause-reads g c =
     let read = c.in-Ok.ensures in
     record {
       spells = search rules;
-      longest = maybe_is_longest g.P.Readable.spelling g.P.Readable.extends c.args.tokens.now c.args.from list.end
+      longest = maybe_is_longest g.P.Readable.spelling c.args.tokens.now c.args.from list.end
           list.stop read.ahead.0 (omega (arith, read.ahead)) read.spells.1 read.only;
       bounds = search rules;
       refused = tt;
@@ -31,7 +31,7 @@ returns-in-Refused-clause-reads g c =
     stop c.in-Err.halt c.in-Refused.is c.in-Err.ensures.refused in
     maybe_list_none (λ tokens. SpellsMaybeBracketed tokens (g.P.Readable.spelling tokens)) by_bracket c.args.tokens.now
     c.args.from stop c.none.ensures refl
-    (maybe_is_none g.P.Readable.spelling g.P.Readable.extends c.args.tokens.now c.args.from stop none.0)
+    (maybe_is_none g.P.Readable.spelling c.args.tokens.now c.args.from stop none.0)
     (omega arith, none.1, none.1, none.2)
     (goes (λ tokens. SpellsMaybeBracketed tokens (g.P.Readable.spelling tokens)) c.args.tokens.now c.args.from
     c.args.from stop

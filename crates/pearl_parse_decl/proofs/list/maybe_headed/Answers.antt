@@ -14,7 +14,7 @@ returns-in-Ok-clause-reads g c =
     let near : c.args.from < list.stop = omega (arith, read.ahead) in
     record {
       spells = search rules;
-      longest = headed_is_longest g.P.Readable.spelling g.P.Readable.extends c.args.tokens.now c.args.from c.args.word
+      longest = headed_is_longest g.P.Readable.spelling c.args.tokens.now c.args.from c.args.word
           list.end list.stop (omega (arith, read.ahead)) (omega arith)
           (sym c.if-not-is_word.ensures.value) read.only;
       bounds = search rules;
@@ -34,7 +34,7 @@ returns-in-Refused-clause-reads g c =
     let near : c.args.from < stop = omega (arith, none.1) in
     maybe_list_none (λ tokens. SpellsMaybeHeaded tokens c.args.word (g.P.Readable.spelling tokens))
     (is_word c.args.word) c.args.tokens.now c.args.from stop c.none-in-Refused.ensures refl
-    (headed_is_none g.P.Readable.spelling g.P.Readable.extends c.args.tokens.now c.args.from c.args.word stop none.0)
+    (headed_is_none g.P.Readable.spelling c.args.tokens.now c.args.from c.args.word stop none.0)
     (omega arith, omega arith, omega arith, none.2)
     (goes (λ tokens. SpellsMaybeHeaded tokens c.args.word (g.P.Readable.spelling tokens)) c.args.tokens.now c.args.from
     c.args.from stop

@@ -1,45 +1,41 @@
 -- What `constant` answers: the literal behind the sign isn't read, or it is.
-use Rattle.std.proofs.Common.{rules, ◌≡◌, ◌≤◌, subst, arith}
-use Rattle.pearl_tree.specs.Expressions.{SpellsLiteral, SpellsConst}
-use Rattle.pearl_parse_expr.specs.Least.{GoesTo}
-use Rattle.pearl_parse_expr.proofs.Offered.{goes_as}
-use Rattle.pearl_parse_decl.proofs.Behind.{halts_behind, read_behind}
-use Rattle.pearl_parse_decl.proofs.Constants.{sign_ends}
-use Rattle.pearl_parse_decl.proofs.Leaves.{const_reaches}
+use Rattle.std.proofs.Common.{rules, ℕ, ◌≡◌, ◌≤◌, ◌<◌, ◌^◌, Ok, List, length, arith}
+use Rattle.pearl_tree.specs.declared.token.Token.{Token}
+use Rattle.pearl_tree.specs.declared.literal.Sign.{Sign}
+use Rattle.pearl_tree.specs.Standing.{SpellsMaybe}
+use Rattle.pearl_tree.specs.Expressions.{SpellsSign, SpellsConst}
+use Rattle.pearl_parse_expr.specs.declared.reading.Reading.{Reading}
+use Rattle.std.proofs.Common.{Option}
+use Rattle.pearl_grammar.specs.Rules.{Then, End}
+use Rattle.pearl_grammar.specs.Reached.{never}
+use Rattle.pearl_parse_decl.specs.Readings.{ReadsMaybePart, is_sign}
+use Rattle.pearl_parse_decl.proofs.Constants.{literal_is_no_sign}
+use Rattle.pearl_grammar.specs.Declarations.{literal}
+use Rattle.pearl_grammar.proofs.Offered as leaf
+use Rattle.pearl_grammar.proofs.Offered.{constant_start, Walk, mark_read, part_read, part_taken, part_missing}
+use Rattle.pearl_grammar.proofs.Offered.{took_once, took_longest, lacks, longest, none_longest}
 use Rattle.pearl_parse_decl.proofs.literal.constant.Goals as goal
+
+-- behind the sign
+signed : (tokens : List Token) (from : ℕ) → from ≤ length tokens → length tokens < 2 ^ 55 → (sign : Reading (Option Sign)) →
+    ReadsMaybePart 16 (λ tokens. SpellsMaybe (SpellsSign tokens)) is_sign tokens from (Ok sign) → sign.stop ≡ sign.end →
+    Walk 16 SpellsConst tokens from 0 (Then literal End) (leaf.a_literal, tt) never sign.end sign.stop
+signed tokens from within few sign read once =
+    part_read (mark_read (constant_start tokens from within few))
+    (took_once {inner = 0} {new = sign.stop} read once (omega (arith, read.bounds)) within)
+    ((λ token h. literal_is_no_sign token h), tt) (omega arith) (omega arith) (omega arith)
 
 pub returns-in-Err : goal.returns-in-Err
 returns-in-Err c =
-    let tokens = c.args.tokens.now in
-    let sign = c.sign-sign.result in
-    let before = c.sign-sign.ensures.reads in
-    let on : c.args.from ≤ sign.end = omega (arith, before.bounds) in
-    read_behind SpellsLiteral SpellsConst tokens c.args.from sign.end sign.stop c.in-Err.halt c.behind.result
-    c.behind.ensures.same on (omega (arith, before.bounds))
-    (λ others agree x to h.
-    let same = sign_ends others sign.end h.0 x.literal to h.3 (before.longest others agree x.sign h.0 h.2) in
-    (x.literal, to, subst (λ k. SpellsLiteral others k x.literal to) same h.3))
-    c.in-Err.ensures.reads.refused
-    (halts_behind SpellsLiteral SpellsConst tokens c.args.from sign.end sign.stop c.in-Err.halt
-    (omega (arith, c.sign-sign.ensures.once))
-    (λ stop near within r. const_reaches tokens c.args.from sign.end stop sign.part before.spells on near r)
-    c.in-Err.ensures.reads.refused c.in-Err.ensures.reads.least)
+    let read = c.sign-sign.ensures in
+    none_longest _ (part_missing (signed c.args.tokens.now c.args.from c.requires (search rules) c.sign-sign.result read.reads
+    read.once) (lacks c.in-Err.halt c.behind.result c.in-Err.ensures.reads.refused c.in-Err.ensures.reads.least
+    c.behind.ensures.same (omega (arith, read.reads.bounds))) (omega (arith, read.reads.bounds)) (omega arith))
 
 pub returns-in-Ok : goal.returns-in-Ok
 returns-in-Ok c =
-    record {
-      spells = search rules;
-      longest = search rules;
-      ahead = search rules;
-      refused = tt;
-      least = let tokens = c.args.tokens.now in
-          let sign = c.sign-sign.result in
-          let before = c.sign-sign.ensures in
-          let literal = c.in-Ok.literal in
-          let read = c.in-Ok.ensures.reads in
-          let same : literal.stop ≡ c.max.result = omega (arith, c.max.ensures, before.once, read.ahead) in
-          subst (λ k. GoesTo SpellsConst tokens c.args.from literal.end k) same
-          (goes_as SpellsLiteral SpellsConst tokens c.args.from sign.end literal.end literal.stop
-          (const_reaches tokens c.args.from sign.end literal.stop sign.part before.reads.spells
-          (omega (arith, before.reads.bounds)) (omega (arith, read.ahead))) read.least);
-    }
+    let read = c.sign-sign.ensures in
+    longest _ (part_taken (signed c.args.tokens.now c.args.from c.requires (search rules) c.sign-sign.result read.reads
+    read.once) (took_longest {new = c.max.result} c.in-Ok.ensures.reads c.max.ensures (omega (arith, read.reads.bounds))) tt
+    (omega (arith, read.reads.bounds)) (omega arith)) (omega (arith, c.max.ensures, c.in-Ok.ensures.reads.ahead))
+    (λ token h. h) (omega (arith, read.reads.bounds, c.in-Ok.ensures.reads.ahead)) (search rules)

@@ -1,8 +1,7 @@
 -- What reading a variable of a list answers: whether tokens spell it depends on those before its end alone.
 use Rattle.std.proofs.Common.{arith}
 use Rattle.pearl_tree.specs.Declarations.{SpellsItem}
-use Rattle.pearl_parse_decl.proofs.LocalLists.{contained_of}
-use Rattle.pearl_parse_decl.proofs.LocalDeclarations.{item_keeps}
+use Rattle.pearl_parse_decl.proofs.Kept.{contained_of, item_keeps}
 use Rattle.pearl_parse_decl.proofs.item.ItemReadable.read.Goals as goal
 
 pub returns-clause-contained : goal.returns-clause-contained

@@ -1,6 +1,6 @@
 -- What reading a number of a list answers: it has one end, and depends on the tokens before that alone.
 use Rattle.pearl_parse_expr.proofs.Offered.{longest_read}
-use Rattle.pearl_parse_decl.proofs.LocalLists.{number_keeps}
+use Rattle.pearl_grammar.proofs.Offered.{number_keeps}
 use Rattle.pearl_parse_decl.proofs.name.NumberReadable.read.Goals as goal
 
 pub returns-clause-reads : goal.returns-clause-reads

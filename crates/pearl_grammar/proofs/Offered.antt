@@ -1,0 +1,36 @@
+-- What other crates may cite of this crate's proofs.
+
+-- what is left of a part
+pub use Rattle.pearl_grammar.proofs.Rests.{Makes}
+-- how far a reader has come
+pub use Rattle.pearl_grammar.proofs.States.{halt_token, halts_in}
+-- on which tokens joined parts depend: those before their end alone; and how long lists are
+pub use Rattle.pearl_grammar.proofs.Joins.{flag_keeps, symbol_flag_keeps, maybe_keeps, maybe_bracketed_keeps}
+pub use Rattle.pearl_grammar.proofs.Joins.{maybe_bracketed_long}
+-- kinds of tokens, and a test of each of some kinds
+pub use Rattle.pearl_grammar.proofs.Tokens.{Among, answers, neither}
+-- what holds of each rule because it holds of its parts
+pub use Rattle.pearl_grammar.proofs.RuleFacts.{Left, Facts, fill_of, rule_fills}
+-- how far a reader has come in a rule: its steps, and what is refused where a token or a part is missing
+pub use Rattle.pearl_grammar.proofs.Walk.{opened, mark_read, token_read, one_read, part_read, part_taken, only_read}
+pub use Rattle.pearl_grammar.proofs.Walk.{first_chosen, second_chosen, lacking, missing, part_missing, Walk}
+-- what a part's reader says, as a step takes it, and what a reader says at the end
+pub use Rattle.pearl_grammar.proofs.Told.{took_only, only, took_longest, longest, took_maybe, maybe, took_once}
+pub use Rattle.pearl_grammar.proofs.Told.{took_only_list, took_list, took_maybe_list, took_symbol, lacks, lacks_past}
+pub use Rattle.pearl_grammar.proofs.Told.{lacks_first, none_only, none_longest}
+-- the tokens that a production spells are those that its definition says
+pub use Rattle.pearl_grammar.proofs.Said.{item_said, control_said}
+-- parts of one token, expressions and references
+pub use Rattle.pearl_grammar.proofs.Leaves.{name_keeps, id, number_keeps, number, a_literal, expr_keeps, own_ref_keeps}
+-- where a reader of a part begins
+pub use Rattle.pearl_grammar.proofs.Productions.{leaf_starts, begins}
+-- the facts of names, bounds, basic types, specifications, devices and heads, and where their readers begin
+pub use Rattle.pearl_grammar.proofs.DeclarationFacts.{bracketed_number, bracketed_number_start, constant}
+pub use Rattle.pearl_grammar.proofs.DeclarationFacts.{constant_start, int_start, upper_start, bound, bound_start}
+pub use Rattle.pearl_grammar.proofs.DeclarationFacts.{bounds, sort, basic, names_start, bounds_start, class}
+pub use Rattle.pearl_grammar.proofs.DeclarationFacts.{class_start, control, direction, spec, spec_start, device_word}
+pub use Rattle.pearl_grammar.proofs.DeclarationFacts.{close_facts, device, device_start, param, param_start, prio}
+pub use Rattle.pearl_grammar.proofs.DeclarationFacts.{prio_start, returns, returns_start}
+-- the same of types, and of declarations that have them
+pub use Rattle.pearl_grammar.proofs.TypeFacts.{typing, whole_typing, field, field_start, item, item_start, sema_start}
+pub use Rattle.pearl_grammar.proofs.TypeFacts.{declared, length_start, type_start, declare_start, specify_start}
