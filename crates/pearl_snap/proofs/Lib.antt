@@ -1,0 +1,5 @@
+mod Literals
+mod Wholes
+mod Embedding
+mod ExampleStates
+mod ExampleBytes

@@ -1,0 +1,14 @@
+-- how lists are spelled whose members know nothing of each other, and numbers that may be missing
+pub mod Lists
+-- how what a cell holds is spelled
+pub mod Cells
+-- how plans are spelled
+pub mod Plans
+-- how tasks are spelled, with their stacks
+pub mod Tasks
+-- how the state of a run is spelled
+pub mod States
+-- how a snapshot is spelled: an object behind the number of its bytes, and the state of a run of it
+pub mod Snapshots
+-- what a state must be so that a run can go on from it: rules N1 to N6
+pub mod Rules

@@ -1,0 +1,22 @@
+// What is known of the members of a list that stand before one; and what stands together in the list of tasks.
+
+use crate::record::TaskRecord;
+use crate::saved::FrameRecord;
+use pearl_value::listing::Listing;
+
+/// Nothing need be known.
+#[derive(Clone, Copy)]
+pub struct Free {}
+
+/// How many cells and operands a task's frames may still have.
+#[derive(Clone, Copy)]
+pub struct CellRoom {
+    pub left: u64,
+}
+
+/// A task with its stack, the lowest frame first.
+#[derive(Drop)]
+pub struct SavedTask {
+    pub row: TaskRecord,
+    pub frames: Listing<FrameRecord>,
+}
