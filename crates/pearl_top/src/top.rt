@@ -36,9 +36,9 @@ use std::alloc::Global;
 /// Carries out the command of the words after the program's name: reads the files that it names from the shelf, and
 /// writes what is due to the sink. Tests hold that each line is one piece.
 ///
-/// Memory may run out before a text is printed, while a source is checked or compiled, before the first line of a run is
-/// written, and while the workload runs, and then the line `error memory` alone is due. What is due otherwise, and with which
-/// status, is `Due`.
+/// Memory may run out before a text is printed, while a source is checked or compiled, while an object is read, validated or
+/// listed, before the first line of a run is written, and while the workload runs, and then the line `error memory` alone is
+/// due. What is due otherwise, and with which status, is `Due`.
 pub fn pearl<S: Shelf, K: Sink>(
     alloc: Global,
     words: &[String],
