@@ -55,6 +55,10 @@ fn events(rt: HostRuntime) -> Result<(), Fail> {
     };
     assert!(rt; is_line_of(0, &start, &setup, b"0 start VALVE 20\n"));
     assert!(rt; is_line_of(15, &Event::End(0), &setup, b"15 end PUMP\n"));
+    let first = Event::Kept { task: 1, number: 1 };
+    assert!(rt; is_line_of(15, &first, &setup, b"15 kept VALVE 1\n"));
+    let last = Event::Kept { task: 0, number: 3 };
+    assert!(rt; is_line_of(16, &last, &setup, b"16 kept PUMP 3\n"));
     let mut text = ArrayVec::new();
     let _ = text.try_extend_from_slice(b"it's\n\\ 5");
     let out = Event::Out { device: 1, text };

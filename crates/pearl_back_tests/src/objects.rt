@@ -9,6 +9,7 @@ ghost use Rattle.pearl_instructions.specs.Lawful.{IsInstr};
 use arrayvec::ArrayVec;
 use pearl_format::item::{Item, ItemCode};
 use pearl_instructions::boxed::Boxed;
+use pearl_instructions::constant::Constant;
 use pearl_instructions::instr::{Bounds, Instr, Reading};
 use pearl_instructions::object::{Code, Leaf, Parts, Procedure, Shape, Task};
 use pearl_value::cell::Cell;
@@ -16,7 +17,7 @@ use pearl_value::device::{Device, Direction};
 use pearl_value::kind::{CellKind, Kind};
 use pearl_value::listing::Listing;
 use pearl_value::operator::Dyad;
-use pearl_verify::verify::{VerifyFault, judge_object};
+use pearl_verify::verify::judge_object;
 use std::alloc::{AllocError, Global};
 
 /// An instruction.
@@ -96,7 +97,7 @@ pub struct Proc {
 pub struct Row {
     pub procedures: &'static [Proc],
     pub task: Routine,
-    pub told: Option<(u32, u64, u8)>,
+    pub told: Option<(usize, usize, u8)>,
 }
 
 fn numbers(alloc: Global, list: &[u64]) -> Result<Boxed<Listing<u64>>, AllocError> {
@@ -115,7 +116,7 @@ fn literal(alloc: Global, cell: Cell) -> Result<Instr, AllocError>
     requires { IsValue cell }
     ensures { IfOk result IsInstr }
 {
-    Ok(Instr::Const(Boxed::new(alloc, cell)?))
+    Ok(Instr::Const(Constant::new(alloc, &cell)?))
 }
 
 /// A number of FIXED(31).
@@ -323,22 +324,11 @@ fn object(alloc: Global, row: Row) -> Result<Parts, AllocError> {
     })
 }
 
-/// The routine, instruction and rule that is told of an object, or none where no rule fails. It asks for no more routines
-/// than an object may have.
-pub fn told(alloc: Global, object: &Parts) -> Result<Option<(u32, u64, u8)>, AllocError> {
-    if object.procedures.as_slice().len() > 200 || object.tasks.as_slice().len() > 200 {
-        return Err(AllocError);
-    }
-    match judge_object(alloc, object) {
-        Ok(()) => Ok(None),
-        Err(
-            VerifyFault::Unsound {
-                routine,
-                instruction,
-                rule,
-            },
-        ) => Ok(Some((routine, instruction, rule))),
-        Err(VerifyFault::NoMemory) => Err(AllocError),
+/// The routine, instruction and rule that is told of an object, or none where no rule fails.
+pub fn told(alloc: Global, object: &Parts) -> Result<Option<(usize, usize, u8)>, AllocError> {
+    match judge_object(alloc, object)? {
+        None => Ok(None),
+        Some(broken) => Ok(Some((broken.routine, broken.instruction, broken.rule))),
     }
 }
 

@@ -93,7 +93,7 @@ fn put_reading(into: &mut String, part: &Reading) -> Result<(), AllocError> {
 // Values and cells.
 fn put_simple(into: &mut String, instr: &Instr) -> Result<(), AllocError> {
     match instr {
-        Instr::Const(value) => put_value(into, value.get()),
+        Instr::Const(value) => put_value(into, &value.cell()),
         Instr::Load(cell) => put_number(into, "load ", *cell),
         Instr::Store(cell) => put_number(into, "store ", *cell),
         Instr::Fill { first, count, kind } => {

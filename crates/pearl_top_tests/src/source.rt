@@ -14,7 +14,7 @@ use pearl_parse::parse::parse;
 use pearl_parse_expr::fault::ParseFault;
 use pearl_top::program::program_of;
 use pearl_tree::tree::Tree;
-use pearl_verify::verify::{VerifyFault, judge_object};
+use pearl_verify::verify::{BrokenRule, judge_object};
 use std::alloc::{AllocError, Global};
 
 /// What a source of at most 1 MiB becomes.
@@ -67,15 +67,14 @@ pub fn judged(alloc: Global, source: &[u8]) -> Result<String, AllocError> {
         Made::Broken { rule, place } => return format!(in alloc; "S{rule} at {place}"),
         Made::Object(object) => object,
     };
-    match judge_object(alloc, object.parts()) {
-        Ok(()) => String::from_str(alloc, "valid"),
-        Err(
-            VerifyFault::Unsound {
+    match judge_object(alloc, object.parts())? {
+        None => String::from_str(alloc, "valid"),
+        Some(
+            BrokenRule {
                 routine,
                 instruction,
                 rule,
             },
         ) => format!(in alloc; "V{rule} in {routine} at {instruction}"),
-        Err(VerifyFault::NoMemory) => Err(AllocError),
     }
 }

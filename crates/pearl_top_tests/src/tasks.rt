@@ -54,9 +54,22 @@ pub static PLANTS: Table = Table {
         "a: TASK PRIO 5 MAIN; ACTIVATE a; ACTIVATE b; ACTIVATE b PRIO 3; PUT 1 TO tty BY F(1); END; b: \
             TASK PRIO 9; PUT 2 TO tty BY F(1); END;",
             "run 10" =>
-                "0 start a 5\n0 overrun a\n0 start b 9\n0 overrun b\n0 out 1 '1'\n\
-                0 end a\n0 out 1 '2'\n0 end b\n0 state a dormant\n0 state b dormant\n\
-                0 close\n";
+                "0 start a 5\n0 kept a 1\n0 start b 9\n0 kept b 1\n0 out 1 '1'\n0 end a\n\
+                0 start a 5\n0 kept a 1\n0 kept b 2\n0 kept b 3\n0 out 1 '1'\n0 end a\n\
+                0 start a 5\n0 state a running 5\n0 state b runnable 9\n0 close\n";
+        "a: TASK PRIO 1 MAIN; ACTIVATE b; ACTIVATE b; ACTIVATE b; ACTIVATE b; ACTIVATE b; TERMINATE b; \
+            PREVENT b; END; b: TASK PRIO 2; PUT 'x' TO tty BY A; END;",
+            "run 20" =>
+                "0 start a 1\n0 start b 2\n0 kept b 1\n0 kept b 2\n0 kept b 3\n0 overrun b\n\
+                0 stop b\n0 start b 2\n0 end a\n0 out 1 'x'\n0 end b\n0 state a dormant\n\
+                0 state b dormant\n0 close\n";
+        "a: TASK PRIO 5 MAIN; ACTIVATE b PRIO 9; ACTIVATE b PRIO 3; ACTIVATE b; PUT 'a' TO tty BY A; END; \
+            b: TASK PRIO 6; DCL n FIXED INIT(1); PUT n TO tty BY F(1); n := n + 1; PUT n TO tty BY F(1); END;",
+            "run 4\nstate\nrun 20" =>
+                "0 start a 5\n0 start b 9\n0 kept b 1\n0 kept b 2\n0 out 1 'a'\n0 state a running 5\n\
+                0 state b runnable 9\n0 end a\n0 out 1 '1'\n0 out 1 '2'\n0 end b\n0 start b 3\n\
+                0 out 1 '1'\n0 out 1 '2'\n0 end b\n0 start b 6\n0 out 1 '1'\n0 out 1 '2'\n0 end b\n\
+                0 state a dormant\n0 state b dormant\n0 close\n";
         "a: TASK PRIO 5 MAIN; ACTIVATE b PRIO 3; PUT 1 TO tty BY F(1); ACTIVATE b; ACTIVATE b PRIO 256; \
             END; b: TASK PRIO 7; PUT 2 TO tty BY F(1); END;",
             "run 20" =>
@@ -97,9 +110,9 @@ pub static PLANTS: Table = Table {
         "a: TASK PRIO 5 MAIN; ACTIVATE b; TERMINATE a; END; b: TASK PRIO 6; ACTIVATE a; PUT 2 TO tty BY \
             F(1); END;",
             "run 5\nrun 3" =>
-                "0 start a 5\n0 start b 6\n0 stop a\n0 start a 5\n0 overrun b\n\
-                0 stop a\n0 out 1 '2'\n0 end b\n0 state a dormant\n0 state b dormant\n\
-                0 close\n";
+                "0 start a 5\n0 start b 6\n0 stop a\n0 start a 5\n0 kept b 1\n0 stop a\n\
+                0 out 1 '2'\n0 end b\n0 start b 6\n0 start a 5\n0 state a running 5\n\
+                0 state b runnable 6\n0 close\n";
         "DCL s SEMA; a: TASK PRIO 3 MAIN; ACTIVATE e; SUSPEND d; REQUEST s; END; b: TASK PRIO 4 MAIN; \
             PUT 1 TO tty BY F(1); END; c: TASK PRIO 5 MAIN; PUT 2 TO tty BY F(1); END; d: TASK PRIO 6 MAIN; \
             REQUEST s; END; e: TASK PRIO 2; REQUEST s; END; f: TASK; END;",

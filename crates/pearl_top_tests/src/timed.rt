@@ -17,8 +17,9 @@ pub static PLANTS: Table = Table {
             A; END;",
             "run 10\ntick 3000\nrun 10\ntick 2000\nrun 10" =>
                 "0 start a 1\n0 start b 2\n0 end a\n0 out 1 'x'\n0 end b\n1000 start b 2\n\
-                2000 overrun b\n3000 overrun b\n3000 out 1 'x'\n3000 end b\n5000 state a dormant\n\
-                5000 state b dormant\n5000 close\n";
+                2000 kept b 1\n3000 kept b 2\n3000 out 1 'x'\n3000 end b\n3000 start b 2\n\
+                3000 out 1 'x'\n3000 end b\n3000 start b 2\n3000 out 1 'x'\n3000 end b\n\
+                5000 state a dormant\n5000 state b dormant\n5000 close\n";
         "a: TASK PRIO 1 MAIN; AT 8:00:00 ACTIVATE b; AT 7:59:59 ACTIVATE c; END; b: TASK; END; c: TASK; \
             END;",
             "clock 08:00:00\nrun 10\ntick 86399000\nrun 10" =>
@@ -138,15 +139,15 @@ pub static INTERRUPTS: Table = Table {
             b; WHEN irq ACTIVATE b; END; b: TASK PRIO 2; SUSPEND; PUT 'b' TO tty BY A; SUSPEND; END; c: \
             TASK PRIO 2; SUSPEND; PUT 'c' TO tty BY A; END;",
             "run 20\nirpt 3\nrun 20\nirpt 3\nrun 20" =>
-                "0 start a 1\n0 start b 2\n0 start c 2\n0 end a\n0 overrun b\n0 out 1 'c'\n0 end c\n\
-                0 out 1 'b'\n0 overrun b\n0 state a dormant\n0 state b suspended 2\n0 state c dormant\n\
+                "0 start a 1\n0 start b 2\n0 start c 2\n0 end a\n0 kept b 1\n0 out 1 'c'\n0 end c\n\
+                0 out 1 'b'\n0 kept b 2\n0 state a dormant\n0 state b suspended 2\n0 state c dormant\n\
                 0 close\n";
         "a: TASK PRIO 1 MAIN; TRIGGER irq; ENABLE irq; WHEN irq ACTIVATE c; WHEN irq AFTER 1 SEC \
             ACTIVATE b; TRIGGER irq; TRIGGER irq; END; b: TASK PRIO 2; END; c: TASK; END;",
             "run 20\npass 3000 9" =>
-                "0 start a 1\n0 masked 3\n0 start c 255\n0 overrun c\n0 end a\n0 end c\n1000 start b 2\n\
-                1000 end b\n3000 state a dormant\n3000 state b dormant\n3000 state c dormant\n\
-                3000 close\n";
+                "0 start a 1\n0 masked 3\n0 start c 255\n0 kept c 1\n0 end a\n0 end c\n0 start c 255\n\
+                0 end c\n1000 start b 2\n1000 end b\n3000 state a dormant\n3000 state b dormant\n\
+                3000 state c dormant\n3000 close\n";
         "a: TASK PRIO 1 MAIN; ENABLE irq; WHEN irq ACTIVATE b; PREVENT b; END; b: TASK PRIO 2; END;",
             "run 9\nirpt 3\nrun 9" =>
                 "0 start a 1\n0 end a\n0 state a dormant\n0 state b dormant\n0 close\n";
@@ -316,9 +317,9 @@ pub const MARKS_LINES: [&str; 15] = [
     "1000 start d 4\n",
     "1000 end b\n",
     "1000 end c\n",
-    "1000 overrun a\n",
+    "1000 kept a 1\n",
     "1000 start b 2\n",
-    "1000 overrun d\n",
+    "1000 kept d 1\n",
     "1000 end b\n",
     "1000 state a suspended 1\n",
     "1000 state b dormant\n",
