@@ -1,8 +1,14 @@
 """The forms of tools/costs.py: for each command its sources' names, texts by how much there is, and bounds.
 
-A form is a function from a number to the text of a module that has so many of its parts. Bounds are those at 1 MiB, the
-peak in MB (10^6 bytes) and the time in seconds.
+A form is a function from a number to the text of a module that has so many of its parts; it grows with the number, with
+line ends where what it has is bounded. Bounds are those at 1 MiB, the peak in MB (10^6 bytes) and the time in seconds.
 """
+
+from functools import lru_cache
+from itertools import product
+from string import ascii_letters
+
+from cost_objects import JOURNALS, OBJECTS
 
 HEAD, TAIL = "MODULE(m);PROBLEM;", "MODEND;"
 TASK, END = "t:TASK;", "END;"
@@ -75,6 +81,73 @@ def called_by_all(count):
     return module("", "", procedures)
 
 
+# How many routines a module has, how many names of one hash are sought, and how a map of names hashes: its first state, its
+# factor, that of a letter, and how many of the lowest bits lead to one place in a map of so many names.
+ROUTINES, HASHED = 400, 9000
+SEED, FACTOR, LETTER, BITS, WORD = 0x243F6A8885A308D3, 0x9E3779B97F4A7C15 ^ 2, 0x010101, 1023, 2**64 - 1
+
+
+def folded(state, factor):
+    """The lower half of a product of 128 bits, joined with the upper one."""
+    both = state * factor
+    return both & WORD ^ both >> 64
+
+
+@lru_cache(maxsize=None)
+def one_hash():
+    """9,000 names of five letters that a map of names keeps at one place, since its hash is the same in every run."""
+    found, begin = [], folded(SEED ^ 5, FACTOR ^ 2 ^ 16)
+    for front in product(ascii_letters, repeat=4):
+        state = begin
+        for letter in front:
+            state = folded(state ^ ord(letter) * LETTER, FACTOR)
+        for letter in ascii_letters:
+            code = folded(state ^ ord(letter) * LETTER, FACTOR)
+            if (code ^ code >> 32) & BITS == 0:
+                found.append("".join(front) + letter)
+        if len(found) >= HASHED:
+            break
+    return found[:HASHED]
+
+
+def hashed_names(count):
+    """Names of one hash, and as many assignments to them as there are besides."""
+    names = one_hash()
+    uses = "".join(f"{names[-1 - i % 100]}:=1;" for i in range(max(0, count - len(names))))
+    return module(f"DCL ({','.join(names[:max(1, count)])}) FIXED;", uses)
+
+
+def routines(count, body):
+    """So many procedures and tasks, 200 of each at most, with this body."""
+    many = min(count, ROUTINES)
+    return "".join(f"r{i}:{'PROC' if i < ROUTINES // 2 else 'TASK'};{body}END;" for i in range(many))
+
+
+def chains_with_leaves(count):
+    """TYPEs within one another, a STRUCT of the last with as many leaves, and as many routines with a variable of it."""
+    types = "TYPE t0 FIXED;" + "".join(f"TYPE t{i + 1} STRUCT[a t{i}];" for i in range(count))
+    leaves = ",".join(f"f{i}" for i in range(min(count, 4000)))
+    return HEAD + types + f"TYPE u STRUCT[({leaves}) t{count}];" + routines(count, "DCL x u;") + TAIL
+
+
+def deep_init(count):
+    """TYPEs within one another, and as many variables of the last with INIT, 3,500 to a task."""
+    types = "TYPE t0 FIXED;" + "".join(f"TYPE t{i + 1} STRUCT[a t{i}];" for i in range(count))
+    tasks = ("".join(f"DCL v{i} t{count} INIT(1);" for i in range(begin, min(count, begin + 3500)))
+             for begin in range(0, count, 3500))
+    return HEAD + types + "".join(f"k{i}:TASK;{text}END;" for i, text in enumerate(tasks)) + TAIL
+
+
+def wide_texts(count):
+    """Routines with a variable of 4,000 CHAR(255), each with INIT."""
+    return HEAD + routines(count, "DCL x(4000) CHAR(255) INIT('a');") + "\n" * count + TAIL
+
+
+def looped(depth, part):
+    """A statement again and again in so many loops within one another."""
+    return lambda count: module("DCL x FIXED;", "REPEAT " * depth + part * count + "END;" * depth)
+
+
 SUM = "a+" * 100 + "a"
 
 PRINTED = [
@@ -112,9 +185,21 @@ CHECKED = [
     ("procedures that each call the next", callers, 560, 2),
     ("200 procedures that call those which come later", called_by_all, 560, 2),
     ("assignments of names that nothing declares", task_of("", "a:=1;", ""), 560, 2),
+    ("9,000 names of one hash, and assignments to some of them", hashed_names, 560, 3),
+    ("TYPEs within one another, leaves, and routines with a variable", chains_with_leaves, 560, 3),
+    ("TYPEs within one another, and as many variables with INIT", nested_types(" INIT(1)"), 560, 3),
+    ("the same, 3,500 to a task", deep_init, 560, 3),
+    ("400 routines with 4,000 CHAR(255) and INIT", wide_texts, 560, 3),
 ]
 
-FORMS = {"print": PRINTED, "check": CHECKED}
+# What is compiled and run breaks no rule, or costs as much as a check.
+COMPILED = [(name, form, most_bytes, 3) for name, form, most_bytes, _ in CHECKED] + [
+    ("`x:=1;` in 31 loops within one another", looped(31, "x:=1;"), 560, 3),
+    ("`IF x>1 THEN EXIT;FIN;` in 30 loops within one another", looped(30, "IF x>1 THEN EXIT;FIN;"), 560, 3),
+]
+
+FORMS = {"print": PRINTED, "check": CHECKED, "compile": COMPILED, "run": COMPILED, "list": OBJECTS, "exec": OBJECTS,
+         "journal": JOURNALS}
 
 # The statuses with which a measured run may end: a form may break a rule.
-STATUSES = {"print": {0}, "check": {0, 2}}
+STATUSES = {"print": {0}, "check": {0, 2}, "compile": {0, 2}, "run": {0, 2}, "list": {0}, "exec": {0}, "journal": {0}}

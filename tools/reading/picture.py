@@ -20,6 +20,7 @@ COLOURS = {
     "active": ("fill", "#9cc3e4", "#2c5f8c"),
     "edge": ("stroke", "#1d2733", "#dfe5ec"),
     "trap": ("stroke", "#cf3f3f", "#ef6a6a"),
+    "kept": ("fill", "#b8930a", "#e3c246"),
     "overrun": ("fill", "#d9790b", "#f59e3c"),
     "out": ("fill", "#2b8a57", "#4fc188"),
     "send": ("fill", "#0f8a94", "#3fc3cf"),
@@ -66,6 +67,7 @@ def bar_at(left, right, y, how, closed=True):
 def mark_at(x, y, kind, label=""):
     """The sign of a mark. That of a state is its letter."""
     return {
+        "kept": f'<path class="kept" d="M{x - 4:.1f} {y - 7}a4 4 0 1 0 8 0a4 4 0 1 0 -8 0z"/>',
         "overrun": f'<path class="overrun" d="M{x - 5:.1f} {y - 11}h10l-5 9z"/>',
         "out": f'<rect class="out" x="{x - 3:.1f}" y="{y - 5}" width="6" height="10"/>',
         "send": f'<path class="send" d="M{x - 4:.1f} {y - 5}l8 5l-8 5z"/>',
@@ -88,6 +90,7 @@ def legend(y, with_inputs):
         (lambda x: bar_at(x, x + 22, y, "stopped"), "stopped"),
         (lambda x: bar_at(x, x + 22, y, "trapped"), "trapped"),
         (lambda x: bar_at(x, x + 22, y, "active"), "still active"),
+        (lambda x: mark_at(x + 16, y + 6, "kept"), "kept"),
         (lambda x: mark_at(x + 16, y + 3, "overrun"), "overrun"),
         (lambda x: mark_at(x + 18, y, "out"), "out"),
         (lambda x: mark_at(x + 18, y, "send"), "send"),
@@ -98,5 +101,5 @@ def legend(y, with_inputs):
     parts, x = [], MARGIN
     for sign, words in signs:
         parts += [sign(x), text_at(x + 33, y + 4, words, "quiet")]
-        x += 33 + LETTER * len(words) + 10
+        x += 33 + LETTER * len(words) + 9
     return parts + [text_at(x, y + 4, "S B R W: suspended, blocked, running, runnable", "quiet")]

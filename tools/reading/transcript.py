@@ -8,6 +8,7 @@ FORMS = {
     "end": r"(\w+)",
     "stop": r"(\w+)",
     "trap": r"(\w+) (\w+)",
+    "kept": r"(\w+) ([1-3])",
     "overrun": r"(\w+)",
     "masked": r"(\d+)",
     "lost": r"(terminal|input) (\d+)",

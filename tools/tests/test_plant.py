@@ -29,9 +29,10 @@ class Plant(unittest.TestCase):
         status, out, told = self.plant(SOURCE, JOURNAL)
         self.assertEqual((status, told), (0, f"program: {FOLDER}/program, which PEARL_PROGRAM names\n"))
         self.assertEqual(out.splitlines(), [
-            f"{self.into}/incident.transcript: 103 lines, up to the moment 40000",
+            f"{self.into}/incident.transcript: 118 lines, up to the moment 40000",
             "  traps: 1, the first `10000 trap Protokoll Format`",
-            "  overruns: 30, the first `12000 overrun Regeln`",
+            "  starts kept: 6, the first `12000 kept Regeln 1`",
+            "  overruns: 24, the first `15000 overrun Regeln`",
             "  lines of the journal lost: 14, the first `35000 lost input 2`",
             f"{self.into}/incident.svg",
         ])

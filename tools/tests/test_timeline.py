@@ -82,6 +82,13 @@ class Pictures(unittest.TestCase):
         trapped = re.search(r"<title>[^<]*trap Protokoll Format</title>(.*?)</g>", picture)[1]
         self.assertRegex(trapped, r'^<rect class="ended"[^>]*/><path class="trap"')
 
+    def test_kept(self):
+        """A start that is kept has its sign in the task's lane, and the legend tells it."""
+        picture = drawn("--only", "Regeln", KEPT)[1]
+        self.assertEqual(re.findall(r'<title>([^<]*)</title><path class="kept"', picture),
+                         ["14000 kept Regeln 3", "13000 kept Regeln 2", "12000 kept Regeln 1"])
+        self.assertIn("kept", seen(picture))
+
     def test_texts_fit(self):
         """No text begins or ends outside of the picture."""
         long = "".join(f"{at * 7} start T{at % 5} 1\n{at * 7} out 1 'value {at}'\n{at * 7 + 1} end T{at % 5}\n"
@@ -128,6 +135,8 @@ class Words(unittest.TestCase):
         self.assertEqual(drawn("-", given=b""), (1, "timeline: -: it is empty\n"))
         self.assertEqual(drawn("-", given=b"error syntax 3\n"), (1, "timeline: -: nothing ran: error syntax 3\n"))
         self.assertEqual(drawn("-", given=b"\xff"), (1, "timeline: -: byte 0 is none of a transcript\n"))
+        fourth = "timeline: -: line 2 is none of a transcript: 0 kept A 4\n"
+        self.assertEqual(drawn("-", given=b"0 kept A 3\n0 kept A 4\n"), (1, fourth))
         self.assertEqual(drawn("missing"), (1, "timeline: missing: No such file or directory\n"))
         self.assertEqual(drawn("--from", "50000", KEPT)[0], 1)
         self.assertEqual(drawn("--journal", JOURNAL, KEPT), (1, "timeline: --journal asks for --source\n"))

@@ -1,0 +1,362 @@
+#!/usr/bin/env python3
+"""Lets each call that the program makes outside itself fail in turn, and judges what it answers then.
+
+usage: tools/faults.py [--program PROGRAM] [--only WORD] [--kinds KIND,..] [--most N] [--part K/N]
+       tools/faults.py --kit NUMBER,.. [--kinds alloc,io,short]
+
+PROGRAM (default: crates/pearl/out/pearl beside this folder; `./pearl` builds it) is run with every command over the plants
+of crates/pearl_examples/data, over refused sources, objects and journals, and over words that are no command; each time
+with a library before the system's own (tools/faults.c, which `cc` builds) that counts its calls and lets one fail, or one
+and all later ones. With --kit a checked build of the program's text is tried in its place, over one plant, by `rt try
+--fail-alloc` for each of the numbers and, where the kit has them, `--fail-io` and `--short-io`; each number is a build of
+its own, which takes minutes.
+
+Kinds of calls: `alloc` an allocation, `open` and `read` those of files, `write`, `nothing` a write that takes no byte,
+`short` a read or a write of several bytes that moves one. With --most at most so many of each kind fail for one command,
+spread evenly. What is right is told beside each kind below (`after_..`). Where nothing else is said, nothing comes on
+standard error, and the program ends by itself.
+
+Each difference is told with what reproduces it. At the end stands a table of what was tried. The status is 1 where an
+answer wasn't right.
+"""
+
+import argparse
+import glob
+import os
+import shutil
+import struct
+import subprocess
+import sys
+import tempfile
+from collections import Counter
+from dataclasses import dataclass, field
+
+from reading.answers import (FILES, MEMORY, NO_MEMORY, READ, READ_FAULT, USAGE, WRITE_FAULT, Answer, asked, by_try,
+                             is_command, unlawful)
+
+HERE = os.path.dirname(os.path.abspath(__file__))
+TOP = os.path.dirname(HERE)
+DATA = os.path.join(TOP, "crates", "pearl_examples", "data")
+KINDS = ("alloc", "open", "read", "write", "short", "nothing")
+KIT = {"alloc": "--fail-alloc", "io": "--fail-io", "short": "--short-io"}
+# What tools/faults.c tells: counts by kind, hits, bytes given, bytes written, files, allocations before each file, a name.
+TOLD = struct.Struct("6q 4q 8q 256s")
+SECONDS = 60
+
+
+@dataclass(frozen=True)
+class Fault:
+    """The call of this kind and number fails, and perhaps all later ones do."""
+
+    kind: str
+    number: int
+    on: bool = False
+
+    def __str__(self):
+        return f"{self.kind} {self.number}{' and on' if self.on else ''}"
+
+
+@dataclass
+class Hit:
+    """What the library told: calls by kind, how many failed, what the file at hand had given and what was written before."""
+
+    calls: dict
+    hits: int = 0
+    given: int = 0
+    written: int = 0
+    opened: list = field(default_factory=list)
+    name: str = ""
+
+
+class Runner:
+    """Runs the program behind the library."""
+
+    def __init__(self, program, folder):
+        self.program, self.told = program, os.path.join(folder, "told")
+        self.library = os.path.join(folder, "faults.so")
+        subprocess.run(["cc", "-O1", "-shared", "-fPIC", "-o", self.library, os.path.join(HERE, "faults.c")], check=True)
+
+    def run(self, words, fault=None):
+        """The answer and what was told."""
+        with open(self.told, "wb") as file:
+            file.write(bytes(TOLD.size))
+        kept = {**os.environ, "LD_PRELOAD": self.library, "FAULTS_TOLD": self.told}
+        if fault:
+            kept.update(FAULTS_KIND=fault.kind, FAULTS_NUMBER=str(fault.number), FAULTS_ON=str(int(fault.on)))
+        answer = asked([self.program, *words], SECONDS, kept)
+        with open(self.told, "rb") as file:
+            numbers = TOLD.unpack(file.read())
+        files = list(numbers[10:10 + min(numbers[9], 8)])
+        return answer, Hit(dict(zip(KINDS, numbers)), *numbers[6:9], files, os.fsdecode(numbers[-1].split(b"\0")[0]))
+
+    def plain(self, words):
+        """The answer where nothing fails."""
+        return asked([self.program, *words], SECONDS)
+
+
+class Whole:
+    """A command where nothing fails: its answer, its calls, and what is due of it where something does."""
+
+    def __init__(self, runner, words):
+        self.runner, self.words, self.kept = runner, words, {}
+        self.answer, self.hit = runner.run(words)
+        self.worded = runner.run(["none", *words[1:]])[1].calls["alloc"] if words else 0
+
+    def lines_before(self, given):
+        """What is written of a journal of which so many bytes were read: the lines of its whole lines."""
+        front = b""
+        if given:
+            with open(self.words[2], "rb") as file:
+                front = file.read(given)
+        front = front[:front.rfind(b"\n") + 1]
+        if front not in self.kept:
+            cut = os.path.join(os.path.dirname(self.runner.told), "front")
+            with open(cut, "wb") as file:
+                file.write(front + b"?\n")
+            lines = self.runner.plain([*self.words[:2], cut]).out.splitlines(keepends=True)
+            self.kept[front] = b"".join(lines[:-1])
+        return self.kept[front]
+
+
+def after_alloc(whole, fault, answer, _):
+    """`error memory` alone, with status 7; or all goes on, since what waits to be written needs no memory; or the words
+    couldn't be had, which writes nothing. Words that are no command take no memory but their own."""
+    if (answer.status, answer.out) == (whole.answer.status, whole.answer.out):
+        return None
+    if (answer.status, answer.out) == (NO_MEMORY, b"") and fault.number <= whole.worded:
+        return None
+    if (answer.status, answer.out) == (NO_MEMORY, MEMORY) and whole.answer.status != USAGE:
+        return None
+    return f"{answer.shown()}, in place of `error memory`"
+
+
+def after_read(whole, _, answer, hit):
+    """`error read`, with status 5: alone, or where the journal is read behind the lines of what was read whole."""
+    before = b""
+    if len(whole.words) == 3 and is_command(whole.words) and hit.name == whole.words[2] != whole.words[1]:
+        before = whole.lines_before(hit.given)
+    if (answer.status, answer.out) == (READ_FAULT, before + READ):
+        return None
+    return f"{answer.shown()}, in place of {len(before)} bytes and `error read`"
+
+
+def after_write(whole, _, answer, hit):
+    """Status 6, and nothing is written behind what was taken before, which isn't all."""
+    if answer.status == WRITE_FAULT and answer.out == whole.answer.out[:hit.written] != whole.answer.out:
+        return None
+    return f"{answer.shown()}, in place of status 6 behind {hit.written} bytes"
+
+
+def after_short(whole, _, answer, __):
+    """The same as without."""
+    return None if answer == whole.answer else f"{answer.shown()}, in place of {whole.answer.shown()}"
+
+
+AFTER = {"alloc": after_alloc, "open": after_read, "read": after_read, "write": after_write, "nothing": after_write,
+         "short": after_short}
+
+
+def judged(whole, fault, answer, hit):
+    """Why the answer isn't right, or None."""
+    if answer.status is None or answer.status < 0 or answer.told:
+        return unlawful(whole.words, answer)
+    if not hit.hits:
+        return "the call wasn't made"
+    return AFTER[fault.kind](whole, fault, answer, hit)
+
+
+def without_faults(whole):
+    """Why the command isn't right where nothing fails, or None: its answer, and that a run takes no memory behind the
+    first byte of its journal."""
+    why = unlawful(whole.words, whole.answer)
+    if why or len(whole.words) != 3 or not is_command(whole.words) or len(whole.hit.opened) != 2:
+        return why
+    taken = whole.hit.calls["alloc"] - whole.hit.opened[1]
+    return f"{taken} allocations behind the journal's first byte" if taken else None
+
+
+def numbers(count, most):
+    """The numbers of the calls that are to fail: all, or so many of them spread evenly."""
+    if not most or count <= most:
+        return range(1, count + 1)
+    return sorted({1 + round(step * (count - 1) / max(1, most - 1)) for step in range(most)})
+
+
+def faults(whole, kinds, most):
+    """The faults of a command: each call once, and the same with all later ones where more than one can fail."""
+    for kind in kinds:
+        count = whole.hit.calls[kind]
+        for number in numbers(count, most):
+            yield Fault(kind, number)
+            if kind not in ("open", "read") and number < count:
+                yield Fault(kind, number, True)
+
+
+def journals(plant):
+    """The journals of a plant."""
+    return sorted(glob.glob(f"{plant[:-len('.pearl')]}*.journal"))
+
+
+def object_of(runner, source, path):
+    """Writes the source's object."""
+    with open(path, "wb") as file:
+        file.write(runner.plain(["compile", source]).out)
+    return path
+
+
+def plants(runner, folder):
+    """Every command over each plant."""
+    for plant in sorted(glob.glob(os.path.join(DATA, "*.pearl"))):
+        made = object_of(runner, plant, os.path.join(folder, os.path.basename(plant)[:-len("pearl")] + "object"))
+        for command in ("check", "print", "compile"):
+            yield [command, plant]
+        yield ["list", made]
+        for journal in journals(plant):
+            yield ["run", plant, journal]
+            yield ["exec", made, journal]
+
+
+def refused(folder):
+    """Files that are refused, that are too long, and that aren't there; words that are no command."""
+    def kept(name, data):
+        path = os.path.join(folder, name)
+        with open(path, "wb") as file:
+            file.write(data)
+        return path
+
+    plant = os.path.join(DATA, "crossing.pearl")
+    with open(os.path.join(folder, "crossing.object"), "rb") as file:
+        made = file.read()
+    with open(plant, "rb") as file:
+        text = file.read()
+    journal = kept("refused.journal", b"run 5\nrun x\nrun 5\n")
+    broken = text.replace(b"MODEND", b"x: TASK; y := 1; END; MODEND")
+    for source in (kept("syntax.pearl", text[:-9]), kept("rule.pearl", broken), kept("long.pearl", b" " * 1048577),
+                   os.path.join(folder, "missing")):
+        for command in ("check", "print", "compile"):
+            yield [command, source]
+        yield ["run", source, journal]
+    for changed in (kept("cut.object", made[:-1]), kept("jump.object", bytes.fromhex(
+            "50524c31 0000000000 01 0174 ff01 01 00 01 03 00001f02 1302 19 00")), os.path.join(folder, "missing")):
+        yield ["list", changed]
+        yield ["exec", changed, journal]
+    for log in (journal, os.path.join(folder, "missing")):
+        yield ["run", plant, log]
+        yield ["exec", os.path.join(folder, "crossing.object"), log]
+    for words in (["bench", "1"], ["bench", "3"], ["bench", "0"], [], ["check"], ["run", plant], ["list", "a", "b"]):
+        yield words
+
+
+def tried(runner, args, folder):
+    """Tries all faults of all commands: for each command and kind how many, how they ended, and what wasn't right."""
+    counts, wrong = {}, 0
+    part, parts = args.part
+    for words in [*plants(runner, folder), *refused(folder)][part - 1::parts]:
+        name = " ".join(os.path.basename(word) for word in words) or "(no words)"
+        if args.only not in name:
+            continue
+        whole = Whole(runner, words)
+        row = counts.setdefault(words[0] if is_command(words) else "no command", Counter())
+        problems = [("nothing", without_faults(whole))]
+        row["commands"] += 1
+        for fault in faults(whole, args.kinds, args.most):
+            answer, hit = runner.run(words, fault)
+            row[fault.kind] += 1
+            row["went on"] += fault.kind == "alloc" and answer == whole.answer
+            problems.append((fault, judged(whole, fault, answer, hit)))
+        for fault, why in problems:
+            if why:
+                wrong += 1
+                print(f"{name}: {fault}: {why}\n    words: {' '.join(words)}", flush=True)
+    return counts, wrong
+
+
+def table(counts):
+    """What was tried, a row for each command."""
+    print("| Command | Commands | Allocations | of which it went on | Opens | Reads | Writes | Writes of nothing | Short |")
+    print("|---|---|---|---|---|---|---|---|---|")
+    columns = ("commands", "alloc", "went on", "open", "read", "write", "nothing", "short")
+    rows = [(name, counts[name]) for name in (*FILES, "no command") if name in counts]
+    for name, row in [*rows, ("all", sum(counts.values(), Counter()))]:
+        print(f"| {name} | " + " | ".join(f"{row[it]:,}" for it in columns) + " |")
+
+
+def kit_judged(kind, whole, answer):
+    """Why the answer of a try isn't right, or None: which read or write it was isn't known here."""
+    if answer.status is None:
+        return f"it didn't end: {answer.told!r}"
+    same = (answer.status, answer.out) == (whole.status, whole.out)
+    if kind == "alloc":
+        right = same or answer.status == NO_MEMORY and answer.out in (b"", MEMORY)
+    elif kind == "io":
+        front = answer.out[:-len(READ)]
+        lines = front == b"" or front.endswith(b"\n") and whole.out.startswith(front)
+        right = (same or answer.status == READ_FAULT and answer.out.endswith(READ) and lines
+                 or answer.status == WRITE_FAULT and whole.out.startswith(answer.out) and whole.out != answer.out)
+    else:
+        right = same
+    return None if right else f"{answer.shown()}, where the whole has {whole.shown()}"
+
+
+def by_kits(args, folder):
+    """The same by `rt try`, for a few numbers and every command over one plant; how many answers weren't right."""
+    shelf, plant = os.path.join(folder, "cases"), os.path.join(DATA, "crossing")
+    os.makedirs(shelf)
+
+    def cases(*commands):
+        for words in commands:
+            for name, text in ((words[0], ""), (words[0] + ".args", "\n".join(words) + "\n")):
+                with open(os.path.join(shelf, name), "w", encoding="ascii") as file:
+                    file.write(text)
+
+    data = ["--data", f"p={plant}.pearl", "--data", f"j={plant}.journal"]
+    cases(["compile", "p"])
+    with open(os.path.join(folder, "object"), "wb") as file:
+        file.write(by_try(shelf, data)["compile"].out)
+    data += ["--data", f"o={file.name}"]
+    cases(["run", "p", "j"], ["exec", "o", "j"], ["check", "p"], ["print", "p"], ["list", "o"], ["bench", "1"])
+    whole, tries, wrong = by_try(shelf, data), 0, 0
+    for kind in args.kinds:
+        for number in args.kit:
+            answers = by_try(shelf, [*data, KIT[kind], str(number)])
+            if answers is None:
+                print(f"this kit has no {KIT[kind]}")
+                break
+            for name, fine in whole.items():
+                why = kit_judged(kind, fine, answers.get(name, Answer(None, b"")))
+                tries, wrong = tries + 1, wrong + bool(why)
+                print(f"{name} {KIT[kind]} {number}: {why or answers[name].shown()}", flush=True)
+    print(f"{tries} runs, {wrong} not right")
+    return wrong
+
+
+def words_of(text):
+    """A list of words between commas."""
+    return tuple(text.split(","))
+
+
+def main():
+    parser = argparse.ArgumentParser(description=__doc__.splitlines()[0])
+    parser.add_argument("--program", default=os.path.join(TOP, "crates", "pearl", "out", "pearl"))
+    parser.add_argument("--kit", type=lambda text: [int(it) for it in text.split(",")], help="numbers for `rt try`")
+    parser.add_argument("--only", default="", help="commands with this in their words")
+    parser.add_argument("--kinds", type=words_of, default=None)
+    parser.add_argument("--part", type=lambda text: [int(it) for it in text.split("/")], default=(1, 1),
+                        help="as 2/8: the second of eight parts of the commands")
+    parser.add_argument("--most", type=int, default=0, help="so many faults of a kind for a command; 0: all")
+    args = parser.parse_args()
+    args.kinds = args.kinds or (tuple(KIT) if args.kit else KINDS)
+    if args.kit:
+        with tempfile.TemporaryDirectory() as folder:
+            sys.exit(1 if by_kits(args, folder) else 0)
+    if not os.access(args.program, os.X_OK) or not shutil.which("cc"):
+        sys.exit(f"{args.program} is no program, or there is no cc: build it first, or name one by --program")
+    with tempfile.TemporaryDirectory() as folder:
+        counts, wrong = tried(Runner(os.path.abspath(args.program), folder), args, folder)
+    table(counts)
+    print(f"{wrong} not right")
+    sys.exit(1 if wrong else 0)
+
+
+if __name__ == "__main__":
+    main()

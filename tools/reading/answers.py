@@ -1,0 +1,159 @@
+"""What a command may answer, by docs/use/statuses.md: which status, with which bytes, and how answers go together."""
+
+import os
+import re
+import subprocess
+from dataclasses import dataclass
+
+from .tokens import TOP
+
+DONE, USAGE, REFUSED, BAD_OBJECT, BAD_JOURNAL, READ_FAULT, WRITE_FAULT, NO_MEMORY, TOO_LONG = range(9)
+NO_WORDS = 10
+READ, MEMORY = b"error read\n", b"error memory\n"
+LIMITS = {"source": 1048576, "object": 16777216, "journal": 67108864}
+FILES = {"run": ("source", "journal"), "compile": ("source",), "exec": ("object", "journal"), "check": ("source",),
+         "print": ("source",), "list": ("object",), "bench": ()}
+
+NUMBER = r"(?:0|[1-9]\d*)"
+KIND = r"(?:FIXED\(\d+\)|BIT\(\d+\)|CHAR\(\d+\)|CLOCK|DURATION)"
+EVENT = (r"(?:start \w+ \d+|end \w+|stop \w+|trap \w+ (?:Overflow|ZeroDivide|Index|Range|Format|SemaLimit)|"
+         r"kept \w+ [1-3]|overrun \w+|masked \d+|lost (?:terminal|input) \d+|out \d+ '[ -~]*'|send \d+ [ -~]+|"
+         r"state \w+ (?:dormant|(?:suspended|blocked|running|runnable) \d+))")
+EVENTS = rf"(?:{NUMBER} {EVENT}\n)*"
+LISTED = (r"(?:(?:device|semaphore|leaf|format|procedure|task|\d+) [ -~]*\n)*")
+
+# For each command and status the whole of what is written; the first group is a place, and the line of a journal.
+SYNTAX = rf"error syntax ({NUMBER})\n"
+RULE = rf"{SYNTAX}|error source ({NUMBER}) S[1-9]\d?\n"
+OBJECT = rf"error object ({NUMBER})\n"
+VALIDATOR = rf"{OBJECT}|error object routine {NUMBER} instruction {NUMBER} V[1-9]\d?\n"
+JOURNAL = rf"{EVENTS}error journal ([1-9]\d*) [1-4]\n"
+LONG_SOURCE, LONG_OBJECT = "error too long 1048577\n", "error too long 16777217\n"
+LONG_JOURNAL = rf"{EVENTS}error too long 67108865\n"
+FORMS = {
+    ("run", DONE): rf"{EVENTS}{NUMBER} close\n", ("run", REFUSED): RULE, ("run", BAD_JOURNAL): JOURNAL,
+    ("run", TOO_LONG): rf"{LONG_SOURCE}|{LONG_JOURNAL}",
+    ("exec", DONE): rf"{EVENTS}{NUMBER} close\n", ("exec", BAD_OBJECT): VALIDATOR, ("exec", BAD_JOURNAL): JOURNAL,
+    ("exec", TOO_LONG): rf"{LONG_OBJECT}|{LONG_JOURNAL}",
+    ("compile", DONE): r"PRL[12][\x00-\xff]*", ("compile", REFUSED): RULE, ("compile", TOO_LONG): LONG_SOURCE,
+    ("check", DONE): rf"accepted {NUMBER} {NUMBER} {NUMBER}\n", ("check", REFUSED): RULE, ("check", TOO_LONG): LONG_SOURCE,
+    ("print", DONE): r"(?:[ -~]*\n)*MODEND ;\n", ("print", REFUSED): SYNTAX, ("print", TOO_LONG): LONG_SOURCE,
+    ("list", DONE): LISTED, ("list", BAD_OBJECT): OBJECT, ("list", TOO_LONG): LONG_OBJECT,
+    ("bench", DONE): rf"bench {NUMBER} starts {NUMBER} ends {NUMBER} overruns {NUMBER}\n",
+}
+
+
+@dataclass(frozen=True)
+class Answer:
+    """How a command ended, what it wrote, and what came on standard error; the status is None where it didn't end."""
+
+    status: int
+    out: bytes
+    told: bytes = b""
+
+    def shown(self):
+        """The answer in a line."""
+        return f"status {self.status} with {len(self.out)} bytes ending in {self.out[-60:]!r}"
+
+
+def is_command(words):
+    """Whether the words are one of the commands."""
+    if words[:1] == ["bench"]:
+        return len(words) == 2 and bool(re.fullmatch(r"[1-9]\d?|100", words[1], re.A))
+    return bool(words) and words[0] in FILES and len(words) == 1 + len(FILES[words[0]])
+
+
+def length_of(path):
+    """How many bytes the file has, or none where it can't be read."""
+    try:
+        with open(path, "rb") as file:
+            return file.seek(0, 2)
+    except OSError:
+        return None
+
+
+def wrong_place(found, length):
+    """Whether a place that is told lies behind the file's end."""
+    places = [int(it) for it in found.groups() if it]
+    return length is not None and any(place > length for place in places)
+
+
+def is_too_long(words):
+    """Whether a file passes its limit, or can't be told."""
+    lengths = {sort: length_of(path) for sort, path in zip(FILES[words[0]], words[1:])}
+    return any(length is not None and length > LIMITS[sort] for sort, length in lengths.items())
+
+
+def unlawful(words, answer):
+    """Why these words can't have this answer where nothing outside fails and memory is there, or None."""
+    if answer.status is None:
+        return "it didn't end in time"
+    if answer.status < 0:
+        return f"it was ended by signal {-answer.status}"
+    if answer.told:
+        return f"standard error has {answer.told[:80]!r}"
+    if any("\udc80" <= letter <= "\udcff" for word in words for letter in word):
+        return None if (answer.status, answer.out) == (NO_WORDS, b"") else f"words that aren't UTF-8 have {answer.shown()}"
+    if not is_command(words):
+        right = (answer.status, answer.out) == (USAGE, b"error usage\n")
+        return None if right else f"words that are no command have {answer.shown()}"
+    missing = [length_of(path) is None for path in words[1:]] if words[0] != "bench" else []
+    if answer.status == READ_FAULT and any(missing):
+        right = re.fullmatch(rf"{EVENTS}error read\n", answer.out.decode("latin-1"), re.A)
+        return None if right else "`error read` isn't all"
+    form = FORMS.get((words[0], answer.status))
+    if form is None:
+        return f"{words[0]} has status {answer.status}"
+    found = re.fullmatch(form, answer.out.decode("latin-1"), re.A)
+    if not found:
+        return f"{words[0]} has {answer.shown()}"
+    if answer.status == TOO_LONG and not is_too_long(words):
+        return "no file passes its limit"
+    if answer.status in (REFUSED, BAD_OBJECT) and wrong_place(found, length_of(words[1])):
+        return "the place lies behind the file's end"
+    return None
+
+
+def refusal(answer):
+    """The status and the line of a refusal, else the status alone."""
+    return answer.status, answer.out if answer.status in (REFUSED, BAD_OBJECT, TOO_LONG) else b""
+
+
+def disagreement(answers):
+    """Why the answers of several commands over the same file can't be, or None; by the name of the command."""
+    check, printed, compiled = (answers.get(it) for it in ("check", "print", "compile"))
+    if check and compiled and refusal(check) != refusal(compiled):
+        return f"check has {check.shown()}, compile {compiled.shown()}"
+    if check and printed and check.out.startswith(b"error syntax") != (printed.status == REFUSED):
+        return f"check has {check.shown()}, print {printed.shown()}"
+    if check and printed and printed.status == REFUSED and check.out != printed.out:
+        return f"check has {check.shown()}, print {printed.shown()}"
+    runs = answers.get("run"), answers.get("exec")
+    if all(runs) and runs[0] != runs[1] and check and check.status == DONE:
+        return f"run has {runs[0].shown()}, exec of the object {runs[1].shown()}"
+    if runs[0] and check and check.status != DONE and refusal(runs[0]) != refusal(check):
+        return f"check has {check.shown()}, run {runs[0].shown()}"
+    return None
+
+
+def asked(command, seconds, variables=None, folder=None):
+    """The answer of a program that is run with these words, in so many seconds at most."""
+    try:
+        done = subprocess.run(command, stdin=subprocess.DEVNULL, stdout=subprocess.PIPE, stderr=subprocess.PIPE,
+                              timeout=seconds, env=variables, cwd=folder, check=False)
+    except subprocess.TimeoutExpired as late:
+        return Answer(None, late.stdout or b"", late.stderr or b"")
+    return Answer(done.returncode, done.stdout, done.stderr)
+
+
+def by_try(cases, flags, words=()):
+    """The answers of the program's text, by the names of the files of a folder: `rt try` builds it once and runs it with
+    these words and those of NAME.args, each `{}` being the file; or nothing where the kit hasn't one of the flags."""
+    done = subprocess.run(["rt", "try", *flags, "--cases", cases, "--", *words], cwd=os.path.join(TOP, "crates", "pearl"),
+                          stdin=subprocess.DEVNULL, stdout=subprocess.PIPE, stderr=subprocess.PIPE, check=False)
+    if b"this kit is older" in done.stderr:
+        return None
+    parts = re.split(rb"^== (\w+)\n", done.stdout, flags=re.M)
+    outs = dict(zip(parts[1::2], parts[2::2]))
+    ends = dict(re.findall(rb"^case=(\w+) run=ended status=(\d+)", done.stderr, re.M))
+    return {name.decode(): Answer(int(status), outs.get(name, b"")) for name, status in ends.items()}

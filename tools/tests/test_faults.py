@@ -1,0 +1,146 @@
+"""tools/faults.py, over a program in tests/faults that stands for the real one, and what a command may answer."""
+
+import glob
+import os
+import shutil
+import subprocess
+import tempfile
+import unittest
+
+import tool
+import faults
+from reading.answers import Answer, disagreement, is_command, unlawful
+
+PLANT, JOURNAL = tool.data("crossing.pearl"), tool.data("crossing.journal")
+
+
+@unittest.skipUnless(shutil.which("cc"), "needs cc")
+class Faults(unittest.TestCase):
+    """Each call of a small program fails in turn."""
+
+    @classmethod
+    def setUpClass(cls):
+        cls.folder = tempfile.TemporaryDirectory()
+        cls.program, cls.journal, cls.small = (os.path.join(cls.folder.name, name) for name in ("program", "journal", "small"))
+        subprocess.run(["cc", "-O1", "-fno-builtin", "-o", cls.program, os.path.join(tool.HERE, "faults", "program.c")],
+                       check=True)
+        with open(cls.journal, "wb") as file:
+            file.write(b"run 1\n\nrun 123456\nrun 2")
+        with open(cls.small, "wb") as file:
+            file.write(b"MODULE(m);")
+        cls.runner = faults.Runner(cls.program, cls.folder.name)
+
+    @classmethod
+    def tearDownClass(cls):
+        cls.folder.cleanup()
+
+    def wrong(self, words, does=""):
+        """The kinds of faults whose answers aren't right, where the program does this wrong."""
+        os.environ["WRONG"] = does
+        try:
+            whole = faults.Whole(self.runner, words)
+            found = {"whole"} if faults.without_faults(whole) else set()
+            for fault in faults.faults(whole, faults.KINDS, 0):
+                if faults.judged(whole, fault, *self.runner.run(words, fault)):
+                    found.add(fault.kind)
+            return found
+        finally:
+            del os.environ["WRONG"]
+
+    def test_a_right_program(self):
+        for words in (["check", self.journal], ["run", self.journal, self.journal + "s"], ["check"],
+                      ["run", self.program + ".c", self.journal], ["run", self.small, self.journal]):
+            self.assertEqual(self.wrong(words), set(), words)
+
+    def test_what_is_wrong_is_found(self):
+        run = ["run", self.small, self.journal]
+        for does, kinds in {"ends": {"write", "nothing"}, "seam": {"short"}, "short": {"short"}, "eager": {"open", "read"},
+                            "line": {"open", "read"}, "says": {"alloc"}, "faults": {"alloc"}, "silent": {"alloc"},
+                            "late": {"whole", "alloc"}}.items():
+            self.assertEqual(self.wrong(run, does), kinds, does)
+
+    def test_all_calls_are_counted(self):
+        """Of each kind all calls fail once, and those of memory and writing also with all later ones."""
+        whole = faults.Whole(self.runner, ["check", self.journal])
+        size = os.path.getsize(self.journal)
+        reads = -(-size // 7) + 1
+        self.assertEqual(whole.hit.calls, {"alloc": 2, "open": reads, "read": reads, "write": 1, "short": reads + 1, "nothing": 1})
+        self.assertEqual(len(list(faults.faults(whole, ("alloc", "read"), 0))), 3 + reads)
+        self.assertEqual([fault.number for fault in faults.faults(whole, ("read",), 3)], [1, 1 + round((reads - 1) / 2), reads])
+
+
+class Tries(unittest.TestCase):
+    """What is right of a try by the kit."""
+
+    def test_answers(self):
+        whole = Answer(0, b"0 start a 1\n0 close\n")
+        for kind, status, out in (("alloc", 7, b"error memory\n"), ("alloc", 7, b""), ("alloc", 0, whole.out), ("io", 5, b"error read\n"),
+                                  ("io", 5, b"0 start a 1\nerror read\n"), ("io", 6, b"0 sta"), ("short", 0, whole.out)):
+            self.assertIsNone(faults.kit_judged(kind, whole, Answer(status, out)), (kind, status, out))
+        for kind, status, out in (("alloc", 7, b"0 start a 1\nerror memory\n"), ("alloc", 0, b""), ("alloc", None, b""),
+                                  ("io", 5, b"0 staerror read\n"), ("io", 5, b"0 start b 1\nerror read\n"), ("io", 6, whole.out),
+                                  ("io", 6, b"1"), ("io", 7, b"error memory\n"), ("short", 0, b"0 close\n"), ("short", 5, b"error read\n")):
+            self.assertIsNotNone(faults.kit_judged(kind, whole, Answer(status, out)), (kind, status, out))
+
+
+class Answers(unittest.TestCase):
+    """What a command may answer."""
+
+    def right(self, words, status, out):
+        self.assertIsNone(unlawful(words, Answer(status, out)))
+
+    def wrong(self, words, status, out, told=b""):
+        self.assertIsNotNone(unlawful(words, Answer(status, out, told)))
+
+    def test_words(self):
+        self.assertTrue(is_command(["bench", "100"]))
+        for words in (["bench", "0"], ["bench", "01"], ["bench", "101"], ["bench"], [], ["check"], ["run", "a"], ["stop", "a"]):
+            self.assertFalse(is_command(words), words)
+            self.right(words, 1, b"error usage\n")
+            self.wrong(words, 7, b"error memory\n")
+        self.wrong(["check", PLANT], 1, b"error usage\n")
+        self.right(["check", "\udcff"], 10, b"")
+        self.wrong(["check", PLANT], 10, b"")
+
+    def test_transcripts_of_the_plants(self):
+        transcripts = glob.glob(os.path.join(os.path.dirname(PLANT), "*.transcript"))
+        self.assertGreaterEqual(len(transcripts), 8)
+        for path in transcripts:
+            with open(path, "rb") as file:
+                self.right(["run", PLANT, JOURNAL], 0, file.read())
+
+    def test_answers(self):
+        run = ["run", PLANT, JOURNAL]
+        self.right(run, 0, b"0 start a 1\n5 out 1 'it''s'\n7 close\n")
+        self.right(run, 4, b"0 start a 1\nerror journal 3 1\n")
+        self.right(run, 2, b"error source 12 S2\n")
+        for status, out in ((0, b"0 start a 1\n"), (0, b"0 begin a\n0 close\n"), (4, b"0 start a 1\n"), (2, b"error source 12\n"),
+                            (2, b"0 start a 1\nerror source 12 S2\n"), (2, b"error source 99999 S2\n"), (3, b"error object 1\n"),
+                            (4, b"error journal 0 1\n"), (4, b"error journal 3 5\n"), (8, b"error too long 1048577\n"),
+                            (5, b"error read\n"), (6, b""), (7, b"error memory\n"), (None, b""), (-11, b"")):
+            self.wrong(run, status, out)
+        self.wrong(run, 0, b"0 close\n", b"panic")
+        self.right(["run", PLANT, "/none/none"], 5, b"0 start a 1\nerror read\n")
+        self.wrong(["run", PLANT, "/none/none"], 5, b"0 start a 1\n")
+        self.right(["check", PLANT], 0, b"accepted 5 0 2\n")
+        self.wrong(["check", PLANT], 0, b"accepted 05 0 2\n")
+        self.right(["print", PLANT], 0, b"MODULE ( m ) ;\nPROBLEM ;\nMODEND ;\n")
+        self.wrong(["print", PLANT], 2, b"error source 1 S1\n")
+        self.right(["list", PLANT], 0, b"")
+        self.wrong(["list", PLANT], 3, b"error object routine 0 instruction 0 V1\n")
+        self.right(["exec", PLANT, JOURNAL], 3, b"error object routine 0 instruction 0 V1\n")
+
+    def test_answers_go_together(self):
+        syntax, rule, done = Answer(2, b"error syntax 3\n"), Answer(2, b"error source 3 S1\n"), Answer(0, b"accepted 0 0 0\n")
+        other, made, run = Answer(2, b"error syntax 4\n"), Answer(0, b"PRL1"), Answer(0, b"0 close\n")
+        for answers in ({"check": syntax, "print": syntax, "compile": syntax}, {"check": rule, "print": made, "compile": rule},
+                        {"check": done, "print": made, "compile": made, "run": run, "exec": run}):
+            self.assertIsNone(disagreement(answers))
+        for answers in ({"check": syntax, "print": other}, {"check": rule, "print": syntax}, {"check": done, "compile": rule},
+                        {"check": done, "print": syntax}, {"check": rule, "compile": made}, {"check": rule, "run": run},
+                        {"check": done, "run": run, "exec": Answer(0, b"1 close\n")}):
+            self.assertIsNotNone(disagreement(answers), answers)
+
+
+if __name__ == "__main__":
+    unittest.main()
