@@ -41,7 +41,7 @@ KINDS = ("alloc", "open", "read", "write", "short", "nothing")
 KIT = {"alloc": "--fail-alloc", "io": "--fail-io", "short": "--short-io"}
 # What tools/faults.c tells: counts by kind, hits, bytes given, bytes written, files, allocations before each file, a name.
 TOLD = struct.Struct("6q 4q 8q 256s")
-SECONDS = 60
+SECONDS = 300
 
 
 @dataclass(frozen=True)
@@ -100,7 +100,8 @@ class Whole:
     def __init__(self, runner, words):
         self.runner, self.words, self.kept = runner, words, {}
         self.answer, self.hit = runner.run(words)
-        self.worded = runner.run(["none", *words[1:]])[1].calls["alloc"] if words else 0
+        other = runner.run(["none", *words[1:]])[1] if is_command(words) else self.hit
+        self.worded = other.calls["alloc"]
 
     def lines_before(self, given):
         """What is written of a journal of which so many bytes were read: the lines of its whole lines."""
@@ -119,8 +120,8 @@ class Whole:
 
 
 def after_alloc(whole, fault, answer, _):
-    """`error memory` alone, with status 7; or all goes on, since what waits to be written needs no memory; or the words
-    couldn't be had, which writes nothing. Words that are no command take no memory but their own."""
+    """`error memory` alone, with status 7; or all goes on, where a room isn't needed, as for what waits to be written, or is
+    only made smaller; or the words couldn't be had, which writes nothing. Words that are no command take no other memory."""
     if (answer.status, answer.out) == (whole.answer.status, whole.answer.out):
         return None
     if (answer.status, answer.out) == (NO_MEMORY, b"") and fault.number <= whole.worded:
@@ -183,12 +184,13 @@ def numbers(count, most):
 
 
 def faults(whole, kinds, most):
-    """The faults of a command: each call once, and the same with all later ones where more than one can fail."""
+    """The faults of a command: each call once, and the same with all later ones where more than one can fail; of short ones
+    that with all alone."""
     for kind in kinds:
         count = whole.hit.calls[kind]
         for number in numbers(count, most):
             yield Fault(kind, number)
-            if kind not in ("open", "read") and number < count:
+            if number < count and (kind in ("alloc", "write", "nothing") or kind == "short" and number == 1):
                 yield Fault(kind, number, True)
 
 
