@@ -5,7 +5,6 @@ ghost use Rattle.pearl_rules.specs.declared.action.Action.TheVariants.{Turn};
 ghost use Rattle.pearl_exchange.specs.Offers.{action_of};
 
 use arrayvec::ArrayVec;
-use pearl_cells::put::put_copy;
 use pearl_rules::action::{Repeat, Start};
 use pearl_value::cell::Cell;
 use pearl_value::kind::Kind;
@@ -87,40 +86,6 @@ impl Offer {
             repeat: Repeat::Once,
             text: ArrayVec::new(),
             kinds: ArrayVec::new(),
-        }
-    }
-
-    /// The same action as another. Only the parts that count are copied.
-    pub fn copy_from(&mut self, other: &Offer)
-        ensures { action_of self.new ≡ action_of other.now }
-    {
-        self.what = other.what;
-        match other.what {
-            What::Write(_) | What::Send(_) => put_copy(&mut self.value, &other.value),
-            What::Request | What::Release => {
-                self.list.clear();
-                self.list
-                    .try_extend_from_slice(other.list.as_slice())
-                    .unwrap();
-            }
-            What::Activate { .. } => {
-                self.start = other.start;
-                self.repeat = other.repeat;
-            }
-            What::Continue(_) | What::Resume => self.start = other.start,
-            What::Put(_) => {
-                self.text.clear();
-                self.text
-                    .try_extend_from_slice(other.text.as_slice())
-                    .unwrap();
-            }
-            What::Get { .. } => {
-                self.kinds.clear();
-                self.kinds
-                    .try_extend_from_slice(other.kinds.as_slice())
-                    .unwrap();
-            }
-            _ => {}
         }
     }
 }

@@ -1,6 +1,6 @@
 // Reading from left to right, field by field. After an error nothing is said of the bytes that are left.
 
-ghost use Rattle.std.specs.Prelude.{◌≡◌, ◌<◌, ◌≤◌, ◌≤ℤ◌, ℕ, List, Bool, true, length, IfOk};
+ghost use Rattle.std.specs.Prelude.{◌≡◌, ◌<◌, ◌≤◌, ◌≤ℤ◌, ℕ, List, Bool, true, length, take, drop, IfOk};
 ghost use Rattle.pearl_fields.specs.Codec.{Codec, byte, byte_in, number, number_in, signed_in, unzigzag, exact_read, more_read, number_read, room};
 ghost use Rattle.pearl_fields.specs.Reads.{Gives, Reads};
 
@@ -32,6 +32,17 @@ impl<'a> Reader<'a> {
         ensures { result ≡ length self.now }
     {
         self.rest.len()
+    }
+
+    /// The next bytes, so many, which are then read.
+    pub fn take(&mut self, count: usize) -> &'a [u8]
+        requires { count ≤ length self.old }
+        ensures taken { result.now ≡ take count self.old }
+        ensures left { self.new ≡ drop count self.old }
+    {
+        let taken = &self.rest[..count];
+        self.rest = &self.rest[count..];
+        taken
     }
 
     /// Any byte.

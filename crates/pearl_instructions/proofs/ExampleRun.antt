@@ -2,7 +2,6 @@
 use Rattle.std.specs.Prelude.{◌≡◌, ℕ, pos, true, [], ◌∷◌, None, codes}
 use Rattle.std.specs.Fmt.{digits}
 use Rattle.std.proofs.Common.{refl}
-use denote.RawPtr.{null_ptr}
 use Rattle.pearl_value.specs.declared.kind.Kind.TheVariants as kind
 use Rattle.pearl_value.specs.declared.kind.CellKind.TheVariants.{Plain}
 use Rattle.pearl_value.specs.declared.cell.Cell.{Cell}

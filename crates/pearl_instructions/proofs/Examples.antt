@@ -1,7 +1,6 @@
 -- Small objects, and which rule fails where.
 use Rattle.std.specs.Prelude.{◌≡◌, ℕ, pos, false, List, [], ◌∷◌, ◌++◌, Some, None}
 use Rattle.std.proofs.Common.{refl}
-use denote.RawPtr.{null_ptr}
 use Rattle.pearl_value.specs.declared.kind.Kind.TheVariants as kind
 use Rattle.pearl_value.specs.declared.kind.CellKind.{CellKind}
 use Rattle.pearl_value.specs.declared.kind.CellKind.TheVariants.{Plain, RefTo}

@@ -4,8 +4,6 @@ use Rattle.std.proofs.lemmas.List.{length-map}
 use Rattle.pearl_rules.specs.declared.action.Action.{Action}
 use Rattle.pearl_rules.specs.declared.action.Answer.{Answer}
 use Rattle.pearl_rules.specs.Faithful.{Soon, IsFaithful}
-use Rattle.pearl_rules.specs.Runs as runs
-use Rattle.pearl_rules.specs.Slots as rules
 use Rattle.pearl_rules.proofs.Offered.{faithful}
 use Rattle.pearl_stack.specs.Frames.{Frame}
 use Rattle.pearl_instructions.specs.declared.object.Parts.{Parts as Object}

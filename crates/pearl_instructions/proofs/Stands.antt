@@ -12,13 +12,12 @@ use Rattle.pearl_instructions.specs.declared.object.Code.{Code}
 use Rattle.pearl_instructions.specs.declared.object.Procedure.{Procedure}
 use Rattle.pearl_instructions.specs.declared.object.Task.{Task}
 use Rattle.pearl_instructions.specs.declared.object.Parts.{Parts as Object}
-use Rattle.pearl_instructions.specs.Actions.{IsOffered}
 use Rattle.pearl_instructions.specs.Lawful.{IsObject}
 use Rattle.pearl_instructions.specs.Laws as instructions
 use Rattle.pearl_instructions.specs.Objects.{routines, routine_at}
 use Rattle.pearl_instructions.specs.Owned.{IsOfTask, Moves, Afterwards}
 use Rattle.pearl_instructions.specs.Rows.{lowest, instr_at, act, row, fresh_cells, after, begun}
-use Rattle.pearl_instructions.specs.Stacks.{task_of, Answers, Goes}
+use Rattle.pearl_instructions.specs.Stacks.{task_of, Goes}
 use Rattle.pearl_instructions.specs.Steps.{Step, Silent, Offers, Missing, given}
 use Rattle.pearl_instructions.specs.Valid.{IsValid}
 use Rattle.pearl_instructions.specs.Engines.{stepped_by}

@@ -9,13 +9,10 @@ use Rattle.pearl_value.specs.WellFormed.{IsValue, IsValueOf}
 use Rattle.pearl_format.specs.Bytes.{IsTextByte}
 use Rattle.pearl_format.specs.Items.{FitsSome}
 use Rattle.pearl_value.specs.declared.device.Device.{Device}
-use Rattle.pearl_value.specs.declared.device.Device.TheVariants as device
-use Rattle.pearl_value.specs.declared.device.Direction.TheVariants as direction
 use Rattle.pearl_rules.specs.declared.action.Action.{Action}
 use Rattle.pearl_rules.specs.declared.action.Action.TheVariants as action
 use Rattle.pearl_rules.specs.declared.action.Start.{Start}
 use Rattle.pearl_rules.specs.declared.action.Start.TheVariants as start
-use Rattle.pearl_rules.specs.declared.action.Repeat.TheVariants as repeat
 use Rattle.pearl_rules.specs.Slots.{Lasts, IsRepeat}
 use Rattle.pearl_rules.specs.Tables.{IsWritable, IsReadable, IsInterrupt, input_kind, output_kind}
 use Rattle.pearl_instructions.specs.declared.object.Parts.{Parts as Object}

@@ -20,9 +20,7 @@ use Rattle.pearl_kernel.specs.Eligible.{possible, entry, entry_if, Stand, is_tol
 use Rattle.pearl_kernel.specs.declared.changes.Changed.{Changed}
 use Rattle.pearl_kernel.specs.declared.changes.Changed.TheVariants.{Nothing}
 use Rattle.pearl_kernel.specs.Changes.{ChangesOnly, Stirs, renewed, IsRenewedAt, AreRenewed, AreRenewedIf}
-use Rattle.pearl_kernel.specs.declared.changes.Touched.{Touched}
-use Rattle.pearl_kernel.specs.declared.changes.Touched.TheVariants.{Own, Other, Waiters, All}
-use Rattle.pearl_kernel.specs.Touched.{IsUntouched, KeepsOthers, changed_by, Leaves, IsThere, IsRenewed}
+use Rattle.pearl_kernel.specs.Touched.{Reach, Own, Other, Waiters, All, IsUntouched, KeepsOthers, changed_by, Leaves, IsThere, IsRenewed}
 use Rattle.pearl_kernel.proofs.Lawful.{lawful-after}
 use Rattle.pearl_kernel.proofs.Naming.{names-all}
 use Rattle.pearl_kernel.proofs.Places.{kept-other, some-before, some-dropped}
@@ -108,7 +106,7 @@ still-of setup k new s before lawful kept =
 
 -- AFTER AN ACTION
 
-pub there-after : (k new : Kept) (touched : Touched) → length new.core.tasks ≡ length k.core.tasks →
+pub there-after : (k new : Kept) (touched : Reach) → length new.core.tasks ≡ length k.core.tasks →
     IsThere k.core touched → IsThere new.core touched
 there-after k new Own same there = tt
 there-after k new (Other u) same there = subst (λ n. u < n) (sym same) there
@@ -116,16 +114,16 @@ there-after k new (Waiters list) same there = tt
 there-after k new (All changed) same there = tt
 
 -- a task that isn't touched stands as before
-left_so : (k new : Kept) (s after : Stand) (touched : Touched) (t : ℕ) → IsUntouched new touched t →
+left_so : (k new : Kept) (s after : Stand) (touched : Reach) (t : ℕ) → IsUntouched new touched t →
     ChangesOnly (changed_by touched) k.core new.core → KeepsOthers touched k.core new.core →
     row_of new.core t ≡ row_of k.core t → offered new t ≡ offered k t → IsSameAt s after t → StandsSo k s t →
     StandsSo new after t
 left_so k new s after Own t far only kept row offer same so = stays k new s after t row offer (possible-same k new t offer only) same so
 left_so k new s after (Other u) t far only kept row offer same so = stays k new s after t row offer (possible-same k new t offer only) same so
-left_so k new s after (Waiters list) t far only kept row offer same so = stays k new s after t row offer (possible-unless k new list.items t far only kept offer) same so
+left_so k new s after (Waiters list) t far only kept row offer same so = stays k new s after t row offer (possible-unless k new list t far only kept offer) same so
 left_so k new s after (All changed) t far only kept row offer same so = absurd far
 
-pub kept-after : (setup : Setup) (k : Kept) (s after : Stand) (own : ℕ) (a : Action) (touched : Touched) →
+pub kept-after : (setup : Setup) (k : Kept) (s after : Stand) (own : ℕ) (a : Action) (touched : Reach) →
     IsLawful setup k → IsLawful setup (done k own a) → IsWhole k s →
     Leaves own (record k { offers = slice_set k.offers own None }) (done k own a) touched →
     IsRenewed (done k own a) own touched s after → IsWhole (done k own a) after

@@ -1,17 +1,15 @@
 -- What is kept of the tasks after it was renewed.
 use Rattle.std.proofs.Common.{◌≡◌, ◌≢◌, ℕ, suc, ◌<◌, ◌≤◌, ◌+◌, ◌-◌, ◌⊎◌, inl, inr, Bool, List, Option, Some, None}
-use Rattle.arrayvec.specs.ArrayVec.{ArrayVec}
 use Rattle.std.proofs.Common.{length, slice_get, slice_index, refl, sym, ap, subst, ◌∙◌, length-set, arith}
 use Rattle.pearl_kernel.specs.declared.changes.Changed.{Changed}
 use Rattle.pearl_kernel.specs.declared.changes.Changed.TheVariants.{Nothing, Counts}
-use Rattle.pearl_kernel.specs.declared.changes.Touched.TheVariants.{Own, Other, Waiters}
 use Rattle.pearl_sema.specs.Waiting.{Waits, IsBehind, IsNext}
 use Rattle.pearl_sema.proofs.Offered.{place_of_named}
 use Rattle.pearl_kernel.specs.Kept.{Kept}
 use Rattle.pearl_kernel.specs.Eligible.{entry_if, Stand, is_told, able_at, noted, IsSameAt}
 use Rattle.pearl_kernel.specs.Changes.{renewed, IsRenewedAt, Renews, AreRenewedBut}
 use Rattle.pearl_kernel.specs.Requests.{requests, WaitsForOne}
-use Rattle.pearl_kernel.specs.Touched.{IsRenewed}
+use Rattle.pearl_kernel.specs.Touched.{Own, Other, Waiters, IsRenewed}
 use Rattle.pearl_kernel.proofs.Places.{by_task, get-same, get-other}
 use Rattle.pearl_kernel.proofs.Entries.{renewed-twice}
 
@@ -234,8 +232,8 @@ touched-other k own u s mid new first last = record {
     both : {t : ℕ} → IsSameAt mid new t → IsSameAt s mid t → IsSameAt s new t
     both a b = record { able = a.able ∙ b.able; set = a.set ∙ b.set }
 
-pub touched-waiters : (k : Kept) (own : ℕ) (list : ArrayVec ℕ) (s mid new : Stand) →
-    AreRenewedBut k Counts (λ t. WaitsForOne k.offers list.items t → ⊥) s mid → Renews k Counts own mid new →
+pub touched-waiters : (k : Kept) (own : ℕ) (list : List ℕ) (s mid new : Stand) →
+    AreRenewedBut k Counts (λ t. WaitsForOne k.offers list t → ⊥) s mid → Renews k Counts own mid new →
     IsRenewed k own (Waiters list) s new
 touched-waiters k own list s mid new each last = record {
   size = are.size;
@@ -244,7 +242,7 @@ touched-waiters k own list s mid new each last = record {
 }
   where
     None_waits : ℕ → Type 0
-    None_waits t = WaitsForOne k.offers list.items t → ⊥
+    None_waits t = WaitsForOne k.offers list t → ⊥
 
     are : AreRenewedBut k Counts (λ t. None_waits t × (t ≢ own)) s new
     are = renewed-both k Counts None_waits (λ t. t ≢ own) s mid new each (renewed-but k Counts own mid new last)

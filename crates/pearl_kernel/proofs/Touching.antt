@@ -1,6 +1,5 @@
 -- What each action touches besides its own task.
-use Rattle.std.proofs.Common.{◌≡◌, ◌≢◌, ℕ, ◌<◌, List, Bool, true, false, Option, Some, None, length, slice_get, slice_set}
-use Rattle.arrayvec.specs.ArrayVec.{ArrayVec}
+use Rattle.std.proofs.Common.{◌≡◌, ◌≢◌, ℕ, ◌<◌, List, [], Bool, true, false, Option, Some, None, length, slice_get, slice_set}
 use Rattle.std.proofs.Common.{refl, sym, subst, ap, ◌∙◌}
 use Rattle.std.proofs.lemmas.Bool.{true≢false}
 use Rattle.pearl_rules.specs.declared.action.Start.{Start}
@@ -16,12 +15,10 @@ use Rattle.pearl_rules.specs.Runs.{kept_at}
 use Rattle.pearl_rules.proofs.Offered.{ended-other, ended-rest}
 use Rattle.pearl_kernel.specs.declared.changes.Changed.{Changed}
 use Rattle.pearl_kernel.specs.declared.changes.Changed.TheVariants.{Nothing}
-use Rattle.pearl_kernel.specs.declared.changes.Touched.{Touched}
-use Rattle.pearl_kernel.specs.declared.changes.Touched.TheVariants.{Own, Other, Waiters, All}
 use Rattle.pearl_kernel.specs.Kept.{Kept, after}
 use Rattle.pearl_kernel.specs.Channels.{HasSwitch}
 use Rattle.pearl_kernel.specs.Changes.{ChangesOnly, Stirs}
-use Rattle.pearl_kernel.specs.Touched.{KeepsOthers, IsThere, touched_if, Leaves}
+use Rattle.pearl_kernel.specs.Touched.{Reach, Own, Other, Waiters, All, reach_of, KeepsOthers, IsThere, touched_if, Leaves}
 use Rattle.pearl_sema.specs.Waiting.{AreThere, names}
 use Rattle.pearl_kernel.proofs.Places.{get-other, kept-other}
 use Rattle.pearl_kernel.proofs.OneTask as one
@@ -31,15 +28,15 @@ use Rattle.pearl_kernel.proofs.Changing.{same_but, closed, switch-changes}
 
 -- NO ROW AND NO OFFER CHANGES
 
-pub leaves-stirred : (own : ℕ) (k new : Kept) (changed : Option Changed) → new.offers ≡ k.offers →
-    Stirs k.core new.core changed → Leaves own k new (touched_if changed)
-leaves-stirred own k new None offers stirs = record {
+pub leaves-stirred : (own : ℕ) (k new : Kept) (list : List ℕ) (changed : Option Changed) → new.offers ≡ k.offers →
+    Stirs k.core new.core changed → Leaves own k new (reach_of list (touched_if changed))
+leaves-stirred own k new list None offers stirs = record {
   only = stirs.1;
   kept = tt;
   others = λ t other far. (ap (λ rows. slice_get rows t) stirs.0, ap (λ xs. kept_at xs t) offers);
   there = tt;
 }
-leaves-stirred own k new (Some changed) offers stirs = record {
+leaves-stirred own k new list (Some changed) offers stirs = record {
   only = stirs;
   kept = tt;
   others = λ t other far. absurd far;
@@ -50,12 +47,12 @@ pub leaves-quiet : (own : ℕ) (k : Kept) {new mid : Kept} → new ≡ mid → m
     mid.offers ≡ k.offers → mid.core.counts ≡ k.core.counts → mid.core.channels ≡ k.core.channels →
     mid.core.formats ≡ k.core.formats → Leaves own k new Own
 leaves-quiet own k is tasks offers counts channels formats =
-    subst (λ (x : Kept). Leaves own k x Own) (sym is) (leaves-stirred own k _ None offers
+    subst (λ (x : Kept). Leaves own k x Own) (sym is) (leaves-stirred own k _ [] None offers
     (tasks, same_but Nothing k.core k.core _ (unchanged k.core) counts channels formats))
 
 -- counts change, and no others than these
-pub leaves-counts : (own : ℕ) (k new : Kept) (counts : List ℕ) (list : ArrayVec ℕ) →
-    ((semaphore : ℕ) → names list.items semaphore ≡ false → count_at counts semaphore ≡ count_at k.core.counts semaphore) →
+pub leaves-counts : (own : ℕ) (k new : Kept) (counts : List ℕ) (list : List ℕ) →
+    ((semaphore : ℕ) → names list semaphore ≡ false → count_at counts semaphore ≡ count_at k.core.counts semaphore) →
     new ≡ record k { core = record k.core { counts = counts } } → Leaves own k new (Waiters list)
 leaves-counts own k new counts list kept is = subst (λ (x : Kept). Leaves own k x (Waiters list)) (sym is) (record {
   only = record { counts = λ e. absurd (true≢false e); bytes = λ d e. refl; values = λ d e. refl; formats = refl };
@@ -64,17 +61,17 @@ leaves-counts own k new counts list kept is = subst (λ (x : Kept). Leaves own k
   there = tt;
 })
 
-pub leaves-lowered : (own : ℕ) (k new : Kept) (list : ArrayVec ℕ) → AreThere k.core.counts list.items →
-    new ≡ record k { core = record k.core { counts = lowered k.core.counts list.items } } →
+pub leaves-lowered : (own : ℕ) (k new : Kept) (list : List ℕ) → AreThere k.core.counts list →
+    new ≡ record k { core = record k.core { counts = lowered k.core.counts list } } →
     Leaves own k new (Waiters list)
-leaves-lowered own k new list there is = leaves-counts own k new (lowered k.core.counts list.items) list
-    (lowered-others k.core.counts list.items there.distinct) is
+leaves-lowered own k new list there is = leaves-counts own k new (lowered k.core.counts list) list
+    (lowered-others k.core.counts list there.distinct) is
 
-pub leaves-raised : (own : ℕ) (k new : Kept) (list : ArrayVec ℕ) → AreThere k.core.counts list.items →
-    new ≡ record k { core = record k.core { counts = raised k.core.counts list.items } } →
+pub leaves-raised : (own : ℕ) (k new : Kept) (list : List ℕ) → AreThere k.core.counts list →
+    new ≡ record k { core = record k.core { counts = raised k.core.counts list } } →
     Leaves own k new (Waiters list)
-leaves-raised own k new list there is = leaves-counts own k new (raised k.core.counts list.items) list
-    (raised-others k.core.counts list.items there.distinct) is
+leaves-raised own k new list there is = leaves-counts own k new (raised k.core.counts list) list
+    (raised-others k.core.counts list there.distinct) is
 
 pub leaves-switch : (own : ℕ) (k new : Kept) (d : ℕ) (enabled : Bool) → HasSwitch (channel_of k.core d) →
     new ≡ record k { core = with_channel k.core d (Switch enabled) } → Leaves own k new Own
@@ -187,9 +184,10 @@ leaves-dormant own u k new there is = subst (λ (x : Kept). Leaves own k x (Othe
 })
 
 -- after what waits at a device may have changed
-pub leaves-broken_off : (own : ℕ) (k mid new : Kept) (changed : Option Changed) (e : Event) → mid.offers ≡ k.offers →
-    Stirs k.core mid.core changed → new ≡ after mid (ending mid.core own e) → Leaves own k new (touched_if changed)
-leaves-broken_off own k mid new None e offers stirs is = subst (λ (x : Kept). Leaves own k x Own) (sym is) (record {
+pub leaves-broken_off : (own : ℕ) (k mid new : Kept) (list : List ℕ) (changed : Option Changed) (e : Event) →
+    mid.offers ≡ k.offers → Stirs k.core mid.core changed → new ≡ after mid (ending mid.core own e) →
+    Leaves own k new (reach_of list (touched_if changed))
+leaves-broken_off own k mid new list None e offers stirs is = subst (λ (x : Kept). Leaves own k x Own) (sym is) (record {
   only = ended_only Nothing k.core mid.core own e stirs.1;
   kept = tt;
   others = λ t other far.
@@ -197,7 +195,7 @@ leaves-broken_off own k mid new None e offers stirs is = subst (λ (x : Kept). L
       (left.0 ∙ ap (λ rows. slice_get rows t) stirs.0, left.1 ∙ ap (λ xs. kept_at xs t) offers);
   there = tt;
 })
-leaves-broken_off own k mid new (Some changed) e offers stirs is =
+leaves-broken_off own k mid new list (Some changed) e offers stirs is =
     subst (λ (x : Kept). Leaves own k x (All changed)) (sym is) (record {
       only = ended_only changed k.core mid.core own e stirs;
       kept = tt;
@@ -208,7 +206,7 @@ leaves-broken_off own k mid new (Some changed) e offers stirs is =
 -- AN ACTION
 
 -- who acted last was noted before
-pub leaves-last : (own : ℕ) (k mid new : Kept) (last : Option ℕ) (touched : Touched) →
+pub leaves-last : (own : ℕ) (k mid new : Kept) (last : Option ℕ) (touched : Reach) →
     mid ≡ record k { core = record k.core { last = last } } → Leaves own mid new touched → Leaves own k new touched
 leaves-last own k mid new last touched is leaves =
     let of : Leaves own (record k { core = record k.core { last = last } }) new touched =
@@ -225,14 +223,14 @@ leaves-last own k mid new last touched is leaves =
       there = there_last touched of.there;
     }
   where
-    kept_last : (touched : Touched) → KeepsOthers touched (record k.core { last = last }) new.core →
+    kept_last : (touched : Reach) → KeepsOthers touched (record k.core { last = last }) new.core →
         KeepsOthers touched k.core new.core
     kept_last Own kept = tt
     kept_last (Other task) kept = tt
     kept_last (Waiters list) kept = kept
     kept_last (All changed) kept = tt
 
-    there_last : (touched : Touched) → IsThere (record k.core { last = last }) touched → IsThere k.core touched
+    there_last : (touched : Reach) → IsThere (record k.core { last = last }) touched → IsThere k.core touched
     there_last Own there = tt
     there_last (Other task) there = there
     there_last (Waiters list) there = tt

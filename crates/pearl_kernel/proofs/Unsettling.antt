@@ -1,19 +1,17 @@
 -- What becomes of the bits that tell who is active and has offered nothing.
 use Rattle.std.proofs.Common.{◌≡◌, ℕ, zero, suc, ◌+◌, ◌/◌, ◌%◌, ◌<◌, ◌≤◌, ◌⊎◌, inl, inr, List, Bool, true, false, ◌&&◌}
 use Rattle.std.proofs.Common.{Option, Some, None, length, replicate, slice_get, slice_set, refl, sym, ap, subst, ◌∙◌, arith, length-set}
-use Rattle.std.specs.Prelude.{MatchOption}
 use Rattle.std.specs.Int.{bit_at}
-use Rattle.std.proofs.lemmas.Bool.{cases_lt, true≢false}
+use Rattle.std.proofs.lemmas.Bool.{cases_lt}
 use Rattle.std.proofs.lemmas.List.{get_or_past, get_or-replicate, length-replicate}
 use Rattle.std.proofs.lemmas.Nat.Bits.{bit_at-zero}
 use Rattle.std.proofs.lemmas.Option.{slice_get_past}
-use Rattle.pearl_bits.specs.Bits.{bit, Changes, NoneIsSet}
-use Rattle.pearl_bits.specs.Bits as bits
+use Rattle.pearl_bits.specs.Bits.{bit, Changes}
 use Rattle.pearl_rules.specs.declared.action.Action.{Action}
 use Rattle.pearl_rules.specs.declared.row.TaskRow.{TaskRow}
 use Rattle.pearl_rules.specs.Core.{is_active_mode, is_active_row}
 use Rattle.pearl_rules.specs.Runs.{flattened, kept_at}
-use Rattle.pearl_kernel.specs.Kept.{Kept, is_silent, is_unsettled, IsFirst, AllSettled}
+use Rattle.pearl_kernel.specs.Kept.{is_silent}
 use Rattle.pearl_kernel.specs.Unsettled.{bit_if, AreActive, AreUnsettled}
 use Rattle.pearl_kernel.proofs.Places.{by_task, kept-other, get-same, get-other}
 
@@ -144,41 +142,3 @@ module _ (rows : List TaskRow) (offers : List (Option Action)) (words : List ℕ
   unsettled-gone task offer new active there changes same is gone =
       offer_is task (bit_if (active && true)) offer new there changes same
       (ap (λ b. bit_if (b && true)) is ∙ ap (λ o. bit_if (is_active_row (slice_get rows task) && is_silent o)) (sym gone))
-
--- WHO IS THE FIRST
-
-one_is : (b : Bool) → bit_if b ≡ 1 → b ≡ true
-one_is true is = refl
-one_is false is = absurd (omega (arith, is))
-
-zero_is : (b : Bool) → bit_if b ≡ 0 → b ≡ false
-zero_is true is = absurd (omega (arith, is))
-zero_is false is = refl
-
-module _ (k : Kept) (words : List ℕ) (are : AreUnsettled k.core.tasks k.offers words) where
-  -- a task that isn't there isn't active
-  past : (t : ℕ) → length k.core.tasks ≤ t → is_unsettled k t ≡ false
-  past t out = ap (λ row. is_active_row row && is_silent (kept_at k.offers t)) (slice_get_past k.core.tasks t out)
-
-  none_set : (t : ℕ) → (t < 256 → bit words t ≡ 0) → is_unsettled k t ≡ false
-  none_set t none = elim (cases_lt t 256) [
-    | inl near ↦ zero_is (is_unsettled k t) (sym (are.each t near) ∙ none near)
-    | inr far ↦ past t (omega (arith, far, are.few))
-  ]
-
-  there : (t : ℕ) → is_unsettled k t ≡ true → t < length k.core.tasks
-  there t is = elim (cases_lt t (length k.core.tasks)) [
-    | inl within ↦ within
-    | inr out ↦ absurd (true≢false (sym is ∙ past t out))
-  ]
-
-  pub first-unsettled : (o : Option ℕ) → MatchOption o (NoneIsSet words 0 256) (bits.IsFirst words 0 256) →
-      MatchOption o (AllSettled k) (IsFirst k)
-  first-unsettled None none = λ t. none_set t (λ near. none t (omega arith) near)
-  first-unsettled (Some t) first =
-      let is : is_unsettled k t ≡ true = one_is (is_unsettled k t) (sym (are.each t first.before) ∙ first.set) in
-      record {
-        there = there t is;
-        unsettled = is;
-        before = λ u below. none_set u (λ near. first.least u (omega arith) below);
-      }

@@ -8,7 +8,7 @@ use std::alloc::{AllocError, Global};
 use std::marker::Model;
 use std::mem;
 
-/// A task's place for the action that it offers. It is made at the start, and an offer is written into it.
+/// A task's place for the action that it offers. It is made at the start, and an offer is put there by a swap of places.
 #[derive(Drop)]
 pub struct Bid {
     stands: bool,
@@ -44,11 +44,11 @@ impl Bid {
         if self.stands { Some(&self.offer) } else { None }
     }
 
-    /// This action is offered.
-    pub fn put(&mut self, offer: &Offer)
-        ensures { self.new ≡ Some (action_of offer.now) }
+    /// This action is offered. The other place has what lay in this one.
+    pub fn put(&mut self, offer: &mut Box<Offer>)
+        ensures { self.new ≡ Some (action_of offer.old.value) }
     {
-        self.offer.copy_from(offer);
+        mem::swap(&mut self.offer, offer);
         self.stands = true;
     }
 

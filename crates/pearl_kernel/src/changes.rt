@@ -5,7 +5,6 @@ ghost use Rattle.pearl_exchange.specs.Offers.{action_of};
 ghost use Rattle.pearl_kernel.specs.Changes.{looks_at, is_counts, is_device};
 ghost use Rattle.pearl_kernel.specs.Touched.{touched_if};
 
-use arrayvec::ArrayVec;
 use pearl_exchange::offer::{Offer, What};
 
 /// Of the counts, and of what waits at terminals and inputs, what may have changed.
@@ -18,12 +17,15 @@ pub enum Changed {
 }
 
 /// Which tasks besides its own an action touches: they may be able to act where they were not, or the other way round.
-#[derive(Drop)]
+#[derive(Clone, Copy)]
 pub enum Touched {
     Own,
     Other(u32),
-    // Those whose requests name one of these semaphores. Of what offers wait for no more than the counts of these changed.
-    Waiters(ArrayVec<u16, 16>),
+    // Those whose requests name this semaphore. Of what offers wait for no more than its count changed.
+    One(u16),
+    // Those whose requests name one of the semaphores that the action names. Of what offers wait for no more than the
+    // counts of these changed.
+    Named,
     // All tasks, and at most this changed of what their offers wait for.
     All(Changed),
 }

@@ -87,12 +87,12 @@ impl Kernel {
         self.state.unsettled()
     }
 
-    /// A task offers its next action.
-    pub fn offered(&mut self, task: u32, offer: &Offer)
+    /// A task offers its next action. It is taken out of its place, and what lies there then doesn't matter.
+    pub fn offered(&mut self, task: u32, offer: &mut Box<Offer>)
         requires unsettled { is_unsettled_in self.old task ≡ true }
-        requires fits { (setup : Tables.Setup) × IsLawful setup self.old × Fits setup (action_of offer.now) }
-        ensures offers { self.new ≡ record self.old { offers = slice_set self.old.offers task (Some (action_of offer.now)) } }
-        ensures lawful { (setup : Tables.Setup) → IsLawful setup self.old → Fits setup (action_of offer.now) →
+        requires fits { (setup : Tables.Setup) × IsLawful setup self.old × Fits setup (action_of offer.old.value) }
+        ensures offers { self.new ≡ record self.old { offers = slice_set self.old.offers task (Some (action_of offer.old.value)) } }
+        ensures lawful { (setup : Tables.Setup) → IsLawful setup self.old → Fits setup (action_of offer.old.value) →
             IsLawful setup self.new }
     {
         self.state.set_offer(task, offer);
@@ -113,7 +113,8 @@ impl Kernel {
             return Acted::Idle;
         }
         let done = self.state.act(task, &self.acting, beside);
-        self.standing.renew(&self.state, task, &done.touched);
+        let list = self.acting.list.as_slice();
+        self.standing.renew(&self.state, task, list, done.touched);
         done.acted
     }
 

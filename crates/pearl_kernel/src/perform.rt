@@ -1,7 +1,7 @@
 // What an action does.
 
 ghost use Rattle.std.specs.List.{AllByRecursion};
-ghost use Rattle.std.specs.Prelude.{◌≡◌, ◌<◌, ◌≤◌, [], ◌∷◌, None, IsTrue, true, length, nat_lt};
+ghost use Rattle.std.specs.Prelude.{◌≡◌, ℕ, ◌<◌, ◌≤◌, List, [], ◌∷◌, None, IsTrue, true, length, nat_lt};
 ghost use Rattle.pearl_rules.specs.Counts.{all_below_most, all_free, count_at, lowered};
 ghost use Rattle.pearl_rules.specs.Effect.{Hears, effect, effect_of, finished, again, ending, activated, priority_or_declared, is_at_once};
 ghost use Rattle.pearl_rules.specs.Effect.{continues, resuming, prevented, stopping, releasing, trying, getting, taking};
@@ -20,8 +20,7 @@ ghost use Rattle.pearl_value.specs.declared.cell.Cell.TheVariants.{Clock};
 ghost use Rattle.pearl_kernel.specs.declared.kernel.Acted.TheVariants.{Went};
 ghost use Rattle.pearl_kernel.specs.Kept.{after, Replied};
 ghost use Rattle.pearl_kernel.specs.Changes.{Stirs};
-ghost use Rattle.pearl_kernel.specs.Touched.{Leaves};
-ghost use Rattle.pearl_kernel.specs.declared.changes.Touched.TheVariants.{Waiters};
+ghost use Rattle.pearl_kernel.specs.Touched.{reach_of, Leaves};
 ghost use Rattle.pearl_value.specs.Kinds.{IsKind};
 ghost use Rattle.pearl_kernel.specs.Channels.{HasBytes};
 ghost use Rattle.pearl_kernel.specs.Names.{Names};
@@ -44,7 +43,7 @@ use pearl_value::kind::Kind;
 use pearl_value::trap::Trap;
 
 /// What an action did: what became of its task, and which tasks besides it are touched.
-#[derive(Drop)]
+#[derive(Clone, Copy)]
 pub struct Done {
     pub acted: Acted,
     pub touched: Touched,
@@ -59,7 +58,7 @@ impl State {
         requires able { guard self.old.core (action_of offer.now) ≡ true }
         ensures state { self.new ≡ after self.old (effect self.old.core own (action_of offer.now)) }
         ensures reply { Replied own (effect self.old.core own (action_of offer.now)).reply result.acted beside.new }
-        ensures leaves { Leaves own self.old self.new result.touched }
+        ensures leaves { Leaves own self.old self.new (reach_of offer.now.list.items result.touched) }
     {
         self.set_last(own);
         self.perform(own, offer, beside)
@@ -73,7 +72,7 @@ impl State {
         requires able { guard self.old.core (action_of offer.now) ≡ true }
         ensures state { self.new ≡ after self.old (effect_of self.old.core own (action_of offer.now)) }
         ensures reply { Replied own (effect_of self.old.core own (action_of offer.now)).reply result.acted beside.new }
-        ensures leaves { Leaves own self.old self.new result.touched }
+        ensures leaves { Leaves own self.old self.new (reach_of offer.now.list.items result.touched) }
     {
         match offer.what {
             What::Read(slot) => return self.read(own, slot, beside),
@@ -111,7 +110,7 @@ impl State {
         requires { slot < length self.old.core.slots }
         ensures state { self.new ≡ self.old }
         ensures reply { Replied own (Hears (answer.One (value_at self.old.core.slots slot))) result.acted beside.new }
-        ensures leaves { Leaves own self.old self.new result.touched }
+        ensures leaves { (list : List ℕ) → Leaves own self.old self.new (reach_of list result.touched) }
     {
         self.read_slot(slot, &mut beside.one);
         hears(own, Touched::Own)
@@ -122,7 +121,7 @@ impl State {
         requires { IsTimely self.old.core }
         ensures state { self.new ≡ self.old }
         ensures reply { Replied own (Hears (answer.One (Clock (time_at self.old.core self.old.core.moment)))) result.acted beside.new }
-        ensures leaves { Leaves own self.old self.new result.touched }
+        ensures leaves { (list : List ℕ) → Leaves own self.old self.new (reach_of list result.touched) }
     {
         beside.one = Cell::Clock(self.time_at(self.now()));
         hears(own, Touched::Own)
@@ -150,7 +149,7 @@ impl State {
         requires { HasRoom self.old own }
         ensures state { self.new ≡ after self.old (ending self.old.core own event) }
         ensures reply { (beside : places.Beside) → Replied own (ending self.old.core own event).reply result.acted beside }
-        ensures leaves { Leaves own self.old self.new result.touched }
+        ensures leaves { (list : List ℕ) → Leaves own self.old self.new (reach_of list result.touched) }
     {
         self.finish(own, event);
         Done {
@@ -213,7 +212,7 @@ impl State {
         ensures state { let core = self.old.core in
             self.new ≡ record self.old { core = activated core task start repeat (priority_or_declared core task priority) } }
         ensures reply { result.acted ≡ Went own Nothing }
-        ensures leaves { Leaves own self.old self.new result.touched }
+        ensures leaves { (list : List ℕ) → Leaves own self.old self.new (reach_of list result.touched) }
     {
         let priority = match priority {
             None => self.row(task).declared,
@@ -246,7 +245,7 @@ impl State {
         requires plan { IsTimelyStart start }
         ensures state { self.new ≡ record self.old { core = continues self.old.core task start } }
         ensures reply { result.acted ≡ Went own Nothing }
-        ensures leaves { Leaves own self.old self.new result.touched }
+        ensures leaves { (list : List ℕ) → Leaves own self.old self.new (reach_of list result.touched) }
     {
         self.go_on_from(task, start);
         goes_on(own, Touched::Other(task))
@@ -283,7 +282,7 @@ impl State {
         requires { task < length self.old.core.tasks }
         ensures state { self.new ≡ record self.old { core = with_mark self.old.core task true } }
         ensures reply { result.acted ≡ Went own Nothing }
-        ensures leaves { Leaves own self.old self.new result.touched }
+        ensures leaves { (list : List ℕ) → Leaves own self.old self.new (reach_of list result.touched) }
     {
         self.mark(task, true);
         goes_on(own, Touched::Other(task))
@@ -294,7 +293,7 @@ impl State {
         requires { task < length self.old.core.tasks }
         ensures state { self.new ≡ record self.old { core = prevented self.old.core task } }
         ensures reply { result.acted ≡ Went own Nothing }
-        ensures leaves { Leaves own self.old self.new result.touched }
+        ensures leaves { (list : List ℕ) → Leaves own self.old self.new (reach_of list result.touched) }
     {
         let mut row = self.row(task);
         row.kept = Kept::Nothing;
@@ -309,7 +308,7 @@ impl State {
         requires { HasRoom self.old task }
         ensures state { self.new ≡ after self.old (stopping self.old.core own task) }
         ensures reply { (beside : places.Beside) → Replied own (stopping self.old.core own task).reply result.acted beside }
-        ensures leaves { Leaves own self.old self.new result.touched }
+        ensures leaves { (list : List ℕ) → Leaves own self.old self.new (reach_of list result.touched) }
     {
         match self.mode(task) {
             Mode::Dormant => {}
@@ -332,10 +331,10 @@ impl State {
         ensures state { let core = self.old.core in
             self.new ≡ record self.old { core = record core { counts = lowered core.counts list.now.items } } }
         ensures reply { result.acted ≡ Went own Nothing }
-        ensures leaves { Leaves own self.old self.new result.touched }
+        ensures leaves { Leaves own self.old self.new (reach_of list.now.items result.touched) }
     {
         self.lower(list);
-        goes_on(own, waiters_of(list))
+        goes_on(own, Touched::Named)
     }
 
     // Each of these counts is higher by 1, or where one can't be raised none is, and the task is broken off.
@@ -346,10 +345,10 @@ impl State {
             self.new ≡ after self.old (releasing self.old.core own list.now.items can_raise) }
         ensures reply { let can_raise = all_below_most self.old.core.counts list.now.items in
             (beside : places.Beside) → Replied own (releasing self.old.core own list.now.items can_raise).reply result.acted beside }
-        ensures leaves { Leaves own self.old self.new result.touched }
+        ensures leaves { Leaves own self.old self.new (reach_of list.now.items result.touched) }
     {
         if self.raise(list) {
-            return goes_on(own, waiters_of(list));
+            return goes_on(own, Touched::Named);
         }
         let trap = Trap::SemaLimit;
         self.end(own, Event::Trap { task: own, trap })
@@ -362,7 +361,7 @@ impl State {
             self.new ≡ after self.old (trying self.old.core semaphore free) }
         ensures reply { let free = nat_lt 0 (count_at self.old.core.counts semaphore) in
             Replied own (trying self.old.core semaphore free).reply result.acted beside.new }
-        ensures leaves { Leaves own self.old self.new result.touched }
+        ensures leaves { (list : List ℕ) → Leaves own self.old self.new (reach_of list result.touched) }
     {
         let mut list = ArrayVec::new();
         list.push(semaphore);
@@ -372,7 +371,7 @@ impl State {
         }
         self.lower(&list);
         put_bits(&mut beside.one, 1, 1);
-        hears(own, waiters_of(&list))
+        hears(own, Touched::One(semaphore))
     }
 
     // An interrupt occurs; a masked one touches no task.
@@ -382,13 +381,14 @@ impl State {
         requires timely { IsTimely self.old.core }
         ensures state { self.new ≡ record self.old { core = interrupted self.old.core device } }
         ensures reply { result.acted ≡ Went own Nothing }
-        ensures leaves { Leaves own self.old self.new result.touched }
+        ensures leaves { (list : List ℕ) → Leaves own self.old self.new (reach_of list result.touched) }
     {
         let changed = self.interrupted(device);
         goes_on(own, touched_if(changed))
     }
 
     // The values that a terminal's bytes give, or the task is broken off.
+    #[inline(never)]
     fn get(
         &mut self,
         own: u32,
@@ -406,7 +406,7 @@ impl State {
             (scan (items_of self.old.core format) kinds.now (bytes_at self.old.core device))) }
         ensures reply { Replied own (getting self.old.core own device
             (scan (items_of self.old.core format) kinds.now (bytes_at self.old.core device))).reply result.acted beside.new }
-        ensures leaves { Leaves own self.old self.new result.touched }
+        ensures leaves { (list : List ℕ) → Leaves own self.old self.new (reach_of list result.touched) }
     {
         match self.scanned(device, format, kinds) {
             Scanned::Short => unreachable!(),
@@ -451,7 +451,7 @@ impl State {
         requires able { is_some_value (values_at self.old.core device) ≡ true }
         ensures state { self.new ≡ after self.old (taking self.old.core own device (values_at self.old.core device)) }
         ensures reply { Replied own (taking self.old.core own device (values_at self.old.core device)).reply result.acted beside.new }
-        ensures leaves { Leaves own self.old self.new result.touched }
+        ensures leaves { (list : List ℕ) → Leaves own self.old self.new (reach_of list result.touched) }
     {
         match self.next_value(device) {
             None => unreachable!(),
@@ -461,13 +461,6 @@ impl State {
             }
         }
     }
-}
-
-// Those that wait for one of these semaphores.
-fn waiters_of(list: &ArrayVec<u16, 16>) -> Touched
-    ensures { result ≡ Waiters list.now }
-{
-    Touched::Waiters(list.clone().unwrap())
 }
 
 // The task goes on and hears nothing.

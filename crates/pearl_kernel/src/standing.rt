@@ -10,7 +10,7 @@ ghost use Rattle.pearl_kernel.specs.Whole.{IsOfTasks};
 ghost use Rattle.pearl_kernel.specs.declared.changes.Changed.TheVariants.{Counts};
 ghost use Rattle.pearl_kernel.specs.Changes.{Renews, AreRenewed, AreRenewedBut, AreRenewedIf, IsKnown};
 ghost use Rattle.pearl_kernel.specs.Requests.{requests, WaitsForOne};
-ghost use Rattle.pearl_kernel.specs.Touched.{IsThere, IsRenewed};
+ghost use Rattle.pearl_kernel.specs.Touched.{reach_of, IsThere, IsRenewed};
 
 use crate::changes::{Changed, Touched};
 use crate::state::State;
@@ -174,24 +174,28 @@ impl Standing {
         }
     }
 
-    /// Each task stands as it does after an action of the task `own`.
-    pub fn renew(&mut self, state: &State, own: u32, touched: &Touched)
+    /// Each task stands as it does after an action of the task `own` that names these semaphores.
+    pub fn renew(&mut self, state: &State, own: u32, list: &[u16], touched: Touched)
         requires tasks { IsOfTasks state.now self.old }
         requires own { own < length state.now.core.tasks }
-        requires there { IsThere state.now.core touched.now }
-        ensures { IsRenewed state.now own touched.now self.old self.new }
+        requires there { IsThere state.now.core (reach_of list.now touched) }
+        ensures { IsRenewed state.now own (reach_of list.now touched) self.old self.new }
     {
         match touched {
             Touched::Own => self.renew_one(state, own, Changed::Nothing),
             Touched::Other(task) => {
-                self.renew_one(state, *task, Changed::Nothing);
+                self.renew_one(state, task, Changed::Nothing);
                 self.renew_one(state, own, Changed::Nothing);
             }
-            Touched::Waiters(list) => {
-                self.renew_each(state, list.as_slice());
+            Touched::One(semaphore) => {
+                self.renew_each(state, &[semaphore]);
                 self.renew_one(state, own, Changed::Counts);
             }
-            Touched::All(changed) => self.renew_all(state, *changed),
+            Touched::Named => {
+                self.renew_each(state, list);
+                self.renew_one(state, own, Changed::Counts);
+            }
+            Touched::All(changed) => self.renew_all(state, changed),
         }
     }
 }

@@ -264,11 +264,11 @@ impl State {
         self.last = Some(task as usize);
     }
 
-    /// A task offers this action.
-    pub fn set_offer(&mut self, task: u32, offer: &Offer)
+    /// A task offers this action. What lies in its place then doesn't matter.
+    pub fn set_offer(&mut self, task: u32, offer: &mut Box<Offer>)
         requires task { task < length self.old.offers }
-        requires names { Names self.old.core (action_of offer.now) }
-        ensures { self.new ≡ record self.old { offers = slice_set self.old.offers task (Some (action_of offer.now)) } }
+        requires names { Names self.old.core (action_of offer.old.value) }
+        ensures { self.new ≡ record self.old { offers = slice_set self.old.offers task (Some (action_of offer.old.value)) } }
     {
         let place = task as usize;
         keep_request(&mut self.semas, place, offer);
@@ -631,6 +631,7 @@ impl State {
     }
 
     /// What GET reads from the bytes that wait at a terminal.
+    #[inline(never)]
     pub fn scanned(&self, device: u32, format: u32, kinds: &[Kind]) -> Scanned
         requires few { length kinds.now ≤ 64 }
         requires are { AllByRecursion IsKind kinds.now }

@@ -44,7 +44,7 @@ pub struct Machine {
     kernel: Kernel,
     parts: Vec<Part>,
     // The place of the action that a task offers, and of the values that it hears.
-    offer: Offer,
+    offer: Box<Offer>,
     beside: Beside,
     // The task of which a state line comes next; where none is due, how many tasks there are.
     due: u32,
@@ -71,13 +71,14 @@ impl Machine {
         let setup = tables(alloc, code.object())?;
         let kernel = Kernel::new(alloc, &setup)?;
         let parts = new_parts(alloc, &code)?;
+        let offer = Box::new(alloc, Offer::new())?;
         let due = kernel.tasks();
         Ok(Machine {
             code,
             setup,
             kernel,
             parts,
-            offer: Offer::new(),
+            offer,
             beside: Beside::new(),
             due,
         })
@@ -114,7 +115,7 @@ impl Machine {
         let task = self.kernel.unsettled().unwrap();
         match step_part(&self.code, &mut self.parts, task, &mut self.offer) {
             Gave::Silent => {}
-            Gave::Offered => self.kernel.offered(task, &self.offer),
+            Gave::Offered => self.kernel.offered(task, &mut self.offer),
         }
     }
 
@@ -222,7 +223,7 @@ impl Machine {
             return false;
         };
         settle_part(&self.code, &mut self.parts, task, &mut self.offer);
-        self.kernel.offered(task, &self.offer);
+        self.kernel.offered(task, &mut self.offer);
         true
     }
 

@@ -71,6 +71,8 @@ pub fn read(alloc: Global, bytes: &[u8]) -> Result<Object, ReadFail>
     requires { length bytes.now < 2 ^ 32 }
     // What is read has these bytes.
     ensures read { IfOk result (λ o. bytes.now ≡ object_bytes o) }
+    // It is what all of them are read as.
+    ensures whole { IfOk result (λ o. whole_read object bytes.now ≡ Ok o) }
     // An object with these bytes is read, unless memory runs out.
     ensures only { (o : Parts) → IsObject o → bytes.now ≡ object_bytes o → IsThis o result }
     // Else the place is that of the first bad field.

@@ -1,5 +1,5 @@
 -- The rows of instructions on cells and operands, where they apply.
-use Rattle.std.proofs.Common.{◌≡◌, ℕ, suc, ◌+◌, ◌<◌, ◌≤◌, List, [], ◌∷◌, Option, Some, None, Ok, length, drop, slice_get, refl, sym, ap, ◌∙◌, subst, arith, Bool, true, false, pos, negsuc, ltb-true, leb-true}
+use Rattle.std.proofs.Common.{◌≡◌, ◌≢◌, ℕ, suc, ◌+◌, ◌<◌, ◌≤◌, List, [], ◌∷◌, Option, Some, None, Ok, length, drop, slice_get, refl, sym, ap, ◌∙◌, subst, arith, Bool, true, false, pos, negsuc, ltb-true, leb-true}
 use Rattle.std.specs.Prelude.{IsSome, nat_lt, nat_le, if◌then◌else◌, ◌==◌, option_and_then}
 use Rattle.std.proofs.lemmas.Option.{same_Some}
 use Rattle.pearl_value.specs.declared.kind.Kind.{Kind}
@@ -9,15 +9,21 @@ use Rattle.pearl_value.specs.declared.cell.Place.TheVariants as place
 use Rattle.pearl_value.specs.declared.trap.Trap.TheVariants.{Index}
 use Rattle.pearl_value.specs.Cells.{kind_of}
 use Rattle.pearl_rules.specs.declared.action.Action.TheVariants as action
-use Rattle.pearl_stack.specs.Frames.{Frame, top_operands, without}
+use Rattle.pearl_stack.specs.Frames.{Frame, top_operands, used, without, pushed}
 use Rattle.pearl_instructions.specs.Steps.{Step, Silent, Offers, given, needed, popped, value_kind, leaves, traps, within}
 use Rattle.pearl_instructions.specs.Cells.{put, filled, fill, load, store, load_at, store_at, cell_reference}
 use Rattle.pearl_silent.specs.Steps.{on_top, next_of, Applies, top_cells, with_top_cell, with_cells, made_on, left_on, stored_on, referred_on, offset_below}
 use Rattle.pearl_silent.proofs.Applied.{given_some, needed_true, and_then_some}
 
-pub literal_is : (frames : List Frame) (x : Cell) → on_top (λ f lower. leaves f lower (x ∷ f.operands)) frames ≡ made_on 0 (Ok x) frames
-literal_is [] x = refl
-literal_is (f ∷ lower) x = refl
+-- a literal is pushed
+
+pub literal_room : (frames : List Frame) (x : Cell) (room : ℕ) → Applies (on_top (λ f lower. leaves f lower (x ∷ f.operands)) frames) room → used frames < room
+literal_room [] x room a = absurd a
+literal_room (f ∷ lower) x room a = omega (arith, a)
+
+pub literal_silent : (frames : List Frame) (x : Cell) → frames ≢ [] → on_top (λ f lower. leaves f lower (x ∷ f.operands)) frames ≡ Silent (next_of (pushed x frames))
+literal_silent [] x some = absurd (some refl)
+literal_silent (f ∷ lower) x some = refl
 
 some_of : {A : Type 0} (o : Option A) (x : A) → o ≡ Some x → IsSome o
 some_of None x e = cc

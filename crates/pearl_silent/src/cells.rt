@@ -1,29 +1,57 @@
 // Instructions on cells and operands.
 
-ghost use Rattle.std.specs.Prelude.{◌≡◌, ◌+◌, ◌<◌, ◌≤◌, ◌∷◌, IsSome, length, slice_get};
+ghost use Rattle.std.specs.Prelude.{◌≡◌, ◌≢◌, ◌+◌, ◌<◌, ◌≤◌, [], ◌∷◌, IsSome, length, slice_get};
 ghost use Rattle.pearl_value.specs.Kinds.{IsKind};
-ghost use Rattle.pearl_stack.specs.Frames.{top_operands};
+ghost use Rattle.pearl_stack.specs.Frames.{top_operands, used, pushed};
 ghost use Rattle.pearl_instructions.specs.Steps.{popped as popped_row, leaves as leaves_row, within as within_row};
 ghost use Rattle.pearl_instructions.specs.Cells.{load as load_row, store as store_row, fill as fill_row, load_at as load_at_row, store_at as store_at_row, filled, cell_reference};
 ghost use Rattle.pearl_silent.specs.Steps.{on_top, stored_on, referred_on, with_cells, top_cells, Does, Applies, HasNext, told};
 
 use crate::elements::offset;
-use crate::outcomes::{leave, leave_cell, leave_copy, leave_none, leave_stored};
+use crate::outcomes::{leave, leave_cell, leave_none, leave_stored};
 use crate::own::{behind, own, set_own_blank};
 use crate::stepped::Did;
+use pearl_instructions::constant::{Constant, Seen};
 use pearl_stack::stack::Loaded;
 use pearl_value::cell::{Cell, Place};
 use pearl_value::conversion::kind;
 use pearl_value::kind::Kind;
 use pearl_value::trap::Trap;
 
+// Puts the value of a literal on the top frame, as a whole cell. Out of line, since the cell is large.
+#[inline(never)]
+fn push_whole(stack: &mut Loaded, x: &Constant)
+    requires some { stack.old.frames ≢ [] }
+    requires room { used stack.old.frames < stack.old.room }
+    ensures { stack.new ≡ record stack.old { frames = pushed x.now stack.old.frames } }
+{
+    stack.push_copy(&x.cell());
+}
+
+// Puts the value of a literal on the top frame. Numbers and texts are written where they are to lie.
+#[inline]
+fn push_literal(stack: &mut Loaded, x: &Constant)
+    requires some { stack.old.frames ≢ [] }
+    requires room { used stack.old.frames < stack.old.room }
+    ensures { stack.new ≡ record stack.old { frames = pushed x.now stack.old.frames } }
+{
+    match x.seen() {
+        Seen::Fixed { len, value } => stack.push_fixed(len, value),
+        Seen::Bits { len, value } => stack.push_bits(len, value),
+        Seen::Chars(text) => stack.push_chars(text),
+        _ => push_whole(stack, x),
+    }
+}
+
 // Const.
-pub fn literal(stack: &mut Loaded, x: &Cell) -> Did
+pub fn literal(stack: &mut Loaded, x: &Constant) -> Did
     requires next { HasNext stack.old.frames }
     requires ready { Applies (on_top (λ f lower. leaves_row f lower (x.now ∷ f.operands)) stack.old.frames) stack.old.room }
     ensures { Does (on_top (λ f lower. leaves_row f lower (x.now ∷ f.operands)) stack.old.frames) stack.old stack.new (told result) }
 {
-    leave_copy(stack, 0, x)
+    push_literal(stack, x);
+    stack.go_on();
+    Did::Silent
 }
 
 // Load.

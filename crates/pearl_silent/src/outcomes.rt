@@ -15,7 +15,7 @@ use pearl_value::trap::Trap;
 
 // A copy of a value in the place of so many operands.
 #[inline]
-pub fn leave_copy(stack: &mut Loaded, taken: u32, x: &Cell) -> Did
+fn leave_copy(stack: &mut Loaded, taken: u32, x: &Cell) -> Did
     requires next { HasNext stack.old.frames }
     requires there { taken ≤ length (top_operands stack.old.frames) }
     requires ready { Applies (made_on taken (Ok x.now) stack.old.frames) stack.old.room }

@@ -35,7 +35,7 @@ pub fn on_silent(code: &Valid, stack: &mut Loaded, instr: &Instr) -> Option<Did>
     ensures { Tries (act_on code.now instr.now stack.old.frames) (2 ≤ family instr.now) stack.old stack.new result }
 {
     match instr {
-        Instr::Const(x) => Some(cells::literal(stack, &x.cell())),
+        Instr::Const(x) => Some(cells::literal(stack, x)),
         Instr::Load(c) => Some(cells::load(stack, *c)),
         Instr::Store(c) => Some(cells::store(stack, *c)),
         Instr::Fill { first, count, kind } => Some(cells::fill(stack, *first, *count, *kind)),

@@ -154,6 +154,17 @@ impl Loaded {
         self.values.push_bits(len, value);
     }
 
+    /// Puts a CHAR of these bytes on the top frame.
+    #[inline]
+    pub fn push_chars(&mut self, text: &[u8])
+        requires some { self.old.frames ≢ [] }
+        requires room { used self.old.frames < self.old.room }
+        requires text { length text.now ≤ 255 }
+        ensures { self.new ≡ record self.old { frames = pushed (Cell.Chars (record { items = text.now })) self.old.frames } }
+    {
+        self.values.push_chars(text);
+    }
+
     /// Puts a copy of cell `c` of frame `f` on the top frame; the lowest frame is 0.
     #[inline]
     pub fn push_cell(&mut self, f: u32, c: u32)

@@ -7,7 +7,7 @@ ghost use Rattle.pearl_value.specs.Kinds.{IsKind};
 ghost use Rattle.pearl_cells.specs.Filled.{filled};
 ghost use Rattle.pearl_stack.specs.Held.{Held};
 
-use pearl_cells::put::{fill_chars, put_bits, put_blank, put_copy, put_fixed};
+use pearl_cells::put::{fill_chars, put_bits, put_blank, put_chars, put_copy, put_fixed};
 use pearl_value::cell::{Cell, copy_of};
 use pearl_value::kind::Kind;
 use std::alloc::{AllocError as NoMemory, Global};
@@ -88,6 +88,17 @@ impl Values {
         ensures { self.new ≡ record self.old { items = self.old.items ++ Cell.Bits len value ∷ [] } }
     {
         put_bits(&mut self.cells[self.used], len, value);
+        self.used += 1;
+    }
+
+    /// A CHAR, as one more.
+    #[inline]
+    pub fn push_chars(&mut self, text: &[u8])
+        requires room { length self.old.items < self.old.room }
+        requires text { length text.now ≤ 255 }
+        ensures { self.new ≡ record self.old { items = self.old.items ++ Cell.Chars (record { items = text.now }) ∷ [] } }
+    {
+        put_chars(&mut self.cells[self.used], text);
         self.used += 1;
     }
 

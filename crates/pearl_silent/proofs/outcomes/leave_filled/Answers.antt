@@ -1,4 +1,3 @@
-use Rattle.std.proofs.Common.{◌≡◌}
 use Rattle.pearl_cells.specs.Filled.{filled}
 use Rattle.pearl_stack.specs.Frames.{Stack, popped}
 use Rattle.pearl_silent.proofs.Tops.{next_at, next_pushed, next_without}

@@ -1,7 +1,6 @@
-use Rattle.std.proofs.Common.{◌∷◌, sym, subst}
+use Rattle.std.proofs.Common.{subst}
 use Rattle.pearl_instructions.specs.Lawful.{IsInstr}
-use Rattle.pearl_instructions.specs.Steps.{leaves}
-use Rattle.pearl_silent.specs.Steps.{sizes_of, told, on_top, Applies, Does}
+use Rattle.pearl_silent.specs.Steps.{sizes_of, told}
 use Rattle.pearl_silent.proofs.Families.{beyond_cells}
 use Rattle.pearl_instructions.specs.declared.instr.Instr.TheVariants.{Const}
 use Rattle.pearl_instructions.specs.declared.instr.Instr.TheVariants.{Load, Store, Fill, Drop, LoadAt, StoreAt, RefCell, RefCellAt, Conv, NonZero, Monadic, Dyadic}
@@ -96,14 +95,10 @@ pub returns-in-Dyadic : goal.returns-in-Dyadic
 returns-in-Dyadic c = does_as c.args.code.now c.args.instr.now (Dyadic c.in-Dyadic.op) c.args.stack.now c.dyadic.new.stack (told c.dyadic.result) c.in-Dyadic.is c.dyadic.ensures
 
 pub literal-requires-clause-ready : goal.literal-requires-clause-ready
-literal-requires-clause-ready c =
-    subst (λ x. Applies (on_top (λ f lower. leaves f lower (x ∷ f.operands)) c.args.stack.now.frames) c.args.stack.now.room) (sym c.cell.ensures)
-    (ready_at c.args.code.now c.args.instr.now (Const c.in-Const.x) (sizes_of c.args.stack.now.frames) c.args.stack.now c.in-Const.is c.requires)
+literal-requires-clause-ready c = ready_at c.args.code.now c.args.instr.now (Const c.in-Const.x) (sizes_of c.args.stack.now.frames) c.args.stack.now c.in-Const.is c.requires
 
 pub returns-in-Const : goal.returns-in-Const
-returns-in-Const c =
-    does_as c.args.code.now c.args.instr.now (Const c.in-Const.x) c.args.stack.now c.literal.new.stack (told c.literal.result) c.in-Const.is
-    (subst (λ x. Does (on_top (λ f lower. leaves f lower (x ∷ f.operands)) c.args.stack.now.frames) c.args.stack.now c.literal.new.stack (told c.literal.result)) c.cell.ensures c.literal.ensures)
+returns-in-Const c = does_as c.args.code.now c.args.instr.now (Const c.in-Const.x) c.args.stack.now c.literal.new.stack (told c.literal.result) c.in-Const.is c.literal.ensures
 
 pub on_jumps-requires-clause-family : goal.on_jumps-requires-clause-family
 on_jumps-requires-clause-family c = beyond_cells c.args.instr.now c.in_default.not-Const c.in_default.not-Load c.in_default.not-Store c.in_default.not-Fill c.in_default.not-Drop c.in_default.not-LoadAt c.in_default.not-StoreAt c.in_default.not-RefCell c.in_default.not-RefCellAt c.in_default.not-Conv c.in_default.not-Index c.in_default.not-NonZero c.in_default.not-Monadic c.in_default.not-Dyadic

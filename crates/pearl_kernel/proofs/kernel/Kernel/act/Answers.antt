@@ -1,11 +1,11 @@
-use Rattle.std.proofs.Common.{◌≡◌, ℕ, ◌<◌, [], Some, true, length, sym, subst, ◌∙◌, length-set}
+use Rattle.std.proofs.Common.{◌≡◌, ℕ, ◌<◌, List, [], Some, true, length, sym, ap, subst, ◌∙◌, length-set}
 use Rattle.pearl_rules.specs.Pick.{pick, guard}
 use Rattle.pearl_exchange.specs.declared.offer.Offer.{Offer}
 use Rattle.pearl_exchange.specs.Offers.{action_of}
 use Rattle.pearl_kernel.specs.Kept.{Kept, offered, done, IsLawful}
 use Rattle.pearl_kernel.specs.Names.{Names}
 use Rattle.pearl_kernel.specs.Whole.{IsWhole, IsOfTasks, HasRoom}
-use Rattle.pearl_kernel.specs.Touched.{IsThere, IsRenewed, Leaves}
+use Rattle.pearl_kernel.specs.Touched.{reach_of, IsThere, IsRenewed, Leaves}
 use Rattle.pearl_kernel.proofs.Acting.{picked-offers, picked-able, still-of, there-after, kept-after, acted}
 use Rattle.pearl_kernel.proofs.Naming.{names-all, lawful-timely}
 use Rattle.pearl_kernel.proofs.kernel.Kernel.act.Goals as goal
@@ -95,9 +95,11 @@ renew-requires-clause-there c =
     let there = subst (λ (k : Kept). t < length k.core.tasks) (sym c.self.view_is) c.in-Some.ensures.there in
     let new = acted of.0 s c.take_offer.new.self c.act-done.new.self t a of.1 there
     (taken c.self.inside.state c.in-Some.task _ _ (c.take_offer.ensures.taken c.if-not-take_offer.false) c.deref.ensures) c.take_offer.ensures.rest c.act-done.ensures.state in
-    let touched = c.act-done.result.touched in
-    let named = subst (λ (k : Kept). IsThere k.core touched) c.take_offer.ensures.rest
-    c.act-done.ensures.leaves.there in
+    let touched = reach_of c.as_slice-list.result.now c.act-done.result.touched in
+    let same = c.as_slice-list.ensures.value ∙ ap (λ (o : Offer). o.list.items) (c.deref-2.ensures ∙ sym c.deref.ensures) in
+    let leaving = subst (λ (xs : List ℕ). Leaves t c.take_offer.new.self c.act-done.new.self (reach_of xs c.act-done.result.touched))
+    (sym same) c.act-done.ensures.leaves in
+    let named = subst (λ (k : Kept). IsThere k.core touched) c.take_offer.ensures.rest leaving.there in
     subst (λ (k : Kept). IsThere k.core touched) (sym new.is)
     (there-after s (done s t a) touched (new.lawful.tasks ∙ sym of.1.tasks) named)
 
@@ -111,16 +113,17 @@ invariant_of-self-2 c =
     let new = acted of.0 s c.take_offer.new.self c.act-done.new.self t a of.1 there
     (taken c.self.inside.state c.in-Some.task _ _ (c.take_offer.ensures.taken c.if-not-take_offer.false) c.deref.ensures) c.take_offer.ensures.rest c.act-done.ensures.state in
     let standing = c.self.inside.standing in
-    let touched = c.act-done.result.touched in
+    let touched = reach_of c.as_slice-list.result.now c.act-done.result.touched in
     let renewed = subst (λ (k : Kept). IsRenewed k t touched standing c.renew.new.self) new.is
     c.renew.ensures in
-    let leaves = subst (λ (k : Kept). Leaves t c.take_offer.new.self k touched) new.is
-    c.act-done.ensures.leaves in
-    let leaving = subst (λ (k : Kept). Leaves t k (done s t a) touched)
-    c.take_offer.ensures.rest leaves in
+    let same = c.as_slice-list.ensures.value ∙ ap (λ (o : Offer). o.list.items) (c.deref-2.ensures ∙ sym c.deref.ensures) in
+    let leaving = subst (λ (xs : List ℕ). Leaves t c.take_offer.new.self c.act-done.new.self (reach_of xs c.act-done.result.touched))
+    (sym same) c.act-done.ensures.leaves in
+    let leaves = subst (λ (k : Kept). Leaves t c.take_offer.new.self k touched) new.is leaving in
+    let left = subst (λ (k : Kept). Leaves t k (done s t a) touched) c.take_offer.ensures.rest leaves in
     subst (λ (k : Kept). IsWhole k c.renew.new.self) (sym new.is)
     (kept-after of.0 s standing c.renew.new.self t a touched
-    of.1 new.lawful c.self.invariant leaving renewed)
+    of.1 new.lawful c.self.invariant left renewed)
 
 pub returns-clause-lawful : goal.returns-clause-lawful
 returns-clause-lawful c = λ setup lawful.

@@ -3,5 +3,5 @@ use Rattle.pearl_kernel.proofs.state.State.request.Goals as goal
 
 pub returns-clause-leaves : goal.returns-clause-leaves
 returns-clause-leaves c =
-    rw (c.goes_on.ensures, c.waiters_of.ensures)
-    (leaves-lowered c.args.own c.args.self.now c.lower.new.self c.args.list.now c.requires.list c.lower.ensures)
+    rw c.goes_on.ensures
+    (leaves-lowered c.args.own c.args.self.now c.lower.new.self c.args.list.now.items c.requires.list c.lower.ensures)

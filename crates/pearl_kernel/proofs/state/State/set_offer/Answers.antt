@@ -1,5 +1,6 @@
 use Rattle.std.proofs.Common.{◌<◌, Some, length, slice_set, sym, ap, subst, ◌∙◌, arith}
 use Rattle.pearl_sema.specs.Waiting.{Sema, AreThere}
+use Rattle.pearl_exchange.specs.declared.offer.Offer.{Offer}
 use Rattle.pearl_exchange.specs.Offers.{action_of}
 use Rattle.pearl_kernel.specs.Kept.{Kept}
 use Rattle.pearl_kernel.specs.Requests.{requested_by, requests}
@@ -16,17 +17,19 @@ keep_request-requires-clause-task c =
 
 pub keep_request-requires-clause-list : goal.keep_request-requires-clause-list
 keep_request-requires-clause-list c =
-    let a = action_of c.args.offer.now in
-    subst (λ (k : Kept). AreThere k.core.counts (requested_by a)) (sym c.self.view_is)
-    (request-there c.args.self.now.core a c.requires.names)
+    let a = action_of c.args.offer.now.value in
+    rw c.deref.ensures
+    (subst (λ (k : Kept). AreThere k.core.counts (requested_by a)) (sym c.self.view_is)
+    (request-there c.args.self.now.core a c.requires.names))
 
 pub invariant_of-self : goal.invariant_of-self
 invariant_of-self c =
     let s = c.self.inside in
     let there = subst (λ (k : Kept). c.args.task < length k.offers) (sym c.self.view_is) c.requires.task in
-    let a = action_of c.args.offer.now in (
+    let a = action_of c.args.offer.now.value in (
       c.self.invariant.0,
       ap (λ (x : Sema). x.waiting) c.keep_request.ensures
+          ∙ ap (λ (o : Offer). slice_set s.semas.waiting c.args.task (requested_by (action_of o))) c.deref.ensures
           ∙ ap (λ xs. slice_set xs c.args.task (requested_by a)) c.self.invariant.1
           ∙ sym (requests-set s.offers.items c.args.task (Some a))
           ∙ ap (λ o. requests (slice_set s.offers.items c.args.task o)) (sym c.put.ensures),

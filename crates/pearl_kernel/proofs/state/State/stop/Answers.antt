@@ -4,13 +4,20 @@ use Rattle.pearl_kernel.proofs.Touching.{leaves-ended, leaves-dormant}
 use Rattle.pearl_kernel.proofs.state.State.stop.Goals as goal
 use Rattle.pearl_kernel.proofs.state.State.stop.Goals.{in-Dormant, in-Active}
 
-pub returns-clause-leaves : goal.returns-clause-leaves
-returns-clause-leaves c =
+pub returns-then-task-own-clause-leaves : goal.returns-then-task-own-clause-leaves
+returns-then-task-own-clause-leaves c = λ list.
     let k = c.args.self.now in
-    let own = c.args.own in
-    let task = c.args.task in
     let new = c.match-mode.self in
     elim c.match-mode.branch [
-      | in-Dormant w ↦ leaves-dormant own task k new c.requires.there w.self-is
-      | in-Active w ↦ leaves-ended own task k new (Stop task) c.requires.there (w.self-is ∙ w.finish.ensures)
+      | in-Dormant w ↦ leaves-dormant c.args.own c.args.task k new c.requires.there w.self-is
+      | in-Active w ↦ leaves-ended c.args.own c.args.task k new (Stop c.args.task) c.requires.there (w.self-is ∙ w.finish.ensures)
+    ]
+
+pub returns-else-task-own-clause-leaves : goal.returns-else-task-own-clause-leaves
+returns-else-task-own-clause-leaves c = λ list.
+    let k = c.args.self.now in
+    let new = c.match-mode.self in
+    elim c.match-mode.branch [
+      | in-Dormant w ↦ leaves-dormant c.args.own c.args.task k new c.requires.there w.self-is
+      | in-Active w ↦ leaves-ended c.args.own c.args.task k new (Stop c.args.task) c.requires.there (w.self-is ∙ w.finish.ensures)
     ]
