@@ -110,7 +110,8 @@ abbrev pub reply_if_other : (is_own : Bool) → Reply
 reply_if_other true = Ends
 reply_if_other false = Hears Nothing
 
--- an active task becomes dormant, and is told to have stopped; a task that stops itself hears nothing more
+-- an active task ends, and is told to have stopped; it is started again where it kept a start. A task that stops itself hears
+-- nothing more
 abbrev pub stopping : Core → (own t : ℕ) → Effect
 stopping core own t = record {
   core = stopped_by (mode_of core t) core t;

@@ -53,10 +53,10 @@ none_kept setup core has t dormant = by_row (row_of core t) refl
 -- NOTHING CHANGES
 
 -- each task keeps what it kept
-abbrev Same : Core → Core → Type 0
+abbrev pub Same : Core → Core → Type 0
 Same core after = (u : ℕ) → kept_of after u ≡ kept_of core u
 
-same_tasks : (core after : Core) → after.tasks ≡ core.tasks → Same core after
+pub same_tasks : (core after : Core) → after.tasks ≡ core.tasks → Same core after
 same_tasks core after same u = ap (λ rows. kept_in (slice_get rows u)) same
 
 same_if : (core : Core) (test : Bool) (after other : Core) → Same core after → Same core other → Same core (if test then after else other)
@@ -76,7 +76,7 @@ same_row_kept core t change keeps u = by_test (nat_eq u t) refl
     by_test true same = subst (λ v. kept_of (changed_row core t change) v ≡ kept_of core v) (sym (eqb-true u t same)) (by_row (row_of core t) refl)
     by_test false differ = ap kept_in (changed-other core t u change (eqb-false u t differ))
 
-mark_same : (core : Core) (t : ℕ) (suspended : Bool) → Same core (with_mark core t suspended)
+pub mark_same : (core : Core) (t : ℕ) (suspended : Bool) → Same core (with_mark core t suspended)
 mark_same core t suspended = same_row_kept core t (λ r. record r { mode = marked_mode suspended (mode_of core t) }) (λ r. refl)
 
 continuation_same : (core : Core) (t : ℕ) (plan : Option Plan) → Same core (with_continuation core t plan)
@@ -91,13 +91,13 @@ serve_same core t = same_if core (serves_if core (continuation_of core t)) (cont
 plan_same : (core : Core) (t : ℕ) (plan : Plan) → Same core (plan_continuation core t plan)
 plan_same core t plan u = serve_same (with_continuation core t (Some plan)) t u ∙ continuation_same core t (Some plan) u
 
-continues_same : (core : Core) (t : ℕ) (start : Start) → Same core (continues core t start)
+pub continues_same : (core : Core) (t : ℕ) (start : Start) → Same core (continues core t start)
 continues_same core t start =
     same_if core (is_at_once start Once) (with_mark core t false)
     (if is_active core t then plan_continuation core t (planned core start Once) else core) (mark_same core t false)
     (same_if core (is_active core t) (plan_continuation core t (planned core start Once)) core (plan_same core t (planned core start Once)) (λ u. refl))
 
-resuming_same : (core : Core) (own : ℕ) (start : Start) → Same core (resuming core own start)
+pub resuming_same : (core : Core) (own : ℕ) (start : Start) → Same core (resuming core own start)
 resuming_same core own start u =
     plan_same (with_mark core own true) own (planned core start Once) u ∙ mark_same core own true u
 
@@ -205,14 +205,14 @@ interrupted_grows core device none = by_test (is_enabled core device) refl
         (stays_all core (note core (event.Masked device)) (λ u. refl) ((core.moment, Happened (event.Masked device)) ∷ [], refl))
 
 -- bytes and values are no starts
-bytes_tasks : (core : Core) (device : ℕ) (text : List ℕ) → (with_bytes core device text).tasks ≡ core.tasks
+pub bytes_tasks : (core : Core) (device : ℕ) (text : List ℕ) → (with_bytes core device text).tasks ≡ core.tasks
 bytes_tasks core device text = by_test (nat_le (length (bytes_at core device ++ text)) terminal_room)
   where
     by_test : (b : Bool) → (if b then with_channel core device (Bytes (bytes_at core device ++ text)) else note core (event.Lost device)).tasks ≡ core.tasks
     by_test true = refl
     by_test false = refl
 
-value_tasks : (core : Core) (device : ℕ) (x : Cell) → (with_value core device x).tasks ≡ core.tasks
+pub value_tasks : (core : Core) (device : ℕ) (x : Cell) → (with_value core device x).tasks ≡ core.tasks
 value_tasks core device x = by_channel (channel_of core device)
   where
     by_value : (kind : Kind) (pending : List Cell) (value : Result Cell Trap) → (joined core device kind pending value).tasks ≡ core.tasks
@@ -230,7 +230,7 @@ value_tasks core device x = by_channel (channel_of core device)
         by_room true = by_value kind pending (converted x kind)
         by_room false = refl
 
-taken_tasks : (core : Core) (device : ℕ) → (without_value core device).tasks ≡ core.tasks
+pub taken_tasks : (core : Core) (device : ℕ) → (without_value core device).tasks ≡ core.tasks
 taken_tasks core device = by_channel (channel_of core device)
   where
     by_channel : (channel : Option Channel) → (without_value_by channel core device).tasks ≡ core.tasks
@@ -353,7 +353,7 @@ activated_grows core t start repeat priority none told = by_row (row_of core t) 
     by_row (Some row) at = by_test row at (is_at_once start repeat)
 
 -- a PREVENT empties what its task keeps
-prevented_none : (core : Core) (t : ℕ) → kept_of (prevented core t) t ≡ kept.Nothing
+pub prevented_none : (core : Core) (t : ℕ) → kept_of (prevented core t) t ≡ kept.Nothing
 prevented_none core t = by_row (row_of core t) refl
   where
     change : TaskRow → TaskRow

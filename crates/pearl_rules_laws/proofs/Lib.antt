@@ -12,3 +12,6 @@ mod Keeping
 mod Alike
 mod Hearing
 mod Picking
+mod Telling
+mod Queueing
+mod Lasting

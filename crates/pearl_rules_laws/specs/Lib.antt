@@ -7,3 +7,5 @@ pub mod Kept
 -- what it is that two lists of entries make the same run, which tasks have heard something, and that a mark is one
 -- action of a task
 pub mod Runs
+-- what becomes of each start of a task over a run
+pub mod Queue
