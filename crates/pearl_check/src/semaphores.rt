@@ -14,9 +14,7 @@ ghost use Rattle.pearl_check.specs.Statements as spec;
 ghost use Rattle.pearl_check.specs.Views as views;
 
 use crate::tell::tell_if;
-use arrayvec::ArrayVec;
-use indexmap::IndexMap;
-use pearl_names::names::note;
+use pearl_names::names::{FirstNames, note};
 use pearl_names::scope::View;
 use pearl_names::sense::Sense;
 use pearl_names::table::SenseTable;
@@ -24,6 +22,7 @@ use pearl_tree::fault::RuleFault;
 use pearl_tree::name::Name;
 use pearl_tree::rule;
 use std::alloc::{AllocError as NoMemory, Global};
+use std::collections::BTreeMap;
 
 /// The greatest number of names of one statement.
 const MOST_NAMES: usize = 16;
@@ -59,7 +58,7 @@ fn is_semaphore(sense: Option<&Sense>) -> bool
 // Tells a semaphore that was seen before, and else notes it.
 fn tell_repeat(
     faults: &mut Vec<RuleFault>,
-    seen: &mut IndexMap<ArrayVec<u8, 63>, u32>,
+    seen: &mut FirstNames,
     name: &Name,
 ) -> Result<(), NoMemory>
     ensures { OnOk result ((before : List NameOf) → Sees seen.old.entries before →
@@ -75,7 +74,7 @@ fn tell_repeat(
 fn tell_semaphore(
     table: &SenseTable,
     faults: &mut Vec<RuleFault>,
-    seen: &mut IndexMap<ArrayVec<u8, 63>, u32>,
+    seen: &mut FirstNames,
     scope: u32,
     name: &Name,
 ) -> Result<(), NoMemory>
@@ -102,7 +101,7 @@ fn tell_repeats(
         faults.new.items ≡
         faults.old.items ++ repeats 31 [] (filter (λ name. views.is_semaphore (views.seen t (Within scope) name)) names.entry.now)) }
 {
-    let mut seen = IndexMap::new(alloc);
+    let mut seen = BTreeMap::new(alloc);
     while let [name, rest @ ..] = names {
         tell_semaphore(table, faults, &mut seen, scope, name)?;
         names = rest;

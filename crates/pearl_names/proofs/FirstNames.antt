@@ -1,6 +1,10 @@
 -- The first of some names that has a text, where one more name comes behind them.
 use Rattle.std.proofs.Common.{◌≡◌, ℕ, suc, ◌+◌, ◌<◌, ◌^◌, Bool, true, false, cond, List, [], ◌∷◌, ◌++◌, length, length-append, Option, Some, None, option_map, is_some, bytes_eq, refl, sym, ap, ◌∙◌, true≢false, arith}
+use Rattle.std.proofs.lemmas.Map.Text.{is_eq-slice_cmp}
 use Rattle.std.proofs.lemmas.Slice.Eq.{bytes_eq-Decides}
+use Rattle.std.specs.Cmp.Lexicographic.{slice_cmp}
+use Rattle.std.specs.Map.{lookup}
+use Rattle.std.specs.Ordering.{is_eq, nat_cmp}
 use Rattle.arrayvec.specs.ArrayVec.{ArrayVec}
 use Rattle.pearl_names.specs.declared.scope.SortedName.{SortedName}
 use Rattle.pearl_tree.specs.Names.{name_text}
@@ -31,6 +35,19 @@ bytes_symm a b false e = by (bytes_eq b a) refl
     by : (c : Bool) → bytes_eq b a ≡ c → c ≡ false
     by true h = absurd (true≢false (sym ((bytes_eq-Decides a b).1 (sym ((bytes_eq-Decides b a).0 h))) ∙ e))
     by false h = refl
+
+-- a map in the order of texts finds what stands at a text
+pub same_found : (entries : List (ArrayVec ℕ × ℕ)) (text : List ℕ) →
+    lookup (λ key. is_eq (slice_cmp nat_cmp text key.items)) entries ≡ number_of entries text
+same_found entries text = ap (λ test. lookup test entries) (λ i key. is_eq-slice_cmp text key.items i)
+
+pub same_updates : (key : ArrayVec ℕ) (number : ℕ) (old new : List (ArrayVec ℕ × ℕ)) →
+    ((q : ArrayVec ℕ) → lookup (λ k. is_eq (slice_cmp nat_cmp q.items k.items)) new ≡
+    cond (is_eq (slice_cmp nat_cmp key.items q.items)) (Some number) (lookup (λ k. is_eq (slice_cmp nat_cmp q.items k.items)) old)) →
+    (q : ArrayVec ℕ) → number_of new q.items ≡ cond (bytes_eq key.items q.items) (Some number) (number_of old q.items)
+same_updates key number old new updates q =
+    sym (same_found new q.items) ∙ updates q
+    ∙ (λ i. cond (is_eq-slice_cmp key.items q.items i) (Some number) (same_found old q.items i))
 
 -- the text was not there, and is put in
 pub noted_new : (key : ArrayVec ℕ) (text : List ℕ) (number : ℕ) (old new : List (ArrayVec ℕ × ℕ)) → key.items ≡ text → number_of old text ≡ None →

@@ -4,6 +4,7 @@ pub mod Collecting
 pub mod Sorting
 mod DeclLists
 mod FirstNames
+mod FieldPlaces
 mod Repeating
 mod HeldAt
 mod Holding

@@ -28,6 +28,8 @@ pub mod Counts
 pub mod Kinds
 -- the slots of types that are written out
 pub mod Runs
+-- the fields of a STRUCT as contracts see them, and where the first of a name stands
+pub mod FieldEntries
 -- the TYPEs of a module by number, with their counts and the bounds of their fields
 pub mod Forms
 -- what each STRUCT adds to the TYPEs by number

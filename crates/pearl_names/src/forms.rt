@@ -15,6 +15,7 @@ ghost use Rattle.pearl_names.specs.declared.types.StructForm.{StructForm as Stru
 ghost use Rattle.pearl_names.specs.Forms.{pair_of, IsForm, StandsFor, AreNamed, Matches, append_fields};
 ghost use Rattle.pearl_names.specs.Forming.{AllMatch, Grows, around_of, fields_shown, Made, sizes_of, struct_shape};
 
+use crate::fields::FieldTable;
 use crate::length::{Lengths, kind_of_basic};
 use crate::meaning::sort_within;
 use crate::names::{ScopeTable, next_number};
@@ -24,7 +25,6 @@ use crate::types::{
     FieldForm, NONE, Sizes, StructForm, TypeRef, add_fields, counts_of, cut, cut_product, cut_sum,
     tails_of, within,
 };
-use indexmap::IndexMap;
 use pearl_tree::name::{Name, Names};
 use pearl_tree::parts::Parts;
 use pearl_tree::tree::Decl;
@@ -287,7 +287,7 @@ fn form_of_struct(
         Matches forms.new.items part (struct_shape (around_of scopes.now lengths.now scope shapes) fields.now.items.items)) }
 {
     let mut form = StructForm {
-        fields: IndexMap::new(alloc),
+        fields: FieldTable::new(alloc),
         bounds: Vec::new(alloc),
         counts: NONE,
         tails: Vec::new(alloc),

@@ -4,6 +4,7 @@
 
 pub mod collect;
 pub mod duration;
+pub mod fields;
 pub mod forms;
 pub mod group;
 pub mod kinds;

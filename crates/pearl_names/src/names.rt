@@ -7,11 +7,14 @@ ghost use Rattle.pearl_names.specs.FirstNames.{first_index, number_of, repeated,
 
 use crate::scope::{NameSort, SortedName};
 use arrayvec::ArrayVec;
-use indexmap::IndexMap;
 use pearl_tree::fault::RuleFault;
 use pearl_tree::rule;
 use std::alloc::{AllocError as NoMemory, Global};
+use std::collections::BTreeMap;
 use std::marker::Model;
+
+/// Numbers by texts. Names that are found by their order cost no more where they are chosen for equal hashes.
+pub type FirstNames = BTreeMap<ArrayVec<u8, 63>, u32>;
 
 pub(crate) fn copy_text(text: &ArrayVec<u8, 63>) -> Result<ArrayVec<u8, 63>, NoMemory>
     ensures { IfOk result (λ copy. copy ≡ text.now) }
@@ -20,17 +23,20 @@ pub(crate) fn copy_text(text: &ArrayVec<u8, 63>) -> Result<ArrayVec<u8, 63>, NoM
     Ok(copy)
 }
 
+// The number of a text.
+pub(crate) fn number_at(first: &FirstNames, text: &ArrayVec<u8, 63>) -> Option<u32>
+    ensures { result ≡ number_of first.now.entries text.now.items }
+{
+    first.get(text).copied()
+}
+
 /// Puts in a text that is not there, and answers whether it was there.
-pub fn note(
-    first: &mut IndexMap<ArrayVec<u8, 63>, u32>,
-    text: &ArrayVec<u8, 63>,
-    number: u32,
-) -> Result<bool, NoMemory>
+pub fn note(first: &mut FirstNames, text: &ArrayVec<u8, 63>, number: u32) -> Result<bool, NoMemory>
     ensures twice { IfOk result (λ twice. twice ≡ is_some (number_of first.old.entries text.now.items)) }
     ensures noted { OnOk result (HasNoted first.old.entries text.now.items number first.new.entries) }
     ensures err { OnErr result (first.new.entries ≡ first.old.entries) }
 {
-    if first.contains_key(text) {
+    if number_at(first, text).is_some() {
         return Ok(true);
     }
     let key = copy_text(text)?;
@@ -62,7 +68,7 @@ pub(crate) fn next_number<T>(items: &[T]) -> Result<u32, NoMemory>
 
 // Notes the name of this number, and its fault where it repeats one before. It answers the next number.
 fn note_next(
-    first: &mut IndexMap<ArrayVec<u8, 63>, u32>,
+    first: &mut FirstNames,
     repeats: &mut Vec<RuleFault>,
     entry: &SortedName,
     number: u32,
@@ -88,7 +94,7 @@ fn note_next(
 pub struct ScopeTable {
     outer: Option<u32>,
     names: Vec<SortedName>,
-    first: IndexMap<ArrayVec<u8, 63>, u32>,
+    first: FirstNames,
     repeats: Vec<RuleFault>,
 }
 
@@ -113,7 +119,7 @@ impl ScopeTable {
     ) -> Result<ScopeTable, NoMemory>
         ensures { IfOk result (λ scope. scope ≡ record { outer = outer; names = names.items }) }
     {
-        let mut first = IndexMap::new(alloc);
+        let mut first = BTreeMap::new(alloc);
         let mut repeats = Vec::new(alloc);
         let mut number = 0;
         for entry in names.as_slice() {
@@ -145,10 +151,7 @@ impl ScopeTable {
     pub fn find(&self, text: &ArrayVec<u8, 63>) -> Option<u32>
         ensures { result ≡ first_index self.now.names text.now.items }
     {
-        match self.first.get(text) {
-            Some(number) => Some(*number),
-            None => None,
-        }
+        number_at(&self.first, text)
     }
 
     /// The sort of the name of a number.

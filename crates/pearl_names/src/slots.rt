@@ -51,10 +51,9 @@ fn has_leaf(forms: &[StructForm], part: TypeRef) -> bool
 fn next_field(forms: &[StructForm], form: &StructForm, from: usize) -> Option<NextField>
     ensures { (fields : Fields) → FieldsStand forms.now 0 0 form.now.fields.entries fields → FindsNext forms.now result fields from }
 {
-    let fields = form.fields.as_slice();
     let mut index = from;
     loop {
-        match fields.get_index(index) {
+        match form.fields.get_index(index) {
             Some((_, field)) => {
                 index += 1;
                 if has_leaf(forms, field.part) {

@@ -15,11 +15,10 @@ ghost use Rattle.pearl_names.specs.declared.sense.Bounds.{Bounds as BoundsOf};
 ghost use Rattle.pearl_names.specs.Forms.{pair_of, StandsFor, FieldsStand, AllBounded, MatchesComponent, component, Adds, IsForm, IsPart, AreNamed, append_fields};
 ghost use Rattle.pearl_names.specs.declared.types.TypeRef.TheVariants.{Struct};
 
+use crate::fields::FieldTable;
 use crate::kinds::{Kinds, NO_KINDS, joined_kinds, one_kind};
-use crate::names::copy_text;
 use crate::sense::Bounds;
 use arrayvec::ArrayVec;
-use indexmap::IndexMap;
 use pearl_tree::name::Name;
 use pearl_value::kind::Kind;
 use std::alloc::{AllocError as NoMemory, Global};
@@ -122,7 +121,7 @@ pub struct FieldForm {
 /// fields: of none, of one, and so on up to all.
 #[derive(Drop)]
 pub struct StructForm {
-    pub fields: IndexMap<ArrayVec<u8, 63>, FieldForm>,
+    pub fields: FieldTable,
     pub bounds: Vec<Bounds>,
     pub counts: Counts,
     pub tails: Vec<Kinds>,
@@ -295,18 +294,13 @@ pub(crate) fn add_field(
     ensures fresh { IfOk result (λ fresh. fresh ≡ is_none (lookup (λ key. bytes_eq name.now.items key.items) form.old.fields.entries)) }
     ensures added { IfOk result (λ fresh. fresh ≡ true → Adds form.old name.now field each form.new) }
 {
-    if form.fields.contains_key(name) {
-        return Ok(false);
-    }
-    let key = copy_text(name)?;
     let placed = FieldForm {
         leaf: form.counts.leaves,
         slot: form.counts.slots,
         ..field
     };
-    match form.fields.insert(key, placed) {
-        Ok(_) => {}
-        Err(_) => return Err(NoMemory),
+    if !form.fields.add(name, placed)? {
+        return Ok(false);
     }
     form.counts = joined(form.counts, behind_field(name, each));
     Ok(true)

@@ -20,14 +20,12 @@ ghost use Rattle.pearl_scope.specs.PartLists.{shown_part, parts_in};
 use crate::init::s7_at;
 use crate::module_part::parts_of_module;
 use crate::part::Part;
-use arrayvec::ArrayVec;
-use indexmap::IndexMap;
 use pearl_names::duration::is_too_long;
 use pearl_names::forms::{Types, is_sound_bound, types_of};
 use pearl_names::layout::{has_sound_leaves, item_counts};
 use pearl_names::length::{Lengths, is_length, lengths_set};
 use pearl_names::meaning::{sort_from, sort_within};
-use pearl_names::names::{ScopeTable, note};
+use pearl_names::names::{FirstNames, ScopeTable, note};
 use pearl_names::scope::NameSort;
 use pearl_names::sorted::names_of_module;
 use pearl_names::types::Counts;
@@ -37,6 +35,7 @@ use pearl_tree::rule;
 use pearl_tree::tree::Tree;
 use pearl_tree::typing::Field;
 use std::alloc::{AllocError as NoMemory, Global};
+use std::collections::BTreeMap;
 
 /// The greatest number of PRESET.
 const GREATEST_PRESET: u64 = (1 << 31) - 1;
@@ -181,7 +180,7 @@ fn s9_at(faults: &mut Vec<RuleFault>, part: &Part<'_>) -> Result<(), NoMemory>
 // Tells each of these names that has the text of one seen before.
 fn tell_repeats(
     faults: &mut Vec<RuleFault>,
-    seen: &mut IndexMap<ArrayVec<u8, 63>, u32>,
+    seen: &mut FirstNames,
     names: &[Name],
 ) -> Result<(), NoMemory>
     ensures { OnOk result ((before : List NameOf) → Sees seen.old.entries before →
@@ -203,7 +202,7 @@ fn repeated_fields(
     ensures { OnOk result
         (faults.new.items ≡ faults.old.items ++ repeats S6 [] (field_names (fields_shown fields.now))) }
 {
-    let mut seen = IndexMap::new(alloc);
+    let mut seen = BTreeMap::new(alloc);
     for field in fields {
         tell_repeats(faults, &mut seen, field.names.as_slice())?;
     }

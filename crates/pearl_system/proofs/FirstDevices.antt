@@ -1,10 +1,16 @@
 -- The first of some devices that has a name, and whether one has a word and a number, where one more device comes behind them.
-use Rattle.std.proofs.Common.{◌≡◌, ℕ, suc, Bool, true, false, cond, ◌&&◌, ◌||◌, ◌==◌, List, [], ◌∷◌, ◌++◌, length, map, Option, Some, None, option_map, is_some, bytes_eq, refl, sym, ap, ◌∙◌, true≢false, arith}
+use Rattle.std.proofs.Common.{◌≡◌, ℕ, suc, Bool, true, false, cond, not, ◌&&◌, ◌||◌, ◌==◌, List, [], ◌∷◌, ◌++◌, length, map, Option, Some, None, option_map, is_some, bytes_eq, refl, sym, ap, ◌∙◌, true≢false, arith}
 use Rattle.std.proofs.lemmas.Bool.Decides.{nat_tests}
 use Rattle.std.proofs.lemmas.List.Folds.{list_any-append}
+use Rattle.std.proofs.lemmas.Map.Text.{is_eq-slice_cmp}
 use Rattle.std.proofs.lemmas.Slice.Eq.{bytes_eq-Decides}
+use Rattle.std.specs.Cmp.{both_tied, unsigned_ties}
+use Rattle.std.specs.Cmp.Lexicographic.{slice_cmp}
 use Rattle.std.specs.List.{list_any, slice_get}
+use Rattle.std.specs.Map.{lookup}
+use Rattle.std.specs.declared.cmp.Ordering.{Ordering}
 use Rattle.std.specs.Option.{option_and_then, option_or}
+use Rattle.std.specs.Ordering.{is_eq, nat_cmp, ordering_then}
 use Rattle.arrayvec.specs.ArrayVec.{ArrayVec}
 use Rattle.pearl_tree.specs.declared.declaration.Device.{Device}
 use Rattle.pearl_tree.specs.Names.{is_among}
@@ -50,6 +56,37 @@ index_push devices device number old new index last noted text =
     noted text
     ∙ (λ i. option_or (index text i) (cond (bytes_eq text device.name.text.items) (Some (last i)) None))
     ∙ sym (first_push devices device text)
+
+-- a map in the order of texts finds what stands at a text
+pub same_found : (entries : List (ArrayVec ℕ × ℕ)) (text : List ℕ) →
+    lookup (λ key. is_eq (slice_cmp nat_cmp text key.items)) entries ≡ number_at entries text
+same_found entries text = ap (λ test. lookup test entries) (λ i key. is_eq-slice_cmp text key.items i)
+
+pub same_updates : (key : ArrayVec ℕ) (number : ℕ) (old new : List (ArrayVec ℕ × ℕ)) →
+    ((q : ArrayVec ℕ) → lookup (λ k. is_eq (slice_cmp nat_cmp q.items k.items)) new ≡
+    cond (is_eq (slice_cmp nat_cmp key.items q.items)) (Some number) (lookup (λ k. is_eq (slice_cmp nat_cmp q.items k.items)) old)) →
+    (q : ArrayVec ℕ) → number_at new q.items ≡ cond (bytes_eq key.items q.items) (Some number) (number_at old q.items)
+same_updates key number old new updates q =
+    sym (same_found new q.items) ∙ updates q
+    ∙ (λ i. cond (is_eq-slice_cmp key.items q.items i) (Some number) (same_found old q.items i))
+
+-- a set in the order of words and numbers has those that stand in it
+abbrev pub order : ArrayVec ℕ × ℕ → ArrayVec ℕ × ℕ → Ordering
+order a b = ordering_then (slice_cmp nat_cmp a.0.items b.0.items) (nat_cmp a.1 b.1)
+
+same_pair : (a b : ArrayVec ℕ × ℕ) → is_eq (order a b) ≡ (bytes_eq a.0.items b.0.items && (a.1 == b.1))
+same_pair a b =
+    sym (both_tied (bytes_eq a.0.items b.0.items) (a.1 == b.1) (slice_cmp nat_cmp a.0.items b.0.items) (nat_cmp a.1 b.1)
+    (sym (is_eq-slice_cmp a.0.items b.0.items)) (unsigned_ties a.1 b.1))
+
+pub same_has : (keys : List (ArrayVec ℕ × ℕ)) (pair : ArrayVec ℕ × ℕ) → list_any (λ key. is_eq (order pair key)) keys ≡ has_pair keys pair.0.items pair.1
+same_has keys pair = ap (λ test. list_any test keys) (λ i key. same_pair pair key i)
+
+pub same_added : (key : ArrayVec ℕ × ℕ) (old new : List (ArrayVec ℕ × ℕ)) →
+    ((q : ArrayVec ℕ × ℕ) → list_any (λ k. is_eq (order q k)) new ≡ cond (is_eq (order key q)) true (list_any (λ k. is_eq (order q k)) old)) →
+    (q : ArrayVec ℕ × ℕ) → has_pair new q.0.items q.1 ≡ cond (bytes_eq key.0.items q.0.items && (key.1 == q.1)) true (has_pair old q.0.items q.1)
+same_added key old new updates q =
+    sym (same_has new q) ∙ updates q ∙ (λ i. cond (same_pair key q i) true (same_has old q i))
 
 -- the text was not there, and is put in
 pub noted_new : (key : ArrayVec ℕ) (text : List ℕ) (number : ℕ) (old new : List (ArrayVec ℕ × ℕ)) → key.items ≡ text → number_at old text ≡ None →
@@ -125,6 +162,10 @@ pub named_found : (devices : List Device) (entries : List (ArrayVec ℕ × ℕ))
     at ≡ number_at entries text → named devices text ≡ option_and_then (λ k. slice_get devices k) at
 named_found devices entries text at index is =
     named_at devices text ∙ ap (option_and_then (λ k. slice_get devices k)) (sym (index text) ∙ sym is)
+
+pub not_not : (b : Bool) → not (not b) ≡ b
+not_not true = refl
+not_not false = refl
 
 -- a word with its number is put in
 pub added_pair : (key : ArrayVec ℕ) (word : List ℕ) (number : ℕ) (old new : List (ArrayVec ℕ × ℕ)) → key.items ≡ word →

@@ -7,20 +7,27 @@ ghost use Rattle.pearl_system.specs.FirstDevices.{has_pair, number_at, HasAdded,
 
 use crate::device::spelling;
 use arrayvec::ArrayVec;
-use indexmap::{IndexMap, IndexSet};
 use pearl_tree::declaration::{Device, DeviceWord};
 use std::alloc::AllocError as NoMemory;
+use std::collections::{BTreeMap, BTreeSet};
 
 /// Where the first device of each name stands.
-pub(crate) type FirstDevices = IndexMap<ArrayVec<u8, 63>, usize>;
+pub(crate) type FirstDevices = BTreeMap<ArrayVec<u8, 63>, usize>;
 
 /// Words of devices with their numbers.
-pub(crate) type Twins = IndexSet<(ArrayVec<u8, 63>, u64)>;
+pub(crate) type Twins = BTreeSet<(ArrayVec<u8, 63>, u64)>;
 
 fn copy_of(text: &ArrayVec<u8, 63>) -> ArrayVec<u8, 63>
     ensures { result ≡ text.now }
 {
     text.clone().unwrap()
+}
+
+// Where the first device of a name stands.
+fn place_of(first: &FirstDevices, text: &ArrayVec<u8, 63>) -> Option<usize>
+    ensures { result ≡ number_at first.now.entries text.now.items }
+{
+    first.get(text).copied()
 }
 
 /// Notes where a name stands unless it was there, and answers whether it was there.
@@ -32,7 +39,7 @@ pub(crate) fn note(
     ensures twice { IfOk result (λ twice. twice ≡ is_some (number_at first.old.entries text.now.items)) }
     ensures noted { OnOk result (HasNoted first.old.entries text.now.items at first.new.entries) }
 {
-    if first.contains_key(text) {
+    if place_of(first, text).is_some() {
         return Ok(true);
     }
     match first.insert(copy_of(text), at) {
@@ -56,8 +63,8 @@ pub(crate) fn named<'a>(
     requires { IsIndex devices.now first.now.entries }
     ensures { option_copied result ≡ spec.named devices.now text.now.items }
 {
-    match first.get(text) {
-        Some(at) => device_at(devices, *at),
+    match place_of(first, text) {
+        Some(at) => device_at(devices, at),
         None => None,
     }
 }

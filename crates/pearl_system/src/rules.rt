@@ -9,12 +9,12 @@ ghost use Rattle.pearl_system.specs.Rules as spec;
 use crate::device::{DeviceSort, is_number, sort_of, spelling, word_place};
 use crate::first::{FirstDevices, add_twin, named, note};
 use crate::specified::{Form, Specified};
-use indexmap::{IndexMap, IndexSet};
 use pearl_tree::declaration::{Class, Device};
 use pearl_tree::fault::RuleFault;
 use pearl_tree::rule;
 use pearl_value::device::Direction;
 use std::alloc::{AllocError as NoMemory, Global};
+use std::collections::{BTreeMap, BTreeSet};
 
 fn is_alphic(class: Class) -> bool
     ensures { result ≡ spec.is_alphic class }
@@ -126,7 +126,7 @@ pub(crate) fn add_s10(
     ensures faults { OnOk result (faults.new.items ≡ faults.old.items ++ spec.s10 devices.now) }
     ensures first { IfOk result (λ first. IsIndex devices.now first.entries) }
 {
-    let mut first = IndexMap::new(alloc);
+    let mut first = BTreeMap::new(alloc);
     for at in 0..devices.len() {
         let name = &devices[at].name;
         let twice = note(&mut first, &name.text, at)?;
@@ -154,7 +154,7 @@ pub(crate) fn add_s12(
 ) -> Result<(), NoMemory>
     ensures { OnOk result (faults.new.items ≡ faults.old.items ++ spec.s12 devices.now) }
 {
-    let mut twins = IndexSet::new(alloc);
+    let mut twins = BTreeSet::new(alloc);
     for device in devices {
         let twice = add_twin(&mut twins, device)?;
         push_if(faults, twice, device.name.place, rule::S12)?;

@@ -9,7 +9,7 @@ loop-left-init c =
     let entries = c.args.form.now.fields.entries in
     let left = c.len-left.result in
     let same : c.push.new.self.items ≡ no_kinds ∷ [] = c.in_ok-push.ensures.items ∙ ap (λ l. l ++ no_kinds ∷ []) c.new-tails.ensures.items in
-    let all : left ≡ length entries = c.len-left.ensures.len in (
+    let all : left ≡ length entries = c.len-left.ensures in (
       omega (arith, all),
       λ fields h.
           subst (λ l. Tailed l no_kinds (drop_fields left fields)) (sym same)
