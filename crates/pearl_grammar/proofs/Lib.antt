@@ -10,4 +10,5 @@ mod Leaves
 mod Productions
 mod DeclarationFacts
 mod TypeFacts
+mod StatementFacts
 pub mod Offered

@@ -7,8 +7,12 @@ use Rattle.pearl_tree.specs.Declarations.{SpellsDevice, SpellsPrio, SpellsItem, 
 use Rattle.pearl_tree.specs.Declarations.{SpellsControl, SpellsSpec, SpellsParam}
 use Rattle.pearl_tree.specs.Modules.{SpellsReturns}
 use Rattle.pearl_tree.specs.Standing.{SpellsName, SpellsList}
-use Rattle.pearl_grammar.specs.Laws.{IsSaid, LengthsAreSaid, TypesAreSaid, VariablesAreSaid, SpecificationsAreSaid, SemasAreActedOn}
+use Rattle.pearl_tree.specs.Statements.{SpellsAfter, SpellsValue, SpellsPeriodEnd, SpellsPeriod, SpellsStart, SpellsOnce}
+use Rattle.pearl_grammar.specs.Laws.{IsSaid, LengthsAreSaid, TypesAreSaid, VariablesAreSaid, SpecificationsAreSaid, Empties}
+use Rattle.pearl_grammar.specs.Laws.{Exits, Assigns, Calls, Returns, Activates, Continues, Resumes, TasksAreActedOn}
+use Rattle.pearl_grammar.specs.Laws.{SemasAreActedOn, InterruptsAreActedOn, Sends, Takes}
 use Rattle.pearl_grammar.specs.Declarations as rule
+use Rattle.pearl_grammar.specs.Statements as statement
 
 pub names_said : IsSaid SpellsNames rule.names_rule rule.names_parts
 names_said = search rules
@@ -78,6 +82,60 @@ declare_said = search rules
 
 pub specify_said : SpecificationsAreSaid
 specify_said = search rules
+
+pub after_said : (word : ℕ) → IsSaid (λ tokens. SpellsAfter tokens word) (statement.after_rule word) (statement.after_parts word)
+after_said = search rules
+
+pub value_said : IsSaid SpellsValue statement.value_rule statement.value_parts
+value_said = search rules
+
+pub period_end_said : IsSaid SpellsPeriodEnd statement.period_end_rule statement.period_end_parts
+period_end_said = search rules
+
+pub period_said : IsSaid SpellsPeriod statement.period_rule statement.period_parts
+period_said = search rules
+
+pub start_said : IsSaid SpellsStart statement.start_rule statement.start_parts
+start_said = search rules
+
+pub once_said : IsSaid SpellsOnce statement.once_rule statement.once_parts
+once_said = search rules
+
+pub empty_said : Empties
+empty_said = search rules
+
+pub exit_said : Exits
+exit_said = search rules
+
+pub assign_said : Assigns
+assign_said = search rules
+
+pub call_said : Calls
+call_said = search rules
+
+pub return_said : Returns
+return_said = search rules
+
+pub activate_said : Activates
+activate_said = search rules
+
+pub continue_said : Continues
+continue_said = search rules
+
+pub resume_said : Resumes
+resume_said = search rules
+
+pub on_task_said : TasksAreActedOn
+on_task_said = search rules
+
+pub on_interrupt_said : InterruptsAreActedOn
+on_interrupt_said = search rules
+
+pub send_said : Sends
+send_said = search rules
+
+pub take_said : Takes
+take_said = search rules
 
 pub semas_said : SemasAreActedOn
 semas_said depth tokens from x to = (

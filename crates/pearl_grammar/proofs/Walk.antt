@@ -368,24 +368,36 @@ module _ {X : Type 0} {room : ℕ} {whole : List Token → Spelling X} {tokens :
   missing {rule} {facts} {at} {stop} {k} wanted a absent all solid few is =
       lacking a (λ some. clash _ (answers true wanted (firsts_of rule facts) (what_at tokens at) all some) absent) solid few is
 
+  -- a part is missing, where what stands there is also told by other words
+  pub part_missing_as : {Y : Type 0} (other : List Token → Spelling Y) (inner : ℕ) {part : Part} {rest : Rule}
+      {facts : Facts (Then part rest)} {at stop : ℕ} {halt : Halt} →
+      Walk room whole tokens from low (Then part rest) facts never at stop →
+      ((others : List Token) (x : Value part) (m to : ℕ) → SpellsPart part others at x m → Left rest others m to →
+      (y : Y) × (k : ℕ) × other others at y k) →
+      IsStopped other tokens at stop halt → HaltsBehind inner (SpellsPart part) tokens at stop halt →
+      inner + fill_of rest facts.1 + 8 * from ≤ room + 8 * at → fill_of rest facts.1 ≤ room →
+      Lacks room whole tokens from low halt
+  part_missing_as {Y} other inner {part} {rest} {facts} {at} {stop} {halt} a told refused least fits few = record {
+    refused = by halt refused;
+    least = states.halt_part room whole tokens from low (fill_of rest facts.1) inner (SpellsPart part) (Left rest)
+        (part_is_local part facts.0) (rule_fills rest facts.1 a.firm) few at stop fits (before a) halt least;
+  }
+    where
+      by : (halt : Halt) → IsStopped other tokens at stop halt → IsStopped whole tokens from low halt
+      by NoMemory h = tt
+      by (Refused k) h = (
+        λ others agree x to w.
+            let g = left (Left (Then part rest)) others at to (a.goes others (shorter tokens others stop k h.2 agree) x to w) in
+            let y = told others g.0.0 g.1.0 to g.1.1 (g.0.1, g.1.2) in h.0 others agree y.0 y.1 y.2,
+        omega (arith, h.2, a.near),
+        omega (arith, h.2, a.level.is),
+        h.3,
+      )
+
   -- a part is missing
   pub part_missing : {inner : ℕ} {part : Part} {rest : Rule} {facts : Facts (Then part rest)} {at stop : ℕ} {halt : Halt} →
       Walk room whole tokens from low (Then part rest) facts never at stop → Lacks inner (SpellsPart part) tokens at stop halt →
       inner + fill_of rest facts.1 + 8 * from ≤ room + 8 * at → fill_of rest facts.1 ≤ room →
       Lacks room whole tokens from low halt
-  part_missing {inner} {part} {rest} {facts} {at} {stop} {halt} a t fits few = record {
-    refused = by halt t.refused;
-    least = states.halt_part room whole tokens from low (fill_of rest facts.1) inner (SpellsPart part) (Left rest)
-        (part_is_local part facts.0) (rule_fills rest facts.1 a.firm) few at stop fits (before a) halt t.least;
-  }
-    where
-      by : (halt : Halt) → IsStopped (SpellsPart part) tokens at stop halt → IsStopped whole tokens from low halt
-      by NoMemory h = tt
-      by (Refused k) h = (
-        λ others agree x to w.
-            let g = left (Left (Then part rest)) others at to (a.goes others (shorter tokens others stop k h.2 agree) x to w) in
-            h.0 others agree g.0.0 g.1.0 g.1.1,
-        omega (arith, h.2, a.near),
-        omega (arith, h.2, a.level.is),
-        h.3,
-      )
+  part_missing {inner} {part} {rest} {facts} {at} {stop} {halt} a t fits few =
+      part_missing_as (SpellsPart part) inner a (λ others x m to h g. (x, m, h)) t.refused t.least fits few

@@ -13,7 +13,8 @@ use Rattle.pearl_tree.specs.Modules.{SpellsDecl}
 use Rattle.pearl_grammar.specs.Declarations as declaration
 use Rattle.pearl_tree.specs.declared.token.Token.{Token}
 use Rattle.pearl_tree.specs.Standing.{Spelling}
-use Rattle.pearl_tree.specs.declared.statement.Stmt.{Exit, OnTask, OnSemas, OnInterrupt, Send, Take, Return}
+use Rattle.pearl_tree.specs.declared.statement.Stmt.{Stmt, Empty, Exit, Assign, Call, Return, Activate, Continue, Resume, OnTask}
+use Rattle.pearl_tree.specs.declared.statement.Stmt.{OnSemas, OnInterrupt, Send, Take}
 use Rattle.pearl_tree.specs.Statements.{SpellsStmt}
 use Rattle.pearl_grammar.specs.Rules.{Rule, Held, Spells}
 use Rattle.pearl_grammar.specs.Statements as rule
@@ -44,32 +45,47 @@ SpecificationsAreSaid = (specs : Parts Spec) (place : ℕ) (tokens : List Token)
     SpellsDecl tokens from (decl.Specify specs place) to ↔
     Spells declaration.specify_rule tokens from (place, (specs.items.items, tt)) to
 
--- ---- statements that hold no others, however many of those that do stand around them
+-- ---- statements that hold no others, but PUT and GET, however many of those that do stand around them
+
+-- statements of one kind
+abbrev pub AreSaid : {X : Type 0} → (X → Stmt) → (rule : Rule) → (X → Held rule) → Type 0
+AreSaid kind rule parts = (depth : ℕ) → IsSaid (λ tokens from x to. SpellsStmt tokens depth from (kind x) to) rule parts
+
+abbrev pub Empties : Type 0
+Empties = AreSaid Empty rule.empty_rule rule.empty_parts
 
 abbrev pub Exits : Type 0
-Exits = (depth : ℕ) → IsSaid (λ tokens from place to. SpellsStmt tokens depth from (Exit place) to) rule.exit_rule
-    rule.exit_parts
+Exits = AreSaid Exit rule.exit_rule rule.exit_parts
 
-abbrev pub TasksAreActedOn : Type 0
-TasksAreActedOn = (depth : ℕ) → IsSaid (λ tokens from part to. SpellsStmt tokens depth from (OnTask part) to) rule.on_task_rule
-    (λ part. rule.on_task_parts part.value)
+abbrev pub Assigns : Type 0
+Assigns = AreSaid Assign rule.assign_rule (λ part. rule.assign_parts part.value)
 
-abbrev pub SemasAreActedOn : Type 0
-SemasAreActedOn = (depth : ℕ) → IsSaid (λ tokens from part to. SpellsStmt tokens depth from (OnSemas part) to) rule.on_semas_rule
-    (λ part. rule.on_semas_parts part.value)
-
-abbrev pub InterruptsAreActedOn : Type 0
-InterruptsAreActedOn = (depth : ℕ) → IsSaid (λ tokens from part to. SpellsStmt tokens depth from (OnInterrupt part) to) rule.on_interrupt_rule
-    (λ part. rule.on_interrupt_parts part.value)
-
-abbrev pub Sends : Type 0
-Sends = (depth : ℕ) → IsSaid (λ tokens from part to. SpellsStmt tokens depth from (Send part) to) rule.send_rule
-    (λ part. rule.send_parts part.value)
-
-abbrev pub Takes : Type 0
-Takes = (depth : ℕ) → IsSaid (λ tokens from part to. SpellsStmt tokens depth from (Take part) to) rule.take_rule
-    (λ part. rule.take_parts part.value)
+abbrev pub Calls : Type 0
+Calls = AreSaid Call rule.call_rule (λ part. rule.call_parts part.value)
 
 abbrev pub Returns : Type 0
-Returns = (depth : ℕ) → IsSaid (λ tokens from part to. SpellsStmt tokens depth from (Return part) to) rule.return_rule
-    (λ part. rule.return_parts part.value)
+Returns = AreSaid Return rule.return_rule (λ part. rule.return_parts part.value)
+
+abbrev pub Activates : Type 0
+Activates = AreSaid Activate rule.activate_rule (λ part. rule.activate_parts part.value)
+
+abbrev pub Continues : Type 0
+Continues = AreSaid Continue rule.continue_rule (λ part. rule.continue_parts part.value)
+
+abbrev pub Resumes : Type 0
+Resumes = AreSaid Resume rule.resume_rule (λ part. rule.resume_parts part.value)
+
+abbrev pub TasksAreActedOn : Type 0
+TasksAreActedOn = AreSaid OnTask rule.on_task_rule (λ part. rule.on_task_parts part.value)
+
+abbrev pub SemasAreActedOn : Type 0
+SemasAreActedOn = AreSaid OnSemas rule.on_semas_rule (λ part. rule.on_semas_parts part.value)
+
+abbrev pub InterruptsAreActedOn : Type 0
+InterruptsAreActedOn = AreSaid OnInterrupt rule.on_interrupt_rule (λ part. rule.on_interrupt_parts part.value)
+
+abbrev pub Sends : Type 0
+Sends = AreSaid Send rule.send_rule (λ part. rule.send_parts part.value)
+
+abbrev pub Takes : Type 0
+Takes = AreSaid Take rule.take_rule (λ part. rule.take_parts part.value)

@@ -1,5 +1,18 @@
--- The productions of statements that hold no others, and how a tree holds their parts.
-use Rattle.std.specs.Prelude.{ℕ}
+-- The productions of statements that hold no others, but PUT and GET, and how a tree holds their parts.
+use Rattle.std.specs.Prelude.{◌≡◌, ℕ, ◌+◌, List}
+use Rattle.pearl_tree.specs.declared.token.Token.{Token}
+use Rattle.pearl_tree.specs.declared.statement.PeriodEnd.{PeriodEnd}
+use Rattle.pearl_tree.specs.declared.statement.PeriodEnd.TheVariants.{Until, During}
+use Rattle.pearl_tree.specs.declared.statement.Period.{Period}
+use Rattle.pearl_tree.specs.declared.statement.Start.{Start}
+use Rattle.pearl_tree.specs.declared.statement.Start.TheVariants as start_tree
+use Rattle.pearl_tree.specs.declared.statement.Once.{Once}
+use Rattle.pearl_tree.specs.declared.statement.Once.TheVariants as once_tree
+use Rattle.pearl_tree.specs.declared.statement.Assign.{Assign}
+use Rattle.pearl_tree.specs.declared.statement.Call.{Call}
+use Rattle.pearl_tree.specs.declared.statement.Activate.{Activate}
+use Rattle.pearl_tree.specs.declared.statement.Continue.{Continue}
+use Rattle.pearl_tree.specs.declared.statement.Resume.{Resume}
 use Rattle.pearl_tree.specs.declared.expression.Expr.{Expr}
 use Rattle.pearl_tree.specs.declared.expression.Ref.{Ref}
 use Rattle.pearl_tree.specs.declared.statement.TaskWord.{TaskWord}
@@ -12,9 +25,13 @@ use Rattle.pearl_tree.specs.declared.statement.Return.{Return}
 use Rattle.pearl_tree.specs.declared.statement.Send.{Send}
 use Rattle.pearl_tree.specs.declared.statement.Take.{Take}
 use Rattle.pearl_tree.specs.Expressions.{SpellsWhole, SpellsOwnRef}
-use Rattle.pearl_tree.specs.Statements.{task_word, sema_word, interrupt_word, SpellsValue}
+use Rattle.pearl_tree.specs.Standing.{Spelling}
+use Rattle.pearl_tree.specs.Statements.{task_word, sema_word, interrupt_word, SpellsValue, SpellsAfter, SpellsPeriodEnd}
+use Rattle.pearl_tree.specs.Statements.{SpellsPeriod, SpellsStart, SpellsOnce, HasBecomes}
+use Rattle.pearl_tree.specs.declared.symbol.TheConstants as s
 use Rattle.pearl_tree.specs.declared.word_code.TheConstants as w
-use Rattle.pearl_grammar.specs.Rules.{Part, One, Maybe, Listed, Rule, Mark, Then, Held, word, SpellsOneWord}
+use Rattle.pearl_grammar.specs.Rules.{First, Second, Part, One, Flag, Maybe, Listed, MaybeBracketed, Rule, End, Mark, Then, Or, Held}
+use Rattle.pearl_grammar.specs.Rules.{word, symbol, SpellsOneWord}
 use Rattle.pearl_grammar.specs.Declarations.{id, close}
 
 abbrev pub expression : Part
@@ -23,9 +40,115 @@ expression = One Expr SpellsWhole
 abbrev pub reference : Part
 reference = One Ref SpellsOwnRef
 
+abbrev pub after : ℕ → Part
+after code = One Expr (λ tokens. SpellsAfter tokens code)
+
+abbrev pub period : Part
+period = One Period SpellsPeriod
+
+-- `:=` and `=` mean the same
+abbrev pub SpellsBecomes : List Token → Spelling (Unit {0})
+SpellsBecomes tokens from x to = HasBecomes tokens from × (to ≡ from + 1)
+
+-- ---- parts
+
+-- word expr
+abbrev pub after_rule : ℕ → Rule
+after_rule code = word code (Then expression End)
+
+abbrev pub after_parts : (code : ℕ) → Expr → Held (after_rule code)
+after_parts code x = (x, tt)
+
+-- "(" expr ")"
+abbrev pub value_rule : Rule
+value_rule = symbol s.LEFT_ROUND (Then expression (symbol s.RIGHT_ROUND End))
+
+abbrev pub value_parts : Expr → Held value_rule
+value_parts x = (x, tt)
+
+-- UNTIL expr | DURING expr
+abbrev pub period_end_rule : Rule
+period_end_rule = Or (Mark (Then (after w.UNTIL) End)) (Mark (Then (after w.DURING) End))
+
+abbrev pub period_end_parts : PeriodEnd → Held period_end_rule
+period_end_parts (Until time place) = First (place, (time, tt))
+period_end_parts (During duration place) = Second (place, (duration, tt))
+
+-- all = ALL expr [ UNTIL expr | DURING expr ]
+abbrev pub period_rule : Rule
+period_rule = Mark (Then (after w.ALL) (Then (Maybe (One PeriodEnd SpellsPeriodEnd)) End))
+
+abbrev pub period_parts : Period → Held period_rule
+period_parts x = (x.place, (x.duration, (x.end, tt)))
+
+-- start = AT expr [ all ] | AFTER expr [ all ] | WHEN id [ AFTER expr ] [ all ] | all
+abbrev pub start_rule : Rule
+start_rule = Or (Mark (Then (after w.AT) (Then (Maybe period) End))) (Or (Mark (Then (after w.AFTER) (Then (Maybe period) End)))
+    (Or (Mark (word w.WHEN (Then id (Then (Maybe (after w.AFTER)) (Then (Maybe period) End))))) (Then period End)))
+
+abbrev pub start_parts : Start → Held start_rule
+start_parts (start_tree.At time period place) = First (place, (time, (period, tt)))
+start_parts (start_tree.After duration period place) = Second (First (place, (duration, (period, tt))))
+start_parts (start_tree.When interrupt after period place) =
+    Second (Second (First (place, (interrupt, (after, (period, tt))))))
+start_parts (start_tree.All period) = Second (Second (Second (period, tt)))
+
+-- once = AT expr | AFTER expr | WHEN id
+abbrev pub once_rule : Rule
+once_rule = Or (Mark (Then (after w.AT) End)) (Or (Mark (Then (after w.AFTER) End)) (Mark (word w.WHEN (Then id End))))
+
+abbrev pub once_parts : Once → Held once_rule
+once_parts (once_tree.At time place) = First (place, (time, tt))
+once_parts (once_tree.After duration place) = Second (First (place, (duration, tt)))
+once_parts (once_tree.When interrupt place) = Second (Second (place, (interrupt, tt)))
+
+-- ---- statements
+
+-- ";"
+abbrev pub empty_rule : Rule
+empty_rule = Mark close
+
+abbrev pub empty_parts : ℕ → Held empty_rule
+empty_parts place = (place, tt)
+
+-- ref ":=" expr ";"
+abbrev pub assign_rule : Rule
+assign_rule = Mark (Then reference (Then (One (Unit {0}) SpellsBecomes) (Then expression close)))
+
+abbrev pub assign_parts : Assign → Held assign_rule
+assign_parts x = (x.place, (x.target, (tt, (x.value, tt))))
+
+-- [ CALL ] id [ "(" expr { "," expr } ")" ] ";"
+abbrev pub call_rule : Rule
+call_rule = Mark (Then (Flag w.CALL) (Then id (Then (MaybeBracketed expression) close)))
+
+abbrev pub call_parts : Call → Held call_rule
+call_parts x = (x.place, (x.call, (x.name, (x.arguments.items.items, tt))))
+
+-- [ start ] ACTIVATE id [ PRIO expr ] ";"
+abbrev pub activate_rule : Rule
+activate_rule = Mark (Then (Maybe (One Start SpellsStart)) (word w.ACTIVATE (Then id (Then (Maybe (after w.PRIO)) close))))
+
+abbrev pub activate_parts : Activate → Held activate_rule
+activate_parts x = (x.place, (x.start, (x.task, (x.priority, tt))))
+
 -- id ";"
 abbrev pub station : Rule
 station = Then id close
+
+-- [ once ] CONTINUE id ";"
+abbrev pub continue_rule : Rule
+continue_rule = Mark (Then (Maybe (One Once SpellsOnce)) (word w.CONTINUE station))
+
+abbrev pub continue_parts : Continue → Held continue_rule
+continue_parts x = (x.place, (x.once, (x.task, tt)))
+
+-- once RESUME ";"
+abbrev pub resume_rule : Rule
+resume_rule = Mark (Then (One Once SpellsOnce) (word w.RESUME close))
+
+abbrev pub resume_parts : Resume → Held resume_rule
+resume_parts x = (x.place, (x.once, tt))
 
 -- EXIT ";"
 abbrev pub exit_rule : Rule

@@ -9,6 +9,9 @@ ghost use Rattle.pearl_grammar.specs.Declarations as rules;
 ghost use Rattle.std.specs.Prelude.{ℕ};
 ghost use Rattle.pearl_grammar.specs.Laws.{IsSaid, LengthsAreSaid, TypesAreSaid, VariablesAreSaid, SpecificationsAreSaid};
 ghost use Rattle.pearl_grammar.specs.Laws.{Exits, TasksAreActedOn, SemasAreActedOn, InterruptsAreActedOn, Sends, Takes, Returns};
+ghost use Rattle.pearl_grammar.specs.Laws.{Empties, Assigns, Calls, Activates, Continues, Resumes};
+ghost use Rattle.pearl_tree.specs.Statements as statements;
+ghost use Rattle.pearl_grammar.specs.Statements as parts;
 
 /// The productions of names, numbers in brackets and constants spell what their definitions say.
 pub fn names_are_said()
@@ -57,7 +60,17 @@ pub fn heads_are_said()
     ensures returns { IsSaid modules.SpellsReturns rules.returns_rule rules.returns_parts }
 {}
 
-/// Those of statements that hold no others do.
+/// Those of values in brackets and of times do.
+pub fn times_are_said()
+    ensures after { (word : ℕ) → IsSaid (λ tokens. statements.SpellsAfter tokens word) (parts.after_rule word) (parts.after_parts word) }
+    ensures value { IsSaid statements.SpellsValue parts.value_rule parts.value_parts }
+    ensures period_end { IsSaid statements.SpellsPeriodEnd parts.period_end_rule parts.period_end_parts }
+    ensures period { IsSaid statements.SpellsPeriod parts.period_rule parts.period_parts }
+    ensures start { IsSaid statements.SpellsStart parts.start_rule parts.start_parts }
+    ensures once { IsSaid statements.SpellsOnce parts.once_rule parts.once_parts }
+{}
+
+/// Those of statements that hold no others do, but PUT and GET, which have none.
 pub fn statements_are_said()
     ensures exit { Exits }
     ensures on_task { TasksAreActedOn }
@@ -66,4 +79,10 @@ pub fn statements_are_said()
     ensures send { Sends }
     ensures take { Takes }
     ensures return_ { Returns }
+    ensures empty { Empties }
+    ensures assign { Assigns }
+    ensures call { Calls }
+    ensures activate { Activates }
+    ensures continue_ { Continues }
+    ensures resume { Resumes }
 {}

@@ -17,8 +17,9 @@ use Rattle.pearl_parse_expr.proofs.Offered.{shorter}
 use Rattle.pearl_parse_decl.specs.Readings.{by_bracket, extends_head}
 use Rattle.pearl_parse_decl.specs.Readings as readings
 use Rattle.pearl_parse.specs.Bodies.{extends_body}
-use Rattle.pearl_parse.specs.Stops.{IsStopped}
-use Rattle.pearl_parse.proofs.Steps.{Rest, Ends, Then, Goes, Avoids, past}
+use Rattle.pearl_grammar.specs.Reached.{IsStopped}
+use Rattle.pearl_grammar.proofs.Offered.{Rest, Ends, Next}
+use Rattle.pearl_parse.proofs.Steps.{Goes, Avoids, past}
 
 -- END ";"
 abbrev pub end_rest : Rest
@@ -26,29 +27,29 @@ end_rest others at to = HasWord others at w.END × HasSymbol others (at + 1) s.S
 
 -- body END ";"
 abbrev pub body_rest : Rest
-body_rest = Then SpellsWholeBody end_rest
+body_rest = Next SpellsWholeBody end_rest
 
 -- ";" body END ";"
 abbrev pub opened_rest : Rest
 opened_rest others at to = HasSymbol others at s.SEMICOLON × body_rest others (at + 1) to
 
 abbrev pub block_rest : Rest
-block_rest = Then SpellsBlock Ends
+block_rest = Next SpellsBlock Ends
 
 abbrev pub task_rest : Rest
-task_rest = Then SpellsTaskHead block_rest
+task_rest = Next SpellsTaskHead block_rest
 
 abbrev pub Returned : List Token → Spelling (Option Basic)
 Returned tokens = SpellsMaybe (SpellsReturns tokens)
 
 abbrev pub returns_rest : Rest
-returns_rest = Then Returned block_rest
+returns_rest = Next Returned block_rest
 
 abbrev pub Params : List Token → Spelling (List Param)
 Params tokens = SpellsMaybeBracketed tokens (SpellsParam tokens)
 
 abbrev pub proc_rest : Rest
-proc_rest = Then Params returns_rest
+proc_rest = Next Params returns_rest
 
 pub end_stops : Avoids extends_body end_rest
 end_stops others at to h = ap extends_body h.0

@@ -13,7 +13,8 @@ use Rattle.pearl_parse_expr.specs.declared.reading.Halt.{Halt}
 use Rattle.pearl_parse_expr.specs.declared.reading.Halt.TheVariants.{Refused, NoMemory}
 use Rattle.pearl_parse_expr.specs.Stops.{IsLongest, EndsEarly, IsHalted, is_word}
 use Rattle.pearl_parse_expr.proofs.Offered.{clash, shorter, or_first, or_second}
-use Rattle.pearl_parse.specs.Stops.{IsStopped, begins_statement}
+use Rattle.pearl_grammar.specs.Reached.{IsStopped}
+use Rattle.pearl_parse.specs.Stops.{begins_statement}
 use Rattle.pearl_parse.specs.Bodies.{extends_body, SpellsStatements, SpellsBlock}
 use Rattle.pearl_parse.proofs.ByFirst.{stmt_begins}
 use Rattle.pearl_parse.proofs.Words.{word_holds}

@@ -1,55 +1,41 @@
 -- Calls, returns and assignments, read one part after the other.
-use Rattle.std.proofs.Common.{◌≡◌, ℕ, ◌+◌, ◌<◌, ◌^◌, true, false, List, Option, length, Ok, ap, arith}
+use Rattle.std.proofs.Common.{◌≡◌, ℕ, ◌+◌, ◌<◌, ◌^◌, true, false, List, length, Ok, ap, arith}
 use Rattle.pearl_tree.specs.declared.name.Name.{Name}
 use Rattle.pearl_tree.specs.declared.expression.Expr.{Expr}
 use Rattle.pearl_tree.specs.declared.expression.Ref.{Ref}
 use Rattle.pearl_tree.specs.declared.token.Token.{Token}
 use Rattle.pearl_tree.specs.Standing.{what_at, HasWord, IsName}
 use Rattle.pearl_tree.specs.Expressions.{SpellsWhole, SpellsOwnRef}
-use Rattle.pearl_tree.specs.Statements.{SpellsValue, HasBecomes}
+use Rattle.pearl_tree.specs.Statements.{HasBecomes}
 use Rattle.pearl_tree.specs.declared.word_code.TheConstants as w
 use Rattle.pearl_parse_expr.specs.declared.reading.Reading.{Reading}
 use Rattle.pearl_parse_expr.specs.Stops.{extends_expression, extends_operand, is_name}
-use Rattle.pearl_parse_expr.specs.Reads.{Reads, ReadsAs, ReadsOnlyMaybe}
+use Rattle.pearl_parse_expr.specs.Reads.{Reads, ReadsAs}
 use Rattle.pearl_parse.specs.Stops.{SpellsOwnNamed}
-use Rattle.pearl_parse.specs.Calls.{SpellsArguments, SpellsOptionalValue, is_becomes}
+use Rattle.pearl_parse.specs.Calls.{SpellsArguments, is_becomes}
 use Rattle.pearl_parse.specs.Reads.{ReadsBehind}
-use Rattle.pearl_parse.proofs.Steps.{Rest, Ends, Then, past, past_only}
+use Rattle.pearl_grammar.proofs.Offered.{Rest, Ends, Next, past_part}
+use Rattle.pearl_parse.proofs.Steps.{past}
 use Rattle.pearl_parse.proofs.StatementRests.{Spelled, exit_rest}
-use Rattle.pearl_parse.proofs.CallRests.{arguments_rest, value_rest, return_goes, call_goes_on, assign_goes}
+use Rattle.pearl_parse.proofs.CallRests.{arguments_rest, value_rest, call_goes_on, assign_goes}
 use Rattle.pearl_parse.proofs.CallRests.{named_call_goes}
-use Rattle.pearl_parse.proofs.Comes.{Maybe}
 use Rattle.pearl_parse.proofs.Made.{semicolon}
 use Rattle.pearl_parse.proofs.Tails.{semicolon_fills}
 use Rattle.pearl_parse.proofs.StatementLeast.{expr_is_local, call_begun}
-use Rattle.pearl_parse.proofs.CallLeast.{return_past, value_begins, arguments_begin}
-use Rattle.pearl_parse.proofs.States.{past_name, past_part}
+use Rattle.pearl_parse.proofs.CallLeast.{value_begins, arguments_begin}
+use Rattle.pearl_parse.proofs.States.{past_name}
 use Rattle.pearl_parse.proofs.Stands.{Stands}
 
 module _ (tokens : List Token) (depth from : ℕ) (inside : from < length tokens) (few : length tokens < 2 ^ 55) where
   abbrev pub CallAt : Rest → Rest → ℕ → ℕ → Type 0
   CallAt = Stands 24 (Spelled depth) tokens from 0 from
 
-  -- RETURN [ "(" expr ")" ]
-  pub past_returned : HasWord tokens from w.RETURN → (x : Reading (Option Expr)) →
-      ReadsOnlyMaybe 16 (Maybe SpellsValue) SpellsOptionalValue (Maybe SpellsValue) tokens (from + 1) (Ok x) →
-      CallAt exit_rest semicolon x.end x.stop
-  past_returned here x read = record {
-    goes = past_only (Spelled depth) tokens from SpellsOptionalValue exit_rest (from + 1) from x.end x.stop
-        (return_goes tokens depth from here) (omega (arith, read.bounds)) read.only;
-    level = return_past tokens from inside few depth here x.part x.end x.stop read.spells (omega (arith, read.bounds))
-        (omega (arith, read.bounds)) read.bounds.3 read.least;
-    ahead = omega (arith, read.bounds);
-    near = omega (arith, read.bounds);
-    inside = read.bounds.3;
-  }
-
   -- CALL id
   pub past_called : HasWord tokens from w.CALL → (name : Name) → IsName tokens (from + 1) name →
-      from + 1 < length tokens → CallAt arguments_rest (Then SpellsArguments Ends) (from + 2) from
+      from + 1 < length tokens → CallAt arguments_rest (Next SpellsArguments Ends) (from + 2) from
   past_called here name named within = record {
     goes = call_goes_on tokens depth from here;
-    level = past_name 24 (Spelled depth) tokens from 0 name (Then SpellsArguments Ends) (from + 1) from (from + 2)
+    level = past_name 24 (Spelled depth) tokens from 0 name (Next SpellsArguments Ends) (from + 1) from (from + 2)
         (omega arith) (call_begun tokens depth from inside few here) named within;
     ahead = omega arith;
     near = omega arith;
@@ -63,7 +49,7 @@ module _ (tokens : List Token) (depth from : ℕ) (inside : from < length tokens
     -- ref ":="
     module _ (becomes : is_becomes (what_at tokens x.end) ≡ true) (stands : HasBecomes tokens x.end)
         (within : x.end < length tokens) where
-      pub past_target : CallAt value_rest (Then SpellsWhole semicolon) (x.end + 1) x.stop
+      pub past_target : CallAt value_rest (Next SpellsWhole semicolon) (x.end + 1) x.stop
       past_target = record {
         goes = assign_goes tokens depth from x.end x.stop here (omega (arith, named.ahead)) (omega (arith, named.ahead))
             named.longest becomes;
@@ -91,7 +77,7 @@ module _ (tokens : List Token) (depth from : ℕ) (inside : from < length tokens
 
     -- an id, where the reference ends before no `:=`
     pub past_named : is_becomes (what_at tokens x.end) ≡ false → (name : Name) → IsName tokens from name →
-        CallAt arguments_rest (Then SpellsArguments Ends) (from + 1) x.stop
+        CallAt arguments_rest (Next SpellsArguments Ends) (from + 1) x.stop
     past_named other name stands = record {
       goes = named_call_goes tokens depth from x.end x.stop here (omega (arith, named.ahead))
           (omega (arith, named.ahead)) named.longest other;

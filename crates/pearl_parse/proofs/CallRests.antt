@@ -5,88 +5,38 @@ use Rattle.pearl_tree.specs.declared.name.Name.{Name}
 use Rattle.pearl_tree.specs.declared.parts.Parts.{Parts}
 use Rattle.pearl_tree.specs.declared.expression.Expr.{Expr}
 use Rattle.pearl_tree.specs.declared.expression.Selector.{Selector, Subscripts}
-use Rattle.pearl_tree.specs.declared.statement.Stmt.{Stmt, Assign, Call, Return}
+use Rattle.pearl_tree.specs.declared.statement.Stmt.{Stmt, Assign, Call}
 use Rattle.pearl_tree.specs.declared.token.What.{What}
 use Rattle.pearl_tree.specs.declared.token.What.TheVariants as what
 use Rattle.pearl_tree.specs.declared.token.Token.{Token}
-use Rattle.pearl_tree.specs.Standing.{IsAt, HasWord, HasSymbol, IsName, SpellsFlag, SpellsMaybe, SpellsEach, SpellsList}
+use Rattle.pearl_tree.specs.Standing.{IsAt, HasWord, HasSymbol, IsName, SpellsFlag, SpellsEach, SpellsList}
 use Rattle.pearl_tree.specs.Standing.{SpellsMaybeBracketed, what_at}
 use Rattle.pearl_tree.specs.Expressions.{SpellsWhole, SpellsSelector}
-use Rattle.pearl_tree.specs.Statements.{SpellsStmt, SpellsValue}
+use Rattle.pearl_tree.specs.Statements.{SpellsStmt}
 use Rattle.pearl_tree.specs.declared.symbol.TheConstants as s
 use Rattle.pearl_tree.specs.declared.word_code.TheConstants as w
 use Rattle.pearl_tree.proofs.Offered.{spells_subscripts, group_of}
 use Rattle.pearl_parse_expr.specs.declared.reading.Halt.{Halt}
 use Rattle.pearl_parse_expr.specs.declared.reading.Halt.TheVariants.{Refused, NoMemory}
-use Rattle.pearl_parse_expr.specs.Stops.{IsLongest, Stuck, EndsEarly, IsHalted, extends_expression, extends_operand}
-use Rattle.pearl_parse_expr.specs.Stops.{is_name, is_symbol}
-use Rattle.pearl_parse_expr.proofs.Offered.{clash, shorter}
-use Rattle.pearl_parse_decl.specs.Readings.{by_comma}
+use Rattle.pearl_parse_expr.specs.Stops.{IsLongest, EndsEarly, IsHalted, extends_operand}
+use Rattle.pearl_parse_expr.specs.Stops.{is_name}
+use Rattle.pearl_parse_expr.proofs.Offered.{clash}
 use Rattle.pearl_parse_decl.proofs.Offered.{settled}
 use Rattle.pearl_parse.specs.Stops.{SpellsOwnNamed}
-use Rattle.pearl_parse.specs.Calls.{SpellsOptionalValue, SpellsArguments, is_becomes}
+use Rattle.pearl_parse.specs.Calls.{SpellsArguments, is_becomes}
 use Rattle.pearl_parse.proofs.ByFirst.{group, of_kind}
-use Rattle.pearl_parse.proofs.Steps.{Rest, Ends, Then, Goes}
-use Rattle.pearl_parse.proofs.StatementRests.{Spelled, exit_rest, behind_word}
-
-abbrev pub return_rest : Rest
-return_rest = Then SpellsOptionalValue exit_rest
+use Rattle.pearl_grammar.proofs.Offered.{Rest, Ends, Next}
+use Rattle.pearl_parse.proofs.Steps.{Goes}
+use Rattle.pearl_parse.proofs.StatementRests.{Spelled, exit_rest}
 
 abbrev pub arguments_rest : Rest
-arguments_rest = Then SpellsArguments Ends
+arguments_rest = Next SpellsArguments Ends
 
 abbrev pub call_rest : Rest
 call_rest others at to = (is_name (what_at others at) ≡ true) × arguments_rest others (at + 1) to
 
 abbrev pub value_rest : Rest
-value_rest = Then SpellsWhole exit_rest
-
--- ")" ";"
-abbrev pub closed_rest : Rest
-closed_rest others at to = HasSymbol others at s.RIGHT_ROUND × HasSymbol others (at + 1) s.SEMICOLON × (to ≡ at + 2)
-
--- ---- arguments
-
-module _ (others : List Token) (from : ℕ) where
-  pub bracketed_end : (end : ℕ) → HasSymbol others from s.LEFT_ROUND →
-      ((xs : List Expr) (to : ℕ) → SpellsList others (SpellsWhole others) (from + 1) xs to → (to ≡ end) ⊎
-      EndsEarly (by_comma extends_expression) others end to) →
-      (xs : List Expr) (to : ℕ) → SpellsArguments others from xs to → closed_rest others end to
-  bracketed_end end bracket longest [] to h =
-      absurd (clash _ (ap (is_symbol s.SEMICOLON) (subst (λ k. HasSymbol others k s.SEMICOLON) h.1 h.2))
-      (ap (is_symbol s.SEMICOLON) bracket))
-  bracketed_end end bracket longest (x ∷ xs) to h =
-      let inner = h.1 in
-      let same : inner.0 ≡ end = settled (by_comma extends_expression) others end inner.0
-      (longest (x ∷ xs) inner.0 inner.2) (ap (by_comma extends_expression) inner.3) in (
-        subst (λ k. HasSymbol others k s.RIGHT_ROUND) same inner.3,
-        subst (λ k. HasSymbol others k s.SEMICOLON) (inner.4 ∙ ap (λ k. k + 1) same) h.2,
-        omega (arith, same, inner.4, h.3),
-      )
-
-module _ (tokens : List Token) (from : ℕ) where
-  pub arguments_go : (end stop new : ℕ) → HasSymbol tokens from s.LEFT_ROUND → from ≤ new → stop ≤ new →
-      IsLongest (λ tokens. SpellsList tokens (SpellsWhole tokens)) (by_comma extends_expression) tokens (from + 1) end
-      stop →
-      Goes SpellsArguments tokens from closed_rest end new
-  arguments_go end stop new bracket near below longest = λ others agree xs to h.
-      bracketed_end others from end (sym (agree from near) ∙ bracket)
-      (λ xs to h. longest others (shorter tokens others stop new below agree) xs to h) xs to h
-
-  pub arguments_stuck : (stop new : ℕ) → HasSymbol tokens from s.LEFT_ROUND → from ≤ new → stop ≤ new →
-      Stuck (λ tokens. SpellsList tokens (SpellsWhole tokens)) tokens (from + 1) stop →
-      Stuck SpellsArguments tokens from new
-  arguments_stuck stop new bracket near below stuck = λ others agree xs to h.
-      by others (sym (agree from near) ∙ bracket) (λ xs to h. stuck others (shorter tokens others stop new below agree)
-      xs to h) xs to h
-    where
-      by : (others : List Token) → HasSymbol others from s.LEFT_ROUND →
-          ((xs : List Expr) (to : ℕ) → SpellsList others (SpellsWhole others) (from + 1) xs to → ⊥) →
-          (xs : List Expr) (to : ℕ) → SpellsArguments others from xs to → ⊥
-      by others bracket stuck [] to h =
-          clash _ (ap (is_symbol s.SEMICOLON) (subst (λ k. HasSymbol others k s.SEMICOLON) h.1 h.2))
-          (ap (is_symbol s.SEMICOLON) bracket)
-      by others bracket stuck (x ∷ xs) to h = stuck (x ∷ xs) h.1.0 h.1.2
+value_rest = Next SpellsWhole exit_rest
 
 -- ---- the name and the arguments of a call, as a reference
 
@@ -192,11 +142,6 @@ module _ (others : List Token) (depth from end : ℕ) (named : is_name (what_at 
       by a e h = absurd e
 
 module _ (others : List Token) (from : ℕ) where
-  optional_value : (x : Option Expr) (a : ℕ) → SpellsMaybe (SpellsValue others) from x a →
-      HasSymbol others a s.SEMICOLON → SpellsOptionalValue others from x a
-  optional_value None a h i = (h, ap (is_symbol s.LEFT_ROUND) (subst (λ k. HasSymbol others k s.SEMICOLON) h i))
-  optional_value (Some x) a h i = h
-
   behind_call : (call : Bool) (name : Name) (a : ℕ) → HasWord others from w.CALL →
       SpellsFlag others w.CALL from call a → IsName others a name → a ≡ from + 1
   behind_call false name a word h i = absurd (clash _ (ap is_name (subst (λ k. IsName others k name) h i).0)
@@ -204,20 +149,6 @@ module _ (others : List Token) (from : ℕ) where
   behind_call true name a word h i = h.1
 
 module _ (tokens : List Token) (depth from : ℕ) where
-  pub return_goes : HasWord tokens from w.RETURN → Goes (Spelled depth) tokens from return_rest (from + 1) from
-  return_goes here = behind_word tokens depth from w.RETURN 8 return_rest here refl by
-    where
-      by : (others : List Token) (a : Stmt) (to : ℕ) → T (eqb (group a) 8) → SpellsStmt others depth from a to →
-          return_rest others (from + 1) to
-      by others (Return part) to e h = (
-        part.value.value,
-        h.0,
-        optional_value others (from + 1) part.value.value h.0 h.3
-            h.4,
-        (h.4, h.5),
-      )
-      by others a to e h = absurd e
-
   pub call_goes : HasWord tokens from w.CALL → Goes (Spelled depth) tokens from call_rest (from + 1) from
   call_goes here = λ others agree a to h.
       let word = sym (agree from (omega arith)) ∙ here in

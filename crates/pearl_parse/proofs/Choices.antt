@@ -11,7 +11,8 @@ use Rattle.pearl_tree.specs.Stops.{BeginAlike}
 use Rattle.pearl_parse_expr.specs.declared.reading.Halt.TheVariants.{Refused}
 use Rattle.pearl_parse_expr.specs.Stops.{IsLongest, EndsEarly, is_word}
 use Rattle.pearl_parse_expr.proofs.Offered.{clash, shorter, or_second}
-use Rattle.pearl_parse.specs.Stops.{IsStopped, begins_statement}
+use Rattle.pearl_grammar.specs.Reached.{IsStopped}
+use Rattle.pearl_parse.specs.Stops.{begins_statement}
 use Rattle.pearl_parse.specs.Bodies.{extends_alternatives, SpellsHeaded, SpellsChoices}
 
 abbrev Each : ℕ → List Token → ℕ → List (List Stmt) → ℕ → Type 0

@@ -8,11 +8,12 @@ use Rattle.pearl_parse_expr.specs.Stops.{is_word, is_symbol}
 use Rattle.pearl_parse.specs.Stops.{IsMissing}
 use Rattle.pearl_parse.specs.Bodies.{SpellsClosing}
 use Rattle.pearl_parse.specs.Reads.{ReadsClosing}
-use Rattle.pearl_parse.proofs.Steps.{Rest, Goes, itself, missing_behind, missing_is_refused}
-use Rattle.pearl_parse.proofs.Comes.{BehindWord, Makes, fills_word}
+use Rattle.pearl_grammar.proofs.Offered.{Rest, Makes, State, first}
+use Rattle.pearl_parse.proofs.Steps.{Goes, itself, missing_behind, missing_is_refused}
+use Rattle.pearl_parse.proofs.Comes.{BehindWord, fills_word}
 use Rattle.pearl_parse.proofs.Made.{semicolon}
 use Rattle.pearl_parse.proofs.Tails.{semicolon_fills}
-use Rattle.pearl_parse.proofs.States.{State, first, past_word, halt_token}
+use Rattle.pearl_parse.proofs.States.{past_word, halt_token}
 
 closing_made : (word : ℕ) → Makes (SpellsClosing word) (BehindWord word semicolon)
 closing_made word others from to small h = (tt, (h.0, h.1.0, omega (arith, h.1.1)))

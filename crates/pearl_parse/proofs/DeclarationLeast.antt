@@ -29,19 +29,20 @@ use Rattle.pearl_parse_decl.proofs.Offered.{local_of, list_keeps, maybe_keeps, m
 use Rattle.pearl_parse_decl.proofs.Offered.{param_keeps, task_head_keeps, returns_keep}
 use Rattle.pearl_parse.specs.Stops.{IsMissing}
 use Rattle.pearl_parse.specs.Bodies.{SpellsInner}
-use Rattle.pearl_parse.specs.Reached.{GoesBehind, HaltsBehind}
-use Rattle.pearl_parse.proofs.Steps.{Rest, Ends, Then}
+use Rattle.pearl_grammar.specs.Reached.{GoesBehind, HaltsBehind}
+use Rattle.pearl_grammar.proofs.Offered.{Rest, Ends, Next, Fills, Makes, fills_as, State, first, raised, past_part}
+use Rattle.pearl_grammar.proofs.Offered.{halt_part, done, goes_in_told}
 use Rattle.pearl_parse.proofs.LocalModules.{block_keeps}
 use Rattle.pearl_parse.proofs.LocalRests.{inner_keeps}
-use Rattle.pearl_parse.proofs.Comes.{Fills, BehindWord, BehindSymbol, Maybe, Makes, fills_as, fills_word}
+use Rattle.pearl_parse.proofs.Comes.{BehindWord, BehindSymbol, Maybe, fills_word}
 use Rattle.pearl_parse.proofs.Comes.{fills_symbol, fills_name, fills_maybe}
 use Rattle.pearl_parse.proofs.Made.{semicolon, body_declaration_made}
 use Rattle.pearl_parse.proofs.ModulesMade.{block_made, task_made, procedure_made}
 use Rattle.pearl_parse.proofs.NestedRests.{closing_rest}
 use Rattle.pearl_parse.proofs.Tails.{semicolon_fills, name_fills, end_fills, inner_fills, block_fills}
 use Rattle.pearl_parse.proofs.NestedLeast.{inner_of}
-use Rattle.pearl_parse.proofs.States.{State, first, raised, past_word, past_symbol, past_name, past_part, past_first}
-use Rattle.pearl_parse.proofs.States.{halt_token, halt_part, halt_first, done, goes_in_told}
+use Rattle.pearl_parse.proofs.States.{past_word, past_symbol, past_name, past_first}
+use Rattle.pearl_parse.proofs.States.{halt_token, halt_first}
 
 -- ---- more room
 
@@ -97,10 +98,10 @@ items_are_local = local_of 2 Items (λ tokens others k alike. list_keeps tokens 
     (item_keeps tokens others k alike))
 
 -- id id ";"
-items_fill : Fills 3 (Then Items semicolon)
+items_fill : Fills 3 (Next Items semicolon)
 items_fill =
-    fills_as 3 (Then SpellsName (Then SpellsName semicolon)) (fills_name 2 (Then SpellsName semicolon) name_fills)
-    (Then Items semicolon)
+    fills_as 3 (Next SpellsName (Next SpellsName semicolon)) (fills_name 2 (Next SpellsName semicolon) name_fills)
+    (Next Items semicolon)
     (λ others k to h.
     let second = h.3 in (
       record {
@@ -121,20 +122,20 @@ module _ (tokens : List Token) (from : ℕ) (inside : from ≤ length tokens) (f
   abbrev pub Declaring : Rest → ℕ → ℕ → Type 0
   Declaring = State 24 SpellsBodyDecl tokens from 0
 
-  body_declaration_first : Declaring (BehindWord w.DCL (Then Items semicolon)) from from
-  body_declaration_first = first 24 SpellsBodyDecl tokens from 0 (BehindWord w.DCL (Then Items semicolon)) from from
+  body_declaration_first : Declaring (BehindWord w.DCL (Next Items semicolon)) from from
+  body_declaration_first = first 24 SpellsBodyDecl tokens from 0 (BehindWord w.DCL (Next Items semicolon)) from from
       body_declaration_made (omega arith) (omega arith) (omega arith) inside few
 
   pub no_dcl : (halt : Halt) → IsMissing tokens (is_word w.DCL) from from halt →
       HaltsBehind 24 SpellsBodyDecl tokens from 0 halt
   no_dcl halt h =
-      halt_token 24 SpellsBodyDecl tokens from 0 4 (BehindWord w.DCL (Then Items semicolon))
-      (fills_word 3 (Then Items semicolon) items_fill w.DCL (omega arith)) (omega arith) (is_word w.DCL) from from halt
+      halt_token 24 SpellsBodyDecl tokens from 0 4 (BehindWord w.DCL (Next Items semicolon))
+      (fills_word 3 (Next Items semicolon) items_fill w.DCL (omega arith)) (omega arith) (is_word w.DCL) from from halt
       body_declaration_first h
 
   module _ (here : HasWord tokens from w.DCL) (within : from < length tokens) where
-    items_begun : Declaring (Then Items semicolon) (from + 1) from
-    items_begun = past_word 24 SpellsBodyDecl tokens from 0 w.DCL (Then Items semicolon) from from (from + 1)
+    items_begun : Declaring (Next Items semicolon) (from + 1) from
+    items_begun = past_word 24 SpellsBodyDecl tokens from 0 w.DCL (Next Items semicolon) from from (from + 1)
         (omega arith) body_declaration_first here within
 
     pub items_halt : (halt : Halt) → IsHalted Items tokens (from + 1) halt → HaltsIn 16 Items tokens (from + 1) halt →
@@ -180,7 +181,7 @@ module _ (tokens : List Token) (from low : ℕ) (inside : from ≤ length tokens
   Blocking = State 24 SpellsBlock tokens from low
 
   abbrev pub opened : Rest
-  opened = Then (SpellsInner limit.NESTED_MAX) (closing_rest w.END)
+  opened = Next (SpellsInner limit.NESTED_MAX) (closing_rest w.END)
 
   block_first : Blocking (BehindSymbol s.SEMICOLON opened) from low
   block_first = first 24 SpellsBlock tokens from low (BehindSymbol s.SEMICOLON opened) 0 low block_made (omega arith)
@@ -248,16 +249,16 @@ abbrev pub Params : List Token → Spelling (List Param)
 Params tokens = SpellsMaybeBracketed tokens (SpellsParam tokens)
 
 abbrev pub block_rest : Rest
-block_rest = Then SpellsBlock Ends
+block_rest = Next SpellsBlock Ends
 
 abbrev pub returns_rest : Rest
-returns_rest = Then (Maybe SpellsReturns) block_rest
+returns_rest = Next (Maybe SpellsReturns) block_rest
 
 abbrev pub proc_rest : Rest
-proc_rest = BehindWord w.PROC (Then Params returns_rest)
+proc_rest = BehindWord w.PROC (Next Params returns_rest)
 
 abbrev pub task_rest : Rest
-task_rest = BehindWord w.TASK (Then SpellsTaskHead block_rest)
+task_rest = BehindWord w.TASK (Next SpellsTaskHead block_rest)
 
 pub block_is_local : IsLocal SpellsBlock
 block_is_local = local_of 3 SpellsBlock block_keeps
@@ -276,22 +277,22 @@ params_are_local = local_of 0 Params (λ tokens others k alike. maybe_bracketed_
 returns_fill : Fills 3 returns_rest
 returns_fill = fills_maybe 3 block_rest block_fills SpellsReturns
 
-params_fill : Fills 3 (Then Params returns_rest)
-params_fill = fills_as 3 returns_rest returns_fill (Then Params returns_rest) (λ others k to h. ([], k, refl, h))
+params_fill : Fills 3 (Next Params returns_rest)
+params_fill = fills_as 3 returns_rest returns_fill (Next Params returns_rest) (λ others k to h. ([], k, refl, h))
 
 proc_fills : Fills 4 proc_rest
-proc_fills = fills_word 3 (Then Params returns_rest) params_fill w.PROC (omega arith)
+proc_fills = fills_word 3 (Next Params returns_rest) params_fill w.PROC (omega arith)
 
 module _ (tokens : List Token) (from : ℕ) (few : length tokens < 2 ^ 55) where
   abbrev pub Unit_ : Rest → ℕ → ℕ → Type 0
   Unit_ = State 24 SpellsDecl tokens from 0
 
   module _ (name : Name) (named : IsName tokens from name) (inside : from < length tokens) where
-    colon_next : (rest : Rest) → Makes SpellsDecl (Then SpellsName (BehindSymbol s.COLON rest)) →
+    colon_next : (rest : Rest) → Makes SpellsDecl (Next SpellsName (BehindSymbol s.COLON rest)) →
         Unit_ (BehindSymbol s.COLON rest) (from + 1) from
     colon_next rest makes =
         past_name 24 SpellsDecl tokens from 0 name (BehindSymbol s.COLON rest) from from (from + 1) (omega arith)
-        (first 24 SpellsDecl tokens from 0 (Then SpellsName (BehindSymbol s.COLON rest)) from from makes (omega arith)
+        (first 24 SpellsDecl tokens from 0 (Next SpellsName (BehindSymbol s.COLON rest)) from from makes (omega arith)
         (omega arith) (omega arith) (omega arith) few) named inside
 
     pub no_colon : (halt : Halt) → IsMissing tokens (is_symbol s.COLON) (from + 1) from halt →
@@ -303,7 +304,7 @@ module _ (tokens : List Token) (from : ℕ) (few : length tokens < 2 ^ 55) where
         (colon_next proc_rest procedure_made) h
 
     module _ (colon : HasSymbol tokens (from + 1) s.COLON) (within : from + 1 < length tokens) where
-      word_next : (rest : Rest) → Makes SpellsDecl (Then SpellsName (BehindSymbol s.COLON rest)) →
+      word_next : (rest : Rest) → Makes SpellsDecl (Next SpellsName (BehindSymbol s.COLON rest)) →
           Unit_ rest (from + 2) from
       word_next rest makes = past_symbol 24 SpellsDecl tokens from 0 s.COLON rest (from + 1) from (from + 2)
           (omega arith) (colon_next rest makes) colon within
@@ -323,7 +324,7 @@ module _ (tokens : List Token) (from : ℕ) (few : length tokens < 2 ^ 55) where
         past_head here x end stop h ahead near reach g =
             past_first 24 SpellsDecl tokens from 0 3 16 SpellsTaskHead block_rest head_is_local block_fills
             (omega arith) (from + 3) from (omega arith)
-            (past_word 24 SpellsDecl tokens from 0 w.TASK (Then SpellsTaskHead block_rest) (from + 2) from (from + 3)
+            (past_word 24 SpellsDecl tokens from 0 w.TASK (Next SpellsTaskHead block_rest) (from + 2) from (from + 3)
             (omega arith) (word_next task_rest task_made) here inner) x end stop h ahead reach (omega arith) near g
 
         pub past_params : HasWord tokens (from + 2) w.PROC → (xs : List Param) (end stop : ℕ) →
@@ -332,7 +333,7 @@ module _ (tokens : List Token) (from : ℕ) (few : length tokens < 2 ^ 55) where
         past_params here xs end stop h ahead near reach g =
             past_first 24 SpellsDecl tokens from 0 3 9 Params returns_rest params_are_local returns_fill (omega arith)
             (from + 3) from (omega arith)
-            (past_word 24 SpellsDecl tokens from 0 w.PROC (Then Params returns_rest) (from + 2) from (from + 3)
+            (past_word 24 SpellsDecl tokens from 0 w.PROC (Next Params returns_rest) (from + 2) from (from + 3)
             (omega arith) (word_next proc_rest procedure_made) here inner) xs end stop h ahead reach (omega arith)
             near g
 

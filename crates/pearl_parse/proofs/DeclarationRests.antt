@@ -12,7 +12,8 @@ use Rattle.pearl_parse_expr.specs.Stops.{IsLongest, Stuck, is_name, is_word}
 use Rattle.pearl_parse_decl.specs.Readings.{by_bracket}
 use Rattle.pearl_parse_expr.proofs.Offered.{clash}
 use Rattle.pearl_parse.specs.Modules.{begins_declaration, declaration_begins}
-use Rattle.pearl_parse.proofs.Steps.{Rest, Goes, past}
+use Rattle.pearl_grammar.proofs.Offered.{Rest}
+use Rattle.pearl_parse.proofs.Steps.{Goes, past}
 use Rattle.pearl_parse.proofs.BlockRests.{Params, Returned, block_rest, task_rest, returns_rest, proc_rest}
 use Rattle.pearl_parse.proofs.BlockRests.{returns_stop, params_stop, longest_later}
 

@@ -17,13 +17,13 @@ use Rattle.pearl_parse_expr.proofs.Offered.{each_one_more}
 use Rattle.pearl_parse_decl.proofs.Offered.{Kept}
 use Rattle.pearl_parse.specs.Stops.{begins_statement}
 use Rattle.pearl_parse.specs.Bodies.{SpellsHeaded}
-use Rattle.pearl_parse.specs.Reached.{GoesBehind}
+use Rattle.pearl_grammar.specs.Reached.{GoesBehind}
 use Rattle.pearl_parse.specs.Reads.{ReadsBehind, ReadsListBehind}
 use Rattle.pearl_parse.proofs.Repetitions.{EachGoes, each_next, each_ends}
 use Rattle.pearl_parse.proofs.RepeatedLeast.{none_least, next_least, end_least}
 use Rattle.pearl_parse.proofs.Choices.{ChoicesGo, choices_begin, choices_next}
 use Rattle.pearl_parse.proofs.NestedLeast.{branch_kept}
-use Rattle.pearl_parse.proofs.States.{goes_in_told, halts_in}
+use Rattle.pearl_grammar.proofs.Offered.{goes_in_told, halts_in}
 
 -- { part }, read up to number `end` behind what was stopped at `low`
 pub record EachRead {X : Type 0} (part : List Token → Spelling X) (begins : Option What → Bool) (tokens : List Token)

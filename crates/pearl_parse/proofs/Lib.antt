@@ -1,11 +1,15 @@
 mod Steps
 mod ByFirst
+mod Along
+mod Starts
 mod Repetitions
 mod StatementRests
 mod Before
 mod TransferRests
 mod CallRests
+mod Arguments
 mod ScheduleRests
+mod Activations
 mod TaskingRests
 mod WhenRests
 mod Words

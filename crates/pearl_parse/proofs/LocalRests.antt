@@ -1,7 +1,7 @@
 -- Which tokens the parts of statements depend on that are read for themselves: those before their end alone.
 use Rattle.std.proofs.Common.{◌≡◌, ℕ, ◌+◌, ◌<◌, List, ◌∙◌, arith}
 use Rattle.pearl_tree.specs.declared.token.Token.{Token}
-use Rattle.pearl_tree.specs.Standing.{Spelling, what_at, SpellsName, SpellsMaybe}
+use Rattle.pearl_tree.specs.Standing.{Spelling, what_at, SpellsMaybe}
 use Rattle.pearl_tree.specs.Expressions.{SpellsWhole}
 use Rattle.pearl_tree.specs.Formats.{SpellsFmt}
 use Rattle.pearl_tree.specs.Statements.{SpellsAfter, SpellsFor, SpellsBodyDecl, SpellsStmt}
@@ -10,7 +10,7 @@ use Rattle.pearl_parse_expr.specs.Least.{AlikeBefore}
 use Rattle.pearl_parse_expr.proofs.Offered as local
 use Rattle.pearl_parse_decl.proofs.Offered.{Keeps}
 use Rattle.pearl_parse_decl.proofs.Offered as offered
-use Rattle.pearl_parse.specs.Stops.{SpellsBefore, SpellsNameList, SpellsFormats, SpellsStation}
+use Rattle.pearl_parse.specs.Stops.{SpellsBefore, SpellsFormats, SpellsStation}
 use Rattle.pearl_parse.specs.Calls.{SpellsArguments}
 use Rattle.pearl_parse.specs.Bodies.{SpellsStatements, SpellsInner, SpellsCondition, SpellsHeads}
 use Rattle.pearl_parse.proofs.LocalStatements.{after_keeps, maybe_list_keeps, for_keeps, body_declaration_keeps}
@@ -19,9 +19,6 @@ use Rattle.pearl_parse.proofs.LocalStatements.{stmt_keeps}
 module _ (tokens others : List Token) (k : ℕ) (alike : AlikeBefore tokens others k) where
   what : (j : ℕ) → j < k → what_at others j ≡ what_at tokens j
   what = local.what tokens others k alike
-
-  pub name_list_keeps : Keeps tokens others k 1 SpellsNameList
-  name_list_keeps = offered.list_keeps tokens others k alike 1 SpellsName (offered.name_keeps tokens others k alike)
 
   pub before_keeps : {X : Type 0} (word : ℕ) (spells : List Token → Spelling X) → Keeps tokens others k 1 spells →
       Keeps tokens others k 1 (SpellsBefore word spells)

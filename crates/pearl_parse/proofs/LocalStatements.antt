@@ -1,9 +1,6 @@
 -- Which tokens schedules, statements and bodies depend on: those before their end alone.
-use Rattle.std.proofs.Common.{◌≡◌, ℕ, ◌+◌, ◌-◌, ◌<◌, ◌≤◌, inl, inr, List, [], ◌∷◌, ◌∙◌, arith}
+use Rattle.std.proofs.Common.{◌≡◌, ℕ, ◌+◌, ◌-◌, ◌<◌, ◌≤◌, List, [], ◌∷◌, ◌∙◌, arith}
 use Rattle.pearl_tree.specs.declared.name.Name.{Name}
-use Rattle.pearl_tree.specs.declared.statement.PeriodEnd.TheVariants.{Until, During}
-use Rattle.pearl_tree.specs.declared.statement.Start.TheVariants as start
-use Rattle.pearl_tree.specs.declared.statement.Once.TheVariants as once
 use Rattle.pearl_tree.specs.declared.statement.Body.{Body}
 use Rattle.pearl_tree.specs.declared.statement.Stmt.{Stmt, Empty, Assign, Call, If', Case', Repeat', Exit, Begin'}
 use Rattle.pearl_tree.specs.declared.statement.Stmt.{Return, Activate, Continue, Resume, OnTask, OnSemas, OnInterrupt}
@@ -14,12 +11,12 @@ use Rattle.pearl_tree.specs.declared.statement.Case as case_
 use Rattle.pearl_tree.specs.declared.statement.Case.{Row_of-Branch, end_of-Branch, more_of-Branch}
 use Rattle.pearl_tree.specs.declared.token.Token.{Token}
 use Rattle.pearl_tree.specs.declared.limit.TheConstants as limit
-use Rattle.pearl_tree.specs.Standing.{Spelling, what_at, place_at, IsName, SpellsName, SpellsMaybe, SpellsEach}
+use Rattle.pearl_tree.specs.Standing.{Spelling, what_at, place_at, IsName, SpellsMaybe, SpellsEach}
 use Rattle.pearl_tree.specs.Standing.{SpellsList}
 use Rattle.pearl_tree.specs.Expressions.{SpellsWhole, SpellsOwnRef}
 use Rattle.pearl_tree.specs.Formats.{SpellsFmt}
 use Rattle.pearl_tree.specs.Declarations.{SpellsItem}
-use Rattle.pearl_tree.specs.Statements.{HasBecomes, SpellsAfter, SpellsFor, SpellsValue, SpellsMaybeList}
+use Rattle.pearl_tree.specs.Statements.{SpellsAfter, SpellsFor, SpellsMaybeList}
 use Rattle.pearl_tree.specs.Statements.{SpellsPeriodEnd, SpellsPeriod, SpellsStart, SpellsOnce, SpellsBodyDecl}
 use Rattle.pearl_tree.specs.Statements.{SpellsStmt, SpellsStmts, SpellsAlternatives, SpellsMoreAlternatives}
 use Rattle.pearl_tree.specs.Statements.{SpellsOtherwise, SpellsBranch, SpellsBody, SpellsWholeBody}
@@ -28,6 +25,7 @@ use Rattle.pearl_parse_expr.specs.Least.{AlikeBefore}
 use Rattle.pearl_parse_expr.proofs.Offered as local
 use Rattle.pearl_parse_decl.proofs.Offered.{Keeps}
 use Rattle.pearl_parse_decl.proofs.Offered as offered
+use Rattle.pearl_grammar.proofs.Offered as by_rule
 
 module _ (tokens others : List Token) (k : ℕ) (alike : AlikeBefore tokens others k) where
   what : (j : ℕ) → j < k → what_at others j ≡ what_at tokens j
@@ -39,9 +37,6 @@ module _ (tokens others : List Token) (k : ℕ) (alike : AlikeBefore tokens othe
   name : (j : ℕ) (x : Name) → j < k → IsName tokens j x → IsName others j x
   name = local.name tokens others k alike
 
-  name_keeps : Keeps tokens others k 1 SpellsName
-  name_keeps = offered.name_keeps tokens others k alike
-
   whole_keeps : Keeps tokens others k 1 SpellsWhole
   whole_keeps = offered.whole_keeps tokens others k alike
 
@@ -50,10 +45,6 @@ module _ (tokens others : List Token) (k : ℕ) (alike : AlikeBefore tokens othe
 
   formats_keep : Keeps tokens others k 1 (λ tokens. SpellsList tokens (SpellsFmt tokens))
   formats_keep = offered.list_keeps tokens others k alike 1 SpellsFmt (offered.fmt_keeps tokens others k alike)
-
-  becomes : (j : ℕ) → j < k → HasBecomes tokens j → HasBecomes others j
-  becomes j below (inl h) = inl (what j below ∙ h)
-  becomes j below (inr h) = inr (what j below ∙ h)
 
   -- ---- parts of statements
 
@@ -70,12 +61,6 @@ module _ (tokens others : List Token) (k : ℕ) (alike : AlikeBefore tokens othe
       let below : from + 1 < k = omega (arith, h.2) in
       (omega (arith, h.2), (what from (omega arith) ∙ h.0, name (from + 1) x below h.1, h.2))
 
-  pub value_keeps : Keeps tokens others k 3 SpellsValue
-  value_keeps from x to h near =
-      let below : h.0 < k = omega (arith, h.4) in
-      let part = whole_keeps (from + 1) x h.0 h.2 (omega arith) in
-      (omega (arith, part.0, h.4), (h.0, what from (omega (arith, part.0)) ∙ h.1, part.1, what h.0 below ∙ h.3, h.4))
-
   pub maybe_list_keeps : {X : Type 0} (spells : List Token → Spelling X) → Keeps tokens others k 1 spells →
       Keeps tokens others k 0 (λ tokens. SpellsMaybeList tokens (spells tokens))
   maybe_list_keeps spells keeps from [] to h near = (omega (arith, h), h)
@@ -84,55 +69,16 @@ module _ (tokens others : List Token) (k : ℕ) (alike : AlikeBefore tokens othe
       (omega (arith, part.0), part.1)
 
   pub period_end_keeps : Keeps tokens others k 2 SpellsPeriodEnd
-  period_end_keeps from (Until x at) to h near =
-      let part = after_keeps w.UNTIL from x to h.1 near in (part.0, (place from (omega (arith, part.0)) ∙ h.0, part.1))
-  period_end_keeps from (During x at) to h near =
-      let part = after_keeps w.DURING from x to h.1 near in (part.0, (place from (omega (arith, part.0)) ∙ h.0, part.1))
+  period_end_keeps = by_rule.period_end.kept tokens others k alike
 
   pub period_keeps : Keeps tokens others k 2 SpellsPeriod
-  period_keeps from x to h near =
-      let last = offered.maybe_keeps tokens others k alike 2 SpellsPeriodEnd period_end_keeps h.0 x.end to h.3 near in
-      let part = after_keeps w.ALL from x.duration h.0 h.2 (omega (arith, last.0)) in
-      (omega (arith, part.0, last.0), (h.0, place from (omega (arith, part.0, last.0)) ∙ h.1, part.1, last.1))
-
-  maybe_period : Keeps tokens others k 0 (λ tokens. SpellsMaybe (SpellsPeriod tokens))
-  maybe_period = offered.maybe_keeps tokens others k alike 2 SpellsPeriod period_keeps
+  period_keeps = by_rule.period.kept tokens others k alike
 
   pub start_keeps : Keeps tokens others k 2 SpellsStart
-  start_keeps from (start.At x period at) to h near =
-      let last = maybe_period h.0 period to h.3 near in
-      let part = after_keeps w.AT from x h.0 h.2 (omega (arith, last.0)) in
-      (omega (arith, part.0, last.0), (h.0, place from (omega (arith, part.0, last.0)) ∙ h.1, part.1, last.1))
-  start_keeps from (start.After x period at) to h near =
-      let last = maybe_period h.0 period to h.3 near in
-      let part = after_keeps w.AFTER from x h.0 h.2 (omega (arith, last.0)) in
-      (omega (arith, part.0, last.0), (h.0, place from (omega (arith, part.0, last.0)) ∙ h.1, part.1, last.1))
-  start_keeps from (start.When interrupt after period at) to h near =
-      let last = maybe_period h.0 period to h.5 near in
-      let part = maybe_after w.AFTER (from + 2) after h.0 h.4 (omega (arith, last.0)) in
-      let below : from + 1 < k = omega (arith, part.0, last.0) in (
-        omega (arith, part.0, last.0),
-        (
-          h.0,
-          place from (omega arith) ∙ h.1,
-          what from (omega arith) ∙ h.2,
-          name (from + 1) interrupt below h.3,
-          part.1,
-          last.1,
-        ),
-      )
-  start_keeps from (start.All period) to h near = period_keeps from period to h near
+  start_keeps = by_rule.start.kept tokens others k alike
 
   pub once_keeps : Keeps tokens others k 2 SpellsOnce
-  once_keeps from (once.At x at) to h near =
-      let part = after_keeps w.AT from x to h.1 near in (part.0, (place from (omega (arith, part.0)) ∙ h.0, part.1))
-  once_keeps from (once.After x at) to h near =
-      let part = after_keeps w.AFTER from x to h.1 near in (part.0, (place from (omega (arith, part.0)) ∙ h.0, part.1))
-  once_keeps from (once.When interrupt at) to h near =
-      let below : from + 1 < k = omega (arith, h.3) in (
-        omega (arith, h.3),
-        (place from (omega arith) ∙ h.0, what from (omega arith) ∙ h.1, name (from + 1) interrupt below h.2, h.3),
-      )
+  once_keeps = by_rule.once.kept tokens others k alike
 
   pub body_declaration_keeps : Keeps tokens others k 2 SpellsBodyDecl
   body_declaration_keeps from x to h near =
@@ -160,44 +106,9 @@ module _ (tokens others : List Token) (k : ℕ) (alike : AlikeBefore tokens othe
   mutual
     pub stmt_keeps : (depth from : ℕ) (x : Stmt) (to : ℕ) → SpellsStmt tokens depth from x to → to ≤ k →
         (from + 1 ≤ to) × SpellsStmt others depth from x to
-    stmt_keeps depth from (Empty at) to h near =
-        let below : from < k = omega (arith, h.2) in
-        (omega (arith, h.2), (place from below ∙ h.0, what from below ∙ h.1, h.2))
-    stmt_keeps depth from (Assign part) to h near =
-        let below : h.1 < k = omega (arith, h.7) in
-        let value = whole_keeps (h.0 + 1) part.value.value h.1 h.5 (omega arith) in
-        let target = own_ref_keeps from part.value.target h.0 h.3 (omega (arith, value.0)) in
-        let between : (from < h.0) × (h.0 < h.1) = (omega (arith, target.0), omega (arith, value.0)) in (
-          omega (arith, between, h.7),
-          (
-            h.0,
-            h.1,
-            place from (omega (arith, between)) ∙ h.2,
-            target.1,
-            becomes h.0 (omega (arith, between)) h.4,
-            value.1,
-            what h.1 below ∙ h.6,
-            h.7,
-          ),
-        )
-    stmt_keeps depth from (Call part) to h near =
-        let below : h.1 < k = omega (arith, h.7) in
-        let list = offered.maybe_bracketed_keeps tokens others k alike 1 SpellsWhole whole_keeps (h.0 + 1)
-        part.value.arguments.items.items h.1 h.5 (omega arith) in
-        let call = offered.flag_keeps tokens others k alike w.CALL from part.value.call h.0 h.3 (omega (arith, list.0)) in
-        let between : (from ≤ h.0) × (h.0 < h.1) = (omega (arith, call.0), omega (arith, list.0)) in (
-          omega (arith, between, h.7),
-          (
-            h.0,
-            h.1,
-            place from (omega (arith, between)) ∙ h.2,
-            call.1,
-            name h.0 part.value.name (omega (arith, between)) h.4,
-            list.1,
-            what h.1 below ∙ h.6,
-            h.7,
-          ),
-        )
+    stmt_keeps depth from (Empty at) to h near = by_rule.empty_keeps depth tokens others k alike from at to h near
+    stmt_keeps depth from (Assign part) to h near = by_rule.assign_keeps depth tokens others k alike from part to h near
+    stmt_keeps depth from (Call part) to h near = by_rule.call_keeps depth tokens others k alike from part to h near
     stmt_keeps depth from (If' _ (if_.If' condition _ statements otherwise at)) to h near =
         let below : h.2 + 1 < k = omega (arith, h.11) in
         let other = otherwise_keeps (depth - 1) w.ELSE h.1 otherwise h.2 h.8 (omega arith) in
@@ -275,17 +186,7 @@ module _ (tokens others : List Token) (k : ℕ) (alike : AlikeBefore tokens othe
             h.17,
           ),
         )
-    stmt_keeps depth from (Exit at) to h near =
-        let below : from + 1 < k = omega (arith, h.3) in (
-          omega (arith, h.3),
-          (
-            place from (omega arith) ∙ h.0,
-            what from (omega arith) ∙ h.1,
-            what (from + 1) below ∙
-                h.2,
-            h.3,
-          ),
-        )
+    stmt_keeps depth from (Exit at) to h near = by_rule.exit_keeps depth tokens others k alike from at to h near
     stmt_keeps depth from (Begin' _ declared _ statements body_at at) to h near =
         let below : h.0 + 1 < k = omega (arith, h.7) in
         let inner = stmts_keep (depth - 1) h.4.0 _ statements h.0 h.4.3 (omega arith) in
@@ -303,112 +204,18 @@ module _ (tokens others : List Token) (k : ℕ) (alike : AlikeBefore tokens othe
             h.7,
           ),
         )
-    stmt_keeps depth from (Return part) to h near =
-        let below : h.0 < k = omega (arith, h.5) in
-        let value = offered.maybe_keeps tokens others k alike 3 SpellsValue value_keeps (from + 1) part.value.value h.0
-        h.3 (omega arith) in
-        let behind : from < h.0 = omega (arith, value.0) in (
-          omega (arith, h.5),
-          (
-            h.0,
-            place from (omega arith) ∙ h.1,
-            what from (omega arith) ∙ h.2,
-            value.1,
-            what h.0 below ∙ h.4,
-            h.5,
-          ),
-        )
-    stmt_keeps depth from (Activate part) to h near =
-        let below : h.1 < k = omega (arith, h.8) in
-        let priority = maybe_after w.PRIO (h.0 + 2) part.value.priority h.1 h.6 (omega arith) in
-        let within : h.0 + 1 < h.1 = omega (arith, priority.0) in
-        let start = offered.maybe_keeps tokens others k alike 2 SpellsStart start_keeps from part.value.start h.0 h.3
-        (omega arith) in
-        let behind : from ≤ h.0 = omega (arith, start.0) in (
-          omega (arith, h.8),
-          (
-            h.0,
-            h.1,
-            place from (omega arith) ∙ h.2,
-            start.1,
-            what h.0 (omega arith) ∙ h.4,
-            name (h.0 + 1) part.value.task (omega arith) h.5,
-            priority.1,
-            what h.1 below ∙ h.7,
-            h.8,
-          ),
-        )
-    stmt_keeps depth from (Continue part) to h near =
-        let below : h.0 + 2 < k = omega (arith, h.6) in
-        let once = offered.maybe_keeps tokens others k alike 2 SpellsOnce once_keeps from part.value.once h.0 h.2
-        (omega arith) in
-        let behind : from ≤ h.0 = omega (arith, once.0) in (
-          omega (arith, h.6),
-          (
-            h.0,
-            place from (omega arith) ∙ h.1,
-            once.1,
-            what h.0 (omega arith) ∙ h.3,
-            name (h.0 + 1) part.value.task (omega arith) h.4,
-            what (h.0 + 2) below ∙ h.5,
-            h.6,
-          ),
-        )
-    stmt_keeps depth from (Resume part) to h near =
-        let below : h.0 + 1 < k = omega (arith, h.5) in
-        let once = once_keeps from part.value.once h.0 h.2 (omega arith) in
-        let behind : from ≤ h.0 = omega (arith, once.0) in (
-          omega (arith, h.5),
-          (
-            h.0,
-            place from (omega arith) ∙ h.1,
-            once.1,
-            what h.0 (omega arith) ∙ h.3,
-            what (h.0 + 1) below ∙ h.4,
-            h.5,
-          ),
-        )
-    stmt_keeps depth from (OnTask part) to h near =
-        let below : h.0 < k = omega (arith, h.5) in
-        let task = offered.maybe_keeps tokens others k alike 1 SpellsName name_keeps (from + 1) part.value.task h.0 h.3
-        (omega arith) in
-        let behind : from < h.0 = omega (arith, task.0) in (
-          omega (arith, h.5),
-          (
-            h.0,
-            place from (omega arith) ∙ h.1,
-            what from (omega arith) ∙ h.2,
-            task.1,
-            what h.0 below ∙ h.4,
-            h.5,
-          ),
-        )
-    stmt_keeps depth from (OnSemas part) to h near =
-        let below : h.0 < k = omega (arith, h.5) in
-        let names = offered.list_keeps tokens others k alike 1 SpellsName name_keeps (from + 1)
-        part.value.names.items.items h.0 h.3 (omega arith) in
-        let behind : from < h.0 = omega (arith, names.0) in (
-          omega (arith, h.5),
-          (
-            h.0,
-            place from (omega arith) ∙ h.1,
-            what from (omega arith) ∙ h.2,
-            names.1,
-            what h.0 below ∙ h.4,
-            h.5,
-          ),
-        )
-    stmt_keeps depth from (OnInterrupt part) to h near =
-        let below : from + 2 < k = omega (arith, h.4) in (
-          omega (arith, h.4),
-          (
-            place from (omega arith) ∙ h.0,
-            what from (omega arith) ∙ h.1,
-            name (from + 1) part.value.name (omega arith) h.2,
-            what (from + 2) below ∙ h.3,
-            h.4,
-          ),
-        )
+    stmt_keeps depth from (Return part) to h near = by_rule.return_keeps depth tokens others k alike from part to h near
+    stmt_keeps depth from (Activate part) to h near = by_rule.activate_keeps depth tokens others k alike from part to h
+        near
+    stmt_keeps depth from (Continue part) to h near = by_rule.continue_keeps depth tokens others k alike from part to h
+        near
+    stmt_keeps depth from (Resume part) to h near = by_rule.resume_keeps depth tokens others k alike from part to h near
+    stmt_keeps depth from (OnTask part) to h near = by_rule.on_task_keeps depth tokens others k alike from part to h
+        near
+    stmt_keeps depth from (OnSemas part) to h near = by_rule.on_semas_keeps depth tokens others k alike from part to h
+        near
+    stmt_keeps depth from (OnInterrupt part) to h near = by_rule.on_interrupt_keeps depth tokens others k alike from
+        part to h near
     stmt_keeps depth from (Put part) to h near =
         let below : h.1 < k = omega (arith, h.10) in
         let formats = formats_keep (h.0 + 3) part.value.formats.items.items h.1 h.8 (omega arith) in
@@ -453,37 +260,8 @@ module _ (tokens others : List Token) (k : ℕ) (alike : AlikeBefore tokens othe
             h.10,
           ),
         )
-    stmt_keeps depth from (Send part) to h near =
-        let below : h.0 + 2 < k = omega (arith, h.6) in
-        let value = after_keeps w.SEND from part.value.value h.0 h.2 (omega arith) in
-        let behind : from < h.0 = omega (arith, value.0) in (
-          omega (arith, h.6),
-          (
-            h.0,
-            place from (omega arith) ∙ h.1,
-            value.1,
-            what h.0 (omega arith) ∙ h.3,
-            name (h.0 + 1) part.value.dation (omega arith) h.4,
-            what (h.0 + 2) below ∙ h.5,
-            h.6,
-          ),
-        )
-    stmt_keeps depth from (Take part) to h near =
-        let below : h.0 + 2 < k = omega (arith, h.7) in
-        let target = own_ref_keeps (from + 1) part.value.target h.0 h.3 (omega arith) in
-        let behind : from < h.0 = omega (arith, target.0) in (
-          omega (arith, h.7),
-          (
-            h.0,
-            place from (omega arith) ∙ h.1,
-            what from (omega arith) ∙ h.2,
-            target.1,
-            what h.0 (omega arith) ∙ h.4,
-            name (h.0 + 1) part.value.dation (omega arith) h.5,
-            what (h.0 + 2) below ∙ h.6,
-            h.7,
-          ),
-        )
+    stmt_keeps depth from (Send part) to h near = by_rule.send_keeps depth tokens others k alike from part to h near
+    stmt_keeps depth from (Take part) to h near = by_rule.take_keeps depth tokens others k alike from part to h near
 
     stmts_keep : (depth from : ℕ) (n : _) (row : Row_of-Stmt n) (to : ℕ) → SpellsStmts tokens depth from row to →
         to ≤ k →

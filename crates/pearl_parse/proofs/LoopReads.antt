@@ -11,14 +11,14 @@ use Rattle.pearl_parse_expr.specs.declared.reading.Reading.{Reading}
 use Rattle.pearl_parse_expr.specs.Stops.{extends_expression}
 use Rattle.pearl_parse_expr.specs.Reads.{ReadsOnly}
 use Rattle.pearl_parse.specs.declared.loops.Heads.{Heads}
-use Rattle.pearl_parse.specs.Stops.{IsStopped}
+use Rattle.pearl_grammar.specs.Reached.{IsStopped, HaltsBehind}
 use Rattle.pearl_parse.specs.Bodies.{SpellsOptionalFor, SpellsHeads}
-use Rattle.pearl_parse.specs.Reached.{HaltsBehind}
 use Rattle.pearl_parse_expr.specs.Reads.{ReadsOnlyMaybe}
 use Rattle.pearl_parse.specs.Reads.{ReadsBehind}
-use Rattle.pearl_parse.proofs.Steps.{Rest, Then, Avoids, past, past_only, no_part}
+use Rattle.pearl_grammar.proofs.Offered.{Rest, Next, Fills}
+use Rattle.pearl_parse.proofs.Steps.{Avoids, past, past_only, no_part}
 use Rattle.pearl_parse.proofs.ScheduleMade.{After}
-use Rattle.pearl_parse.proofs.Comes.{Fills, Maybe}
+use Rattle.pearl_parse.proofs.Comes.{Maybe}
 use Rattle.pearl_parse.proofs.LoopRests.{Optional, from_rest, by_rest, to_rest, while_rest, repeat_word, heads_goes}
 use Rattle.pearl_parse.proofs.LoopRests.{avoids_by, avoids_to, avoids_while, avoids_repeat}
 use Rattle.pearl_parse.proofs.LoopLeast.{from_head, by_head, to_head, while_head, repeat_word as repeat_behind}
@@ -45,7 +45,7 @@ module _ (tokens : List Token) (from : ℕ) where
   }
 
   module _ (word : ℕ) (rest made : Rest) (fills : Fills 1 made) (at stop : ℕ)
-      (a : HeadsAt (Then (Optional word) rest) (Then (Maybe (After word)) made) at stop) where
+      (a : HeadsAt (Next (Optional word) rest) (Next (Maybe (After word)) made) at stop) where
     pub past_optional : Avoids extends_expression rest → (x : Reading (Option Expr)) →
         ReadsBehind 8 (Maybe (After word)) (Optional word) (Maybe (After word)) extends_expression tokens at at stop
         (Ok x) → HeadsAt rest made x.end x.stop

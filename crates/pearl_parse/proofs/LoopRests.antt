@@ -12,7 +12,8 @@ use Rattle.pearl_parse_expr.specs.Stops.{extends_expression, is_word}
 use Rattle.pearl_parse.specs.declared.loops.Heads.{Heads}
 use Rattle.pearl_parse.specs.Stops.{SpellsOptional}
 use Rattle.pearl_parse.specs.Bodies.{is_one, SpellsOptionalFor, SpellsHeads}
-use Rattle.pearl_parse.proofs.Steps.{Rest, Then, Avoids, Goes}
+use Rattle.pearl_grammar.proofs.Offered.{Rest, Next}
+use Rattle.pearl_parse.proofs.Steps.{Avoids, Goes}
 use Rattle.pearl_parse.proofs.Words.{OfEach, one_holds, one_more, is_that}
 
 -- [ word expr ], where the word stands
@@ -23,19 +24,19 @@ abbrev pub repeat_word : Rest
 repeat_word others at to = HasWord others at w.REPEAT × (to ≡ at + 1)
 
 abbrev pub while_rest : Rest
-while_rest = Then (Optional w.WHILE) repeat_word
+while_rest = Next (Optional w.WHILE) repeat_word
 
 abbrev pub to_rest : Rest
-to_rest = Then (Optional w.TO) while_rest
+to_rest = Next (Optional w.TO) while_rest
 
 abbrev pub by_rest : Rest
-by_rest = Then (Optional w.BY) to_rest
+by_rest = Next (Optional w.BY) to_rest
 
 abbrev pub from_rest : Rest
-from_rest = Then (Optional w.FROM) by_rest
+from_rest = Next (Optional w.FROM) by_rest
 
 abbrev pub heads_rest : Rest
-heads_rest = Then SpellsOptionalFor from_rest
+heads_rest = Next SpellsOptionalFor from_rest
 
 -- the words with which each of these begins
 abbrev repeat_first : List ℕ
@@ -61,7 +62,7 @@ repeat_begins : BeginsBy repeat_first repeat_word
 repeat_begins = λ others at to h. ap (is_one repeat_first) h.0
 
 optional_begins : (word : ℕ) (words : List ℕ) (rest : Rest) → BeginsBy words rest →
-    BeginsBy (word ∷ words) (Then (Optional word) rest)
+    BeginsBy (word ∷ words) (Next (Optional word) rest)
 optional_begins word words rest begins = λ others at to h. by others at to h.0 h.1 h.2 h.3
   where
     by : (others : List Token) (at to : ℕ) (x : Option Expr) (m : ℕ) → Optional word others at x m → rest others m to →

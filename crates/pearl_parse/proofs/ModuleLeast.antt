@@ -22,10 +22,11 @@ use Rattle.pearl_parse_decl.proofs.Offered.{Kept, local_of, each_keeps, maybe_ke
 use Rattle.pearl_parse.specs.Stops.{IsMissing}
 use Rattle.pearl_parse.specs.Modules.{SpellsOptionalName, SpellsHead, SpellsOpening, SpellsClose, SpellsSource, is_end}
 use Rattle.pearl_parse.specs.Modules.{begins_module_name}
-use Rattle.pearl_parse.specs.Reached.{GoesBehind, HaltsBehind}
-use Rattle.pearl_parse.proofs.Steps.{Rest, Ends, Then}
+use Rattle.pearl_grammar.specs.Reached.{GoesBehind, HaltsBehind}
+use Rattle.pearl_grammar.proofs.Offered.{Rest, Ends, Next, Fills, Makes, ends_fill, fills_as, State, first, past_part}
+use Rattle.pearl_grammar.proofs.Offered.{halt_part}
 use Rattle.pearl_parse.proofs.LocalModules.{module_name_keeps, system_keeps, decl_keeps}
-use Rattle.pearl_parse.proofs.Comes.{Fills, BehindWord, BehindSymbol, Maybe, Makes, ends_fill, fills_as, fills_word}
+use Rattle.pearl_parse.proofs.Comes.{BehindWord, BehindSymbol, Maybe, fills_word}
 use Rattle.pearl_parse.proofs.Comes.{fills_symbol, fills_name, fills_maybe}
 use Rattle.pearl_parse.proofs.ModulesMade.{module_made}
 use Rattle.pearl_parse.proofs.Made.{semicolon}
@@ -33,15 +34,15 @@ use Rattle.pearl_parse.proofs.Tails.{fills_each, semicolon_fills, bracket_fills}
 use Rattle.pearl_parse.proofs.NestedLeast.{told_from}
 use Rattle.pearl_parse.proofs.DeclarationLeast.{as_rest}
 use Rattle.pearl_parse.proofs.Optional.{maybe_of}
-use Rattle.pearl_parse.proofs.States.{State, first, past_word, past_symbol, past_name, past_part, past_first}
-use Rattle.pearl_parse.proofs.States.{halt_token, halt_part, halt_first, halts_behind_as}
+use Rattle.pearl_parse.proofs.States.{past_word, past_symbol, past_name, past_first}
+use Rattle.pearl_parse.proofs.States.{halt_token, halt_first, halts_behind_as}
 
 -- ---- "(" id ")"
 
 abbrev closing : Rest
 closing = BehindSymbol s.RIGHT_ROUND Ends
 
-bracketed_made : Makes (Maybe SpellsModuleName) (BehindSymbol s.LEFT_ROUND (Then SpellsName closing))
+bracketed_made : Makes (Maybe SpellsModuleName) (BehindSymbol s.LEFT_ROUND (Next SpellsName closing))
 bracketed_made others from to small h =
     let name = h.1 in
     let two : name.1 ≡ from + 2 = omega (arith, name.2.1) in (
@@ -56,17 +57,17 @@ bracketed_made others from to small h =
 
 module _ (tokens : List Token) (from : ℕ) (here : HasSymbol tokens from s.LEFT_ROUND) (inside : from < length tokens)
     (few : length tokens < 2 ^ 55) where
-  bracket_begun : State 16 (Maybe SpellsModuleName) tokens from 0 (Then SpellsName closing) (from + 1) from
+  bracket_begun : State 16 (Maybe SpellsModuleName) tokens from 0 (Next SpellsName closing) (from + 1) from
   bracket_begun =
-      past_symbol 16 (Maybe SpellsModuleName) tokens from 0 s.LEFT_ROUND (Then SpellsName closing) from from (from + 1)
+      past_symbol 16 (Maybe SpellsModuleName) tokens from 0 s.LEFT_ROUND (Next SpellsName closing) from from (from + 1)
       (omega arith)
-      (first 16 (Maybe SpellsModuleName) tokens from 0 (BehindSymbol s.LEFT_ROUND (Then SpellsName closing)) from from
+      (first 16 (Maybe SpellsModuleName) tokens from 0 (BehindSymbol s.LEFT_ROUND (Next SpellsName closing)) from from
       bracketed_made (omega arith) (omega arith) (omega arith) (omega arith) few) here inside
 
   pub no_bracketed : (halt : Halt) → IsMissing tokens is_name (from + 1) from halt → HaltsBehind 16
       (Maybe SpellsModuleName) tokens from 0 halt
   no_bracketed halt h =
-      halt_token 16 (Maybe SpellsModuleName) tokens from 0 2 (Then SpellsName closing)
+      halt_token 16 (Maybe SpellsModuleName) tokens from 0 2 (Next SpellsName closing)
       (fills_name 1 closing bracket_fills) (omega arith) is_name (from + 1) from halt bracket_begun h
 
   pub no_bracket : (name : Name) → IsName tokens (from + 1) name → from + 1 < length tokens → (halt : Halt) →
@@ -85,7 +86,7 @@ name_is_local = local_of 0 (Maybe SpellsModuleName) (λ tokens others k alike. m
     SpellsModuleName (module_name_keeps tokens others k alike))
 
 abbrev named : Rest
-named = Then (Maybe SpellsModuleName) semicolon
+named = Next (Maybe SpellsModuleName) semicolon
 
 title_made : Makes SpellsHead (BehindWord w.MODULE named)
 title_made others from to small h = (h.1.0, (h.1.1, h.0, h.1.2, h.1.3.0, h.1.3.1))
@@ -129,7 +130,7 @@ module _ (tokens : List Token) (from : ℕ) (inside : from ≤ length tokens) (f
 -- ---- MODEND [ ";" ]
 
 abbrev flagged : Rest
-flagged = Then (λ tokens. SpellsSymbolFlag tokens s.SEMICOLON) Ends
+flagged = Next (λ tokens. SpellsSymbolFlag tokens s.SEMICOLON) Ends
 
 flag_fills : Fills 0 flagged
 flag_fills = fills_as 0 Ends ends_fill flagged (λ others k to h. (false, k, refl, h))
@@ -225,15 +226,15 @@ decls_are_local = local_of 0 Decls (λ tokens others k alike. each_keeps tokens 
     (decl_keeps tokens others k alike))
 
 abbrev close_rest : Rest
-close_rest = Then SpellsClose Ends
+close_rest = Next SpellsClose Ends
 
 abbrev decls_rest : Rest
-decls_rest = Then Decls close_rest
+decls_rest = Next Decls close_rest
 
 abbrev opened_rest : Rest
-opened_rest = Then SpellsOpening decls_rest
+opened_rest = Next SpellsOpening decls_rest
 
-tree_made : Makes SpellsTree (Then SpellsHead opened_rest)
+tree_made : Makes SpellsTree (Next SpellsHead opened_rest)
 tree_made others from to small h =
     let t = h.2 in
     let o = h.3 in
@@ -293,8 +294,8 @@ module _ (tokens : List Token) (few : length tokens < 2 ^ 55) where
   abbrev pub Module : Rest → ℕ → ℕ → Type 0
   Module = State 24 SpellsTree tokens 0 0
 
-  module_first : Module (Then SpellsHead opened_rest) 0 0
-  module_first = first 24 SpellsTree tokens 0 0 (Then SpellsHead opened_rest) 0 0 tree_made (omega arith) (omega arith)
+  module_first : Module (Next SpellsHead opened_rest) 0 0
+  module_first = first 24 SpellsTree tokens 0 0 (Next SpellsHead opened_rest) 0 0 tree_made (omega arith) (omega arith)
       (omega arith) (omega arith) few
 
   pub head_halts : (halt : Halt) → IsHalted SpellsHead tokens 0 halt → HaltsIn 16 SpellsHead tokens 0 halt → HaltsBehind

@@ -18,7 +18,8 @@ use Rattle.pearl_parse_expr.specs.Stops.{IsLongest, IsOnly, is_name, is_symbol, 
 use Rattle.pearl_parse_expr.proofs.Offered.{no_token, clash}
 use Rattle.pearl_parse.specs.Modules.{begins_declaration, begins_module_name, SpellsOptionalName, SpellsHead}
 use Rattle.pearl_parse.specs.Modules.{SpellsOptionalSystem, SpellsOpening, SpellsEnding, SpellsSource, is_end}
-use Rattle.pearl_parse.proofs.Steps.{Rest, Ends, Then, Goes, Avoids, past, past_only}
+use Rattle.pearl_grammar.proofs.Offered.{Rest, Ends, Next}
+use Rattle.pearl_parse.proofs.Steps.{Goes, Avoids, past, past_only}
 use Rattle.pearl_parse.proofs.StatementRests.{exit_rest}
 use Rattle.pearl_parse.proofs.BlockRests.{longest_later}
 
@@ -31,7 +32,7 @@ bracketed_rest others at to =
 
 -- [ "(" id ")" | id ] ";"
 abbrev pub name_rest : Rest
-name_rest = Then SpellsOptionalName exit_rest
+name_rest = Next SpellsOptionalName exit_rest
 
 -- MODULE [ "(" id ")" | id ] ";"
 abbrev pub head_rest : Rest
@@ -101,14 +102,14 @@ abbrev pub Devices : List Token → Spelling (List Device)
 Devices tokens = SpellsEach (SpellsDevice tokens)
 
 abbrev pub devices_rest : Rest
-devices_rest others at to = HasSymbol others at s.SEMICOLON × Then Devices Ends others (at + 1) to
+devices_rest others at to = HasSymbol others at s.SEMICOLON × Next Devices Ends others (at + 1) to
 
 -- PROBLEM ";"
 abbrev pub problem_rest : Rest
 problem_rest others at to = HasWord others at w.PROBLEM × HasSymbol others (at + 1) s.SEMICOLON × (to ≡ at + 2)
 
 abbrev pub opening_rest : Rest
-opening_rest = Then SpellsOptionalSystem problem_rest
+opening_rest = Next SpellsOptionalSystem problem_rest
 
 pub problem_stops : Avoids is_name problem_rest
 problem_stops others at to h = ap is_name h.0
@@ -184,16 +185,16 @@ abbrev pub Declarations : List Token → Spelling (List Decl)
 Declarations tokens = SpellsEach (SpellsDecl tokens)
 
 abbrev pub last_rest : Rest
-last_rest = Then SpellsEnding Ends
+last_rest = Next SpellsEnding Ends
 
 abbrev pub list_rest : Rest
-list_rest = Then Declarations last_rest
+list_rest = Next Declarations last_rest
 
 abbrev pub problems_rest : Rest
-problems_rest = Then SpellsOpening list_rest
+problems_rest = Next SpellsOpening list_rest
 
 abbrev pub source_rest : Rest
-source_rest = Then SpellsHead problems_rest
+source_rest = Next SpellsHead problems_rest
 
 pub ending_stops : Avoids begins_declaration last_rest
 ending_stops others at to h = ap begins_declaration h.2.0

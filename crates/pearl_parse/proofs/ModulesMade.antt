@@ -25,8 +25,8 @@ use Rattle.pearl_parse_decl.proofs.Offered.{param_keeps, returns_keep}
 use Rattle.pearl_parse_decl.proofs.Offered as lists
 use Rattle.pearl_parse.specs.Bodies.{SpellsInner}
 use Rattle.pearl_parse.specs.Modules.{SpellsSource}
-use Rattle.pearl_parse.proofs.Steps.{Ends, Then}
-use Rattle.pearl_parse.proofs.Comes.{BehindWord, BehindSymbol, Maybe, Makes}
+use Rattle.pearl_grammar.proofs.Offered.{Ends, Next, Makes}
+use Rattle.pearl_parse.proofs.Comes.{BehindWord, BehindSymbol, Maybe}
 use Rattle.pearl_parse.proofs.Made.{semicolon, word_within}
 use Rattle.pearl_parse.proofs.NestedRests.{closing_rest}
 use Rattle.pearl_parse.proofs.NestedMade.{body_made}
@@ -52,7 +52,7 @@ flag_after others from x to h =
     omega (arith, far.0)
 
 -- ";" body END ";"
-pub block_made : Makes SpellsBlock (BehindSymbol s.SEMICOLON (Then (SpellsInner limit.NESTED_MAX) (closing_rest w.END)))
+pub block_made : Makes SpellsBlock (BehindSymbol s.SEMICOLON (Next (SpellsInner limit.NESTED_MAX) (closing_rest w.END)))
 block_made others from to small h =
     let a = h.1.1 in
     let close = h.1.3 in
@@ -63,7 +63,7 @@ block_made others from to small h =
     h.1.0 h.1.2 in
     (body.0, (a, h.0, body.1, close.2.0, close.2.1, omega (arith, close.2.2, close.3)))
 
-pub specify_made : Makes SpellsDecl (BehindWord w.SPC (Then (λ tokens. SpellsList tokens (SpellsSpec tokens))
+pub specify_made : Makes SpellsDecl (BehindWord w.SPC (Next (λ tokens. SpellsList tokens (SpellsSpec tokens))
     semicolon))
 specify_made others from to small h =
     let at = placed others from (what.Word w.SPC) h.0 in
@@ -72,8 +72,8 @@ specify_made others from to small h =
     let few : length h.1.0 < 2 ^ 63 = omega (arith, long, h.1.3.1) in
     (decl.Specify (parts_of h.1.0 few) at.0, (h.1.1, at.1, h.0, h.1.2, h.1.3.0, h.1.3.1))
 
-pub task_made : Makes SpellsDecl (Then SpellsName
-    (BehindSymbol s.COLON (BehindWord w.TASK (Then SpellsTaskHead (Then SpellsBlock Ends)))))
+pub task_made : Makes SpellsDecl (Next SpellsName
+    (BehindSymbol s.COLON (BehindWord w.TASK (Next SpellsTaskHead (Next SpellsBlock Ends)))))
 task_made others from to small h =
     let name = h.2 in
     let rest = h.3.1.1 in
@@ -93,9 +93,9 @@ task_made others from to small h =
       ),
     )
 
-pub procedure_made : Makes SpellsDecl (Then SpellsName
-    (BehindSymbol s.COLON (BehindWord w.PROC (Then (λ tokens. SpellsMaybeBracketed tokens (SpellsParam tokens))
-    (Then (Maybe SpellsReturns) (Then SpellsBlock Ends))))))
+pub procedure_made : Makes SpellsDecl (Next SpellsName
+    (BehindSymbol s.COLON (BehindWord w.PROC (Next (λ tokens. SpellsMaybeBracketed tokens (SpellsParam tokens))
+    (Next (Maybe SpellsReturns) (Next SpellsBlock Ends))))))
 procedure_made others from to small h =
     let name = h.2 in
     let params = h.3.1.1 in
@@ -126,9 +126,9 @@ procedure_made others from to small h =
 
 -- MODULE [ name ] ";" [ system ] PROBLEM ";" { decl } MODEND [ ";" ]
 pub module_made : Makes SpellsTree
-    (BehindWord w.MODULE (Then (Maybe SpellsModuleName) (BehindSymbol s.SEMICOLON (Then (Maybe SpellsSystem)
-    (BehindWord w.PROBLEM (BehindSymbol s.SEMICOLON (Then (λ tokens. SpellsEach (SpellsDecl tokens))
-    (BehindWord w.MODEND (Then (λ tokens. SpellsSymbolFlag tokens s.SEMICOLON) Ends)))))))))
+    (BehindWord w.MODULE (Next (Maybe SpellsModuleName) (BehindSymbol s.SEMICOLON (Next (Maybe SpellsSystem)
+    (BehindWord w.PROBLEM (BehindSymbol s.SEMICOLON (Next (λ tokens. SpellsEach (SpellsDecl tokens))
+    (BehindWord w.MODEND (Next (λ tokens. SpellsSymbolFlag tokens s.SEMICOLON) Ends)))))))))
 module_made others from to small h =
     let at = placed others from (what.Word w.MODULE) h.0 in
     let name = h.1 in

@@ -20,14 +20,14 @@ use Rattle.pearl_parse_expr.proofs.Offered.{IsLocal}
 use Rattle.pearl_parse_decl.proofs.Offered.{Kept, local_of, maybe_keeps, each_keeps, some_keeps}
 use Rattle.pearl_parse.specs.declared.loops.Heads.{Heads}
 use Rattle.pearl_parse.specs.Bodies.{SpellsStatements, SpellsCondition, SpellsClosing, SpellsHeads, SpellsInner}
-use Rattle.pearl_parse.specs.Reached.{GoesBehind, HaltsBehind}
-use Rattle.pearl_parse.proofs.Steps.{Rest, Ends, Then}
+use Rattle.pearl_grammar.specs.Reached.{GoesBehind, HaltsBehind}
+use Rattle.pearl_grammar.proofs.Offered.{Rest, Ends, Next, Makes, ends_fill, fills_as, state_reaches, State, first}
+use Rattle.pearl_grammar.proofs.Offered.{raised, past_part, halt_part, done, goes_in_told}
 use Rattle.pearl_parse.proofs.StatementRests.{Spelled}
 use Rattle.pearl_parse.proofs.StatementLeast.{by_rule}
 use Rattle.pearl_parse.proofs.LocalStatements.{stmt_keeps, branch_keeps, body_declaration_keeps}
 use Rattle.pearl_parse.proofs.LocalRests.{statements_keep, inner_keeps, condition_keeps, heads_keep}
-use Rattle.pearl_parse.proofs.Comes.{BehindWord, Maybe, Makes, come_made, ends_fill, fills_as}
-use Rattle.pearl_parse.proofs.Comes.{state_reaches}
+use Rattle.pearl_parse.proofs.Comes.{BehindWord, Maybe, come_made}
 use Rattle.pearl_parse.proofs.Made.{semicolon, empty_made}
 use Rattle.pearl_parse.proofs.Tails.{fills_statements, fills_choices, semicolon_fills, closing_fills, fin_fills}
 use Rattle.pearl_parse.proofs.Tails.{otherwise_fills, then_fills, alternatives_fill, inner_fills}
@@ -35,8 +35,8 @@ use Rattle.pearl_parse.proofs.NestedMade.{branch_made, if_made, case_made, begin
 use Rattle.pearl_parse.proofs.NestedRests.{closing_rest}
 use Rattle.pearl_parse.proofs.ScheduleMade.{After}
 use Rattle.pearl_parse.proofs.ScheduleLeast.{after_is_local}
-use Rattle.pearl_parse.proofs.States.{State, first, raised, past_word, past_part, past_first, halt_part, halt_first}
-use Rattle.pearl_parse.proofs.States.{done, goes_in_told, told_as, some_reaches}
+use Rattle.pearl_parse.proofs.States.{past_word, past_first, halt_first}
+use Rattle.pearl_parse.proofs.States.{told_as, some_reaches}
 
 -- ---- what the parts depend on
 
@@ -99,16 +99,16 @@ choices_are_local depth =
 -- ---- what is left behind the first parts
 
 abbrev pub Other : ℕ → ℕ → Rest
-Other depth word = Then (Maybe (BranchOf depth word)) (closing_rest w.FIN)
+Other depth word = Next (Maybe (BranchOf depth word)) (closing_rest w.FIN)
 
 abbrev pub Thens : ℕ → Rest
-Thens depth = Then (SpellsStatements depth) (Other depth w.ELSE)
+Thens depth = Next (SpellsStatements depth) (Other depth w.ELSE)
 
 abbrev pub Chosen : ℕ → Rest
-Chosen depth = Then (Choices depth) (Other depth w.OUT)
+Chosen depth = Next (Choices depth) (Other depth w.OUT)
 
 abbrev pub Inside : ℕ → Rest
-Inside depth = Then (SpellsInner depth) (closing_rest w.END)
+Inside depth = Next (SpellsInner depth) (closing_rest w.END)
 
 -- ---- what is told no earlier than at `low`
 
@@ -135,13 +135,13 @@ module _ {X : Type 0} (room : ℕ) (whole : List Token → Spelling X) (tokens :
 module _ (tokens : List Token) (depth word from low : ℕ) where
   branch_begun : from < length tokens → length tokens < 2 ^ 55 → HasWord tokens from word → (new : ℕ) →
       new ≡ max low (from + 1) →
-      State 24 (BranchOf depth word) tokens from low (Then (SpellsStatements depth) Ends) (from + 1) new
+      State 24 (BranchOf depth word) tokens from low (Next (SpellsStatements depth) Ends) (from + 1) new
   branch_begun inside few here new is =
-      told_from 24 (BranchOf depth word) tokens from low (Then (SpellsStatements depth) Ends) (from + 1) low (from + 1)
+      told_from 24 (BranchOf depth word) tokens from low (Next (SpellsStatements depth) Ends) (from + 1) low (from + 1)
       new
-      (past_word 24 (BranchOf depth word) tokens from low word (Then (SpellsStatements depth) Ends) from low (from + 1)
+      (past_word 24 (BranchOf depth word) tokens from low word (Next (SpellsStatements depth) Ends) from low (from + 1)
       (omega arith)
-      (first 24 (BranchOf depth word) tokens from low (BehindWord word (Then (SpellsStatements depth) Ends)) 0 low
+      (first 24 (BranchOf depth word) tokens from low (BehindWord word (Next (SpellsStatements depth) Ends)) 0 low
       (branch_made depth word) (omega arith) (omega arith) (omega arith) (omega arith) few) here inside)
       (omega (arith, is)) (omega arith)
 
@@ -167,9 +167,9 @@ module _ (tokens : List Token) (depth word from low : ℕ) where
 module _ (tokens : List Token) (depth from : ℕ) (inside : from ≤ length tokens) (few : length tokens < 2 ^ 55) where
   bare_choice : ReachesIn 24 (Choices depth) tokens from from
   bare_choice =
-      state_reaches (Choices depth) tokens from 24 1 (Then (Choices depth) Ends) from
+      state_reaches (Choices depth) tokens from 24 1 (Next (Choices depth) Ends) from
       (fills_choices 0 Ends ends_fill depth) (omega arith) (omega arith) (omega arith) inside few
-      (come_made (Choices depth) tokens from (Then (Choices depth) Ends)
+      (come_made (Choices depth) tokens from (Next (Choices depth) Ends)
       (λ others from to small h. (h.0, subst (λ k. Choices depth others from h.0 k) (sym h.3) h.2)))
 
   pub no_choice_least : (low : ℕ) → from ≤ low → HaltsBehind 24 (Choices depth) tokens from low (Refused low)
@@ -202,7 +202,7 @@ module _ (tokens : List Token) (depth from : ℕ) (inside : from ≤ length toke
 
 -- ---- { DCL item { "," item } ";" } { stmt }
 
-inner_made : (depth : ℕ) → Makes (SpellsInner depth) (Then Declared (Then (SpellsStatements depth) Ends))
+inner_made : (depth : ℕ) → Makes (SpellsInner depth) (Next Declared (Next (SpellsStatements depth) Ends))
 inner_made depth others from to small h =
     ((h.0, h.3.0), (h.1, h.2, subst (λ k. SpellsStatements depth others h.1 h.3.0 k) (sym h.3.3) h.3.2))
 
@@ -212,10 +212,10 @@ module _ (tokens : List Token) (depth from low : ℕ) (inside : from ≤ length 
     from,
     omega arith,
     inside,
-    state_reaches (SpellsInner depth) tokens from 24 0 (Then Declared (Then (SpellsStatements depth) Ends)) from
-        (fills_as 0 Ends ends_fill (Then Declared (Then (SpellsStatements depth) Ends))
+    state_reaches (SpellsInner depth) tokens from 24 0 (Next Declared (Next (SpellsStatements depth) Ends)) from
+        (fills_as 0 Ends ends_fill (Next Declared (Next (SpellsStatements depth) Ends))
         (λ others k to h. ([], k, refl, ([], k, refl, h)))) (omega arith) (omega arith) (omega arith) inside few
-        (come_made (SpellsInner depth) tokens from (Then Declared (Then (SpellsStatements depth) Ends))
+        (come_made (SpellsInner depth) tokens from (Next Declared (Next (SpellsStatements depth) Ends))
         (inner_made depth)),
     omega arith,
   )
@@ -229,9 +229,9 @@ module _ (tokens : List Token) (depth from low : ℕ) (inside : from ≤ length 
       done 24 (SpellsInner depth) tokens from low end stop stop
       (past_part 24 (SpellsInner depth) tokens from low 0 24 (SpellsStatements depth) Ends (statements_are_local depth)
       ends_fill (omega arith) middle new (omega arith)
-      (past_part 24 (SpellsInner depth) tokens from low 0 24 Declared (Then (SpellsStatements depth) Ends)
+      (past_part 24 (SpellsInner depth) tokens from low 0 24 Declared (Next (SpellsStatements depth) Ends)
       declared_are_local (fills_statements 0 Ends ends_fill depth) (omega arith) from low (omega arith)
-      (first 24 (SpellsInner depth) tokens from low (Then Declared (Then (SpellsStatements depth) Ends)) 0 low
+      (first 24 (SpellsInner depth) tokens from low (Next Declared (Next (SpellsStatements depth) Ends)) 0 low
       (inner_made depth) (omega arith) (omega arith) (omega arith) inside few)
       ds middle new d first_ahead first_within (own, first_near, g, is))
       xs end stop h ahead within t) (omega arith)
@@ -319,8 +319,8 @@ module _ (tokens : List Token) (depth from : ℕ) where
 
   module _ (inside : from < length tokens) (few : length tokens < 2 ^ 55) (deep : 0 < depth) where
     -- IF
-    if_first : In (Then SpellsCondition (Thens (depth - 1))) from from
-    if_first = by_rule tokens depth from inside few (Then SpellsCondition (Thens (depth - 1))) (if_made depth deep)
+    if_first : In (Next SpellsCondition (Thens (depth - 1))) from from
+    if_first = by_rule tokens depth from inside few (Next SpellsCondition (Thens (depth - 1))) (if_made depth deep)
 
     pub if_halts : (halt : Halt) → IsHalted SpellsCondition tokens from halt →
         HaltsIn 16 SpellsCondition tokens from halt → HaltsBehind 24 (Spelled depth) tokens from 0 halt
@@ -336,8 +336,8 @@ module _ (tokens : List Token) (depth from : ℕ) where
         near g
 
     -- CASE
-    case_first : In (Then (After w.CASE) (Chosen (depth - 1))) from from
-    case_first = by_rule tokens depth from inside few (Then (After w.CASE) (Chosen (depth - 1))) (case_made depth deep)
+    case_first : In (Next (After w.CASE) (Chosen (depth - 1))) from from
+    case_first = by_rule tokens depth from inside few (Next (After w.CASE) (Chosen (depth - 1))) (case_made depth deep)
 
     pub case_halts : (halt : Halt) → HaltsBehind 8 (After w.CASE) tokens from from halt →
         HaltsBehind 24 (Spelled depth) tokens from 0 halt
@@ -350,8 +350,8 @@ module _ (tokens : List Token) (depth from : ℕ) where
         (after_is_local w.CASE) (alternatives_fill (depth - 1)) (omega arith) from from (omega arith) case_first
 
     -- loops
-    repeat_first : In (Then SpellsHeads (Inside (depth - 1))) from from
-    repeat_first = by_rule tokens depth from inside few (Then SpellsHeads (Inside (depth - 1))) (repeat_made depth deep)
+    repeat_first : In (Next SpellsHeads (Inside (depth - 1))) from from
+    repeat_first = by_rule tokens depth from inside few (Next SpellsHeads (Inside (depth - 1))) (repeat_made depth deep)
 
     pub repeat_halts : (halt : Halt) → IsHalted SpellsHeads tokens from halt → HaltsIn 16 SpellsHeads tokens from halt →
         HaltsBehind 24 (Spelled depth) tokens from 0 halt

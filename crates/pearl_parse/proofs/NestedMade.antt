@@ -16,8 +16,8 @@ use Rattle.pearl_parse_expr.proofs.Offered.{placed, placed_within, boxed, parts_
 use Rattle.pearl_parse_decl.proofs.Offered.{after_of, each_long}
 use Rattle.pearl_parse_decl.proofs.Offered as lists
 use Rattle.pearl_parse.specs.Bodies.{SpellsStatements, SpellsCondition, SpellsHeads, SpellsInner}
-use Rattle.pearl_parse.proofs.Steps.{Ends, Then}
-use Rattle.pearl_parse.proofs.Comes.{BehindWord, Maybe, Makes}
+use Rattle.pearl_grammar.proofs.Offered.{Ends, Next, Makes}
+use Rattle.pearl_parse.proofs.Comes.{BehindWord, Maybe}
 use Rattle.pearl_parse.proofs.Made.{word_within}
 use Rattle.pearl_parse.proofs.NestedRests.{closing_rest, if_spelled, case_spelled, begin_spelled, repeat_spelled}
 use Rattle.pearl_parse.proofs.LocalStatements.{body_declaration_keeps, stmt_keeps, branch_keeps}
@@ -68,7 +68,7 @@ module _ (others : List Token) (depth : ℕ) where
 
 -- word { stmt }
 pub branch_made : (depth word : ℕ) → Makes (λ tokens. SpellsBranch tokens depth word)
-    (BehindWord word (Then (SpellsStatements depth) Ends))
+    (BehindWord word (Next (SpellsStatements depth) Ends))
 branch_made depth word others from to small h =
     let at = placed others from (what.Word word) h.0 in
     let long = statements_long others depth (from + 1) h.1.0 h.1.1 h.1.2 in
@@ -92,8 +92,8 @@ module _ (depth : ℕ) (deep : 0 < depth) where
   abbrev pub OtherBranch : ℕ → List Token → Spelling (Option Branch)
   OtherBranch word = Maybe (λ tokens. SpellsBranch tokens (depth - 1) word)
 
-  pub if_made : Makes Spelled (Then SpellsCondition (Then (SpellsStatements (depth - 1))
-      (Then (OtherBranch w.ELSE) (closing_rest w.FIN))))
+  pub if_made : Makes Spelled (Next SpellsCondition (Next (SpellsStatements (depth - 1))
+      (Next (OtherBranch w.ELSE) (closing_rest w.FIN))))
   if_made others from to small h =
       let at = placed others from (what.Word w.IF) h.2.1.0 in
       let inner = h.3 in
@@ -116,9 +116,9 @@ module _ (depth : ℕ) (deep : 0 < depth) where
             other.2 (close.2.0, close.2.1)),
       )
 
-  pub case_made : Makes Spelled (Then (λ tokens. SpellsAfter tokens w.CASE)
-      (Then (λ tokens. SpellsSome (SpellsBranch tokens (depth - 1) w.ALT))
-      (Then (OtherBranch w.OUT) (closing_rest w.FIN))))
+  pub case_made : Makes Spelled (Next (λ tokens. SpellsAfter tokens w.CASE)
+      (Next (λ tokens. SpellsSome (SpellsBranch tokens (depth - 1) w.ALT))
+      (Next (OtherBranch w.OUT) (closing_rest w.FIN))))
   case_made others from to small h =
       let at = placed others from (what.Word w.CASE) h.2.0 in
       let inner = h.3 in
@@ -147,7 +147,7 @@ module _ (depth : ℕ) (deep : 0 < depth) where
       let far = inner_keeps others others to (λ j below. refl) (depth - 1) from x to h (omega arith) in
       omega (arith, far.0)
 
-  pub begin_made : Makes Spelled (BehindWord w.BEGIN (Then (SpellsInner (depth - 1)) (closing_rest w.END)))
+  pub begin_made : Makes Spelled (BehindWord w.BEGIN (Next (SpellsInner (depth - 1)) (closing_rest w.END)))
   begin_made others from to small h =
       let at = placed others from (what.Word w.BEGIN) h.0 in
       let a = h.1.1 in
@@ -167,7 +167,7 @@ module _ (depth : ℕ) (deep : 0 < depth) where
             (begin_spelled others depth from at.0 at.1 deep box body.0 refl a h.0 body.1 (close.2.0, close.2.1)),
       )
 
-  pub repeat_made : Makes Spelled (Then SpellsHeads (Then (SpellsInner (depth - 1)) (closing_rest w.END)))
+  pub repeat_made : Makes Spelled (Next SpellsHeads (Next (SpellsInner (depth - 1)) (closing_rest w.END)))
   repeat_made others from to small h =
       let a = h.3.1 in
       let close = h.3.3 in

@@ -17,14 +17,15 @@ use Rattle.pearl_parse_expr.specs.Stops.{IsOnly, extends_expression}
 use Rattle.pearl_parse_expr.specs.Least.{GoesIn}
 use Rattle.pearl_parse_expr.specs.Reads.{ReadsOnly}
 use Rattle.pearl_parse.specs.declared.loops.Heads.{Heads}
-use Rattle.pearl_parse.specs.Stops.{IsStopped, begins_statement}
+use Rattle.pearl_grammar.specs.Reached.{IsStopped, HaltsBehind}
+use Rattle.pearl_parse.specs.Stops.{begins_statement}
 use Rattle.pearl_parse.specs.Bodies.{is_one, loop_words, extends_body, extends_alternatives, SpellsStatements}
 use Rattle.pearl_parse.specs.Bodies.{SpellsOptionalHeaded}
 use Rattle.pearl_parse.specs.Bodies.{SpellsChoices, SpellsBlock, SpellsClosing, SpellsCondition, SpellsHeads}
 use Rattle.pearl_parse.specs.Bodies.{SpellsInner}
-use Rattle.pearl_parse.specs.Reached.{HaltsBehind}
 use Rattle.pearl_parse.specs.Reads.{ReadsBehind, ReadsListBehind, ReadsNested}
-use Rattle.pearl_parse.proofs.Steps.{Rest, Ends, goes_longer, past, past_only, no_part, ends}
+use Rattle.pearl_grammar.proofs.Offered.{Rest, Ends}
+use Rattle.pearl_parse.proofs.Steps.{goes_longer, past, past_only, no_part, ends}
 use Rattle.pearl_parse.proofs.StatementRests.{Spelled}
 use Rattle.pearl_parse.proofs.ScheduleMade.{After}
 use Rattle.pearl_parse.proofs.Comes.{Maybe}

@@ -27,11 +27,13 @@ use Rattle.pearl_parse_expr.specs.declared.reading.Halt.TheVariants.{Refused, No
 use Rattle.pearl_parse_expr.specs.Stops.{IsOnly, IsHalted, is_word}
 use Rattle.pearl_parse_expr.proofs.Offered.{clash}
 use Rattle.pearl_parse.specs.declared.loops.Heads.{Heads}
-use Rattle.pearl_parse.specs.Stops.{IsStopped, begins_statement}
+use Rattle.pearl_grammar.specs.Reached.{IsStopped}
+use Rattle.pearl_parse.specs.Stops.{begins_statement}
 use Rattle.pearl_parse.specs.Bodies.{is_one, loop_words, SpellsStatements, SpellsOptionalHeaded, SpellsChoices}
 use Rattle.pearl_parse.specs.Bodies.{SpellsBlock, SpellsClosing, SpellsCondition, SpellsHeads}
 use Rattle.pearl_parse.proofs.ByFirst.{group, of_kind, stmt_begins}
-use Rattle.pearl_parse.proofs.Steps.{Rest, Ends, Then, Avoids, Goes}
+use Rattle.pearl_grammar.proofs.Offered.{Rest, Ends, Next}
+use Rattle.pearl_parse.proofs.Steps.{Avoids, Goes}
 use Rattle.pearl_parse.proofs.StatementRests.{Spelled}
 use Rattle.pearl_parse.proofs.Words.{one_holds}
 use Rattle.pearl_parse.proofs.RowLists.{statements_listed, choices_listed, otherwise_listed}
@@ -41,37 +43,37 @@ abbrev pub then_word : Rest
 then_word others at to = HasWord others at w.THEN × (to ≡ at + 1)
 
 pub condition_goes : (tokens : List Token) (from : ℕ) →
-    Goes SpellsCondition tokens from (Then (λ tokens. SpellsAfter tokens w.IF) then_word) from from
+    Goes SpellsCondition tokens from (Next (λ tokens. SpellsAfter tokens w.IF) then_word) from from
 condition_goes tokens from = λ others agree x to h. (x, h.0, h.1, (h.2, h.3))
 
 -- word ";"
 abbrev pub closing_rest : ℕ → Rest
-closing_rest word = Then (SpellsClosing word) Ends
+closing_rest word = Next (SpellsClosing word) Ends
 
 -- [ word { stmt } ] FIN ";"
 abbrev pub otherwise_rest : ℕ → ℕ → Rest
-otherwise_rest depth word = Then (SpellsOptionalHeaded depth word) (closing_rest w.FIN)
+otherwise_rest depth word = Next (SpellsOptionalHeaded depth word) (closing_rest w.FIN)
 
 -- { stmt } [ ELSE { stmt } ] FIN ";"
 abbrev pub then_rest : ℕ → Rest
-then_rest depth = Then (SpellsStatements depth) (otherwise_rest depth w.ELSE)
+then_rest depth = Next (SpellsStatements depth) (otherwise_rest depth w.ELSE)
 
 abbrev pub if_rest : ℕ → Rest
-if_rest depth = Then SpellsCondition (then_rest depth)
+if_rest depth = Next SpellsCondition (then_rest depth)
 
 -- ALT { stmt } { ALT { stmt } } [ OUT { stmt } ] FIN ";"
 abbrev pub choices_rest : ℕ → Rest
-choices_rest depth = Then (SpellsChoices depth) (otherwise_rest depth w.OUT)
+choices_rest depth = Next (SpellsChoices depth) (otherwise_rest depth w.OUT)
 
 abbrev pub case_rest : ℕ → Rest
-case_rest depth = Then (λ tokens. SpellsAfter tokens w.CASE) (choices_rest depth)
+case_rest depth = Next (λ tokens. SpellsAfter tokens w.CASE) (choices_rest depth)
 
 -- body END ";"
 abbrev pub block_rest : ℕ → Rest
-block_rest depth = Then (SpellsBlock depth) (closing_rest w.END)
+block_rest depth = Next (SpellsBlock depth) (closing_rest w.END)
 
 abbrev pub repeat_rest : ℕ → Rest
-repeat_rest depth = Then SpellsHeads (block_rest depth)
+repeat_rest depth = Next SpellsHeads (block_rest depth)
 
 -- with which tokens none of these goes on
 pub avoids_closing : (extends : Option What → Bool) (word : ℕ) → extends (Some (what.Word word)) ≡ false →

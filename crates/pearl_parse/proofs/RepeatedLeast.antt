@@ -7,7 +7,7 @@ use Rattle.pearl_parse_expr.specs.declared.reading.Halt.TheVariants.{Refused}
 use Rattle.pearl_parse_expr.specs.Least.{ReachesIn, GoesIn, HaltsIn}
 use Rattle.pearl_parse_expr.proofs.Offered.{order, reached_halt, each_goes_on}
 use Rattle.pearl_parse_decl.proofs.Offered.{Kept}
-use Rattle.pearl_parse.specs.Reached.{GoesBehind}
+use Rattle.pearl_grammar.specs.Reached.{GoesBehind}
 
 module _ {X : Type 0} (spells : List Token → Spelling X) (tokens : List Token) (from low : ℕ) where
   abbrev pub Each : List Token → Spelling (List X)

@@ -16,9 +16,6 @@ module _ {X : Type 0} (spells : List Token → Spelling X) (begins : Option What
       SpellsEach (spells others) from xs to →
       EndsEarly begins others end to ⊎ ((ys : List X) × SpellsEach (spells others) end ys to)
 
-  pub each_begins : (tokens : List Token) (from : ℕ) → EachGoes tokens from from from
-  each_begins tokens from = λ others agree xs to h. inr (xs, h)
-
   step : (others : List Token) (end next to : ℕ) → end < next → begins (what_at others end) ≡ true →
       ((x : X) (to : ℕ) → spells others end x to → to ≡ next) →
       EndsEarly begins others end to ⊎ ((ys : List X) × SpellsEach (spells others) end ys to) →

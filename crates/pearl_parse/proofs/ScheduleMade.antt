@@ -14,8 +14,8 @@ use Rattle.pearl_tree.specs.Statements.{SpellsAfter, SpellsPeriodEnd, SpellsPeri
 use Rattle.pearl_tree.specs.declared.word_code.TheConstants as w
 use Rattle.pearl_parse_expr.proofs.Offered.{placed}
 use Rattle.pearl_parse.specs.Schedules.{time_word}
-use Rattle.pearl_parse.proofs.Steps.{Rest, Ends, Then}
-use Rattle.pearl_parse.proofs.Comes.{BehindWord, Maybe, Makes}
+use Rattle.pearl_grammar.proofs.Offered.{Rest, Ends, Next, Makes}
+use Rattle.pearl_parse.proofs.Comes.{BehindWord, Maybe}
 use Rattle.pearl_parse.proofs.Made.{semicolon, activate_made, continue_made, resume_made}
 
 -- word expr
@@ -24,17 +24,17 @@ After word tokens = SpellsAfter tokens word
 
 -- ACTIVATE id [ PRIO expr ] ";"
 abbrev pub activation : Rest
-activation = BehindWord w.ACTIVATE (Then SpellsName (Then (Maybe (After w.PRIO)) semicolon))
+activation = BehindWord w.ACTIVATE (Next SpellsName (Next (Maybe (After w.PRIO)) semicolon))
 
 -- CONTINUE id ";"
 abbrev pub continuation : Rest
-continuation = BehindWord w.CONTINUE (Then SpellsName semicolon)
+continuation = BehindWord w.CONTINUE (Next SpellsName semicolon)
 
 -- RESUME ";"
 abbrev pub resumption : Rest
 resumption = BehindWord w.RESUME semicolon
 
-pub period_made : Makes SpellsPeriod (Then (After w.ALL) (Then (Maybe SpellsPeriodEnd) Ends))
+pub period_made : Makes SpellsPeriod (Next (After w.ALL) (Next (Maybe SpellsPeriodEnd) Ends))
 period_made others from to small h =
     let at = placed others from (what.Word w.ALL) h.2.0 in
     let last = h.3 in (
@@ -60,25 +60,25 @@ module _ (depth : ℕ) where
   abbrev Spelled : List Token → Spelling Stmt
   Spelled tokens = SpellsStmt tokens depth
 
-  pub timed_activation_made : (later : Bool) → Makes Spelled (Then (After (time_word later))
-      (Then (Maybe SpellsPeriod) activation))
+  pub timed_activation_made : (later : Bool) → Makes Spelled (Next (After (time_word later))
+      (Next (Maybe SpellsPeriod) activation))
   timed_activation_made later others from to small h =
       let period = h.3 in
       let begin = timed_start later others from h.0 h.1 period.0 period.1 h.2 period.2 in
       activate_made depth others from to small (Some begin.0, period.1, begin.1, period.3)
 
-  pub timed_continuation_made : (later : Bool) → Makes Spelled (Then (After (time_word later)) continuation)
+  pub timed_continuation_made : (later : Bool) → Makes Spelled (Next (After (time_word later)) continuation)
   timed_continuation_made later others from to small h =
       let begin = timed_once later others from h.0 h.1 h.2 in
       continue_made depth others from to small (Some begin.0, h.1, begin.1, h.3)
 
-  pub timed_resumption_made : (later : Bool) → Makes Spelled (Then (After (time_word later)) resumption)
+  pub timed_resumption_made : (later : Bool) → Makes Spelled (Next (After (time_word later)) resumption)
   timed_resumption_made later others from to small h =
       let begin = timed_once later others from h.0 h.1 h.2 in
       resume_made depth others from to small (begin.0, h.1, begin.1, h.3)
 
   pub when_activation_made : Makes Spelled
-      (BehindWord w.WHEN (Then SpellsName (Then (Maybe (After w.AFTER)) (Then (Maybe SpellsPeriod) activation))))
+      (BehindWord w.WHEN (Next SpellsName (Next (Maybe (After w.AFTER)) (Next (Maybe SpellsPeriod) activation))))
   when_activation_made others from to small h =
       let at = placed others from (what.Word w.WHEN) h.0 in
       let late = h.1.3 in
@@ -91,7 +91,7 @@ module _ (depth : ℕ) where
         period.3,
       )
 
-  pub when_continuation_made : Makes Spelled (BehindWord w.WHEN (Then SpellsName continuation))
+  pub when_continuation_made : Makes Spelled (BehindWord w.WHEN (Next SpellsName continuation))
   when_continuation_made others from to small h =
       let at = placed others from (what.Word w.WHEN) h.0 in
       continue_made depth others from to small (
@@ -101,7 +101,7 @@ module _ (depth : ℕ) where
         h.1.3,
       )
 
-  pub when_resumption_made : Makes Spelled (BehindWord w.WHEN (Then SpellsName resumption))
+  pub when_resumption_made : Makes Spelled (BehindWord w.WHEN (Next SpellsName resumption))
   when_resumption_made others from to small h =
       let at = placed others from (what.Word w.WHEN) h.0 in
       resume_made depth others from to small (
@@ -111,5 +111,5 @@ module _ (depth : ℕ) where
         h.1.3,
       )
 
-  pub periodic_made : Makes Spelled (Then SpellsPeriod activation)
+  pub periodic_made : Makes Spelled (Next SpellsPeriod activation)
   periodic_made others from to small h = activate_made depth others from to small (Some (start.All h.0), h.1, h.2, h.3)

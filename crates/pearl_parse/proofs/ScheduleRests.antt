@@ -20,18 +20,16 @@ use Rattle.pearl_parse_expr.specs.declared.reading.Halt.TheVariants.{Refused, No
 use Rattle.pearl_parse_expr.specs.Stops.{IsLongest, extends_expression, is_name, is_word}
 use Rattle.pearl_parse_expr.proofs.Offered.{shorter}
 use Rattle.pearl_parse_decl.proofs.Offered.{settled}
-use Rattle.pearl_parse.specs.Stops.{IsStopped}
+use Rattle.pearl_grammar.specs.Reached.{IsStopped}
 use Rattle.pearl_parse.specs.Schedules.{SpellsOptionalEnd, SpellsLongPeriod, SpellsOptionalPeriod}
 use Rattle.pearl_parse.specs.Schedules.{SpellsOptionalPriority, SpellsActivation, SpellsBegun}
 use Rattle.pearl_parse.proofs.ByFirst.{group, of_kind}
-use Rattle.pearl_parse.proofs.Steps.{Rest, Ends, Then, Goes, past}
-use Rattle.pearl_parse.proofs.StatementRests.{Spelled, exit_rest}
-
-abbrev pub priority_rest : Rest
-priority_rest = Then SpellsOptionalPriority exit_rest
+use Rattle.pearl_grammar.proofs.Offered.{Rest, Ends, Next}
+use Rattle.pearl_parse.proofs.Steps.{Goes, past}
+use Rattle.pearl_parse.proofs.StatementRests.{Spelled}
 
 abbrev pub activation_rest : Rest
-activation_rest = Then SpellsActivation Ends
+activation_rest = Next SpellsActivation Ends
 
 -- CONTINUE id ";"
 abbrev pub continue_rest : Rest
@@ -54,26 +52,16 @@ module _ (tokens : List Token) (from : ℕ) where
     h.3,
   )
 
-  pub begun_goes : (stop : ℕ) → Goes SpellsBegun tokens from (Then SpellsOptionalPeriod activation_rest) from stop
+  pub begun_goes : (stop : ℕ) → Goes SpellsBegun tokens from (Next SpellsOptionalPeriod activation_rest) from stop
   begun_goes stop = λ others agree x to h. (x.0, h.0, h.1, (x.1, to, h.2, refl))
 
-  pub activation_goes : (stop : ℕ) → Goes SpellsActivation tokens from priority_rest (from + 2) stop
-  activation_goes stop = λ others agree x to h. (x.1, h.0, h.3, (h.4, h.5))
-
-  -- behind the period and the priority
+  -- behind the period
   pub begun_goes_on : (low end stop : ℕ) → low ≤ stop →
       IsLongest SpellsOptionalPeriod extends_expression tokens from end stop →
       Goes SpellsBegun tokens from activation_rest end stop
   begun_goes_on low end stop near longest =
       past SpellsBegun tokens from SpellsOptionalPeriod extends_expression activation_rest from low end stop
       (begun_goes low) near longest (λ others at to h. ap extends_expression h.2.1)
-
-  pub activation_goes_on : (low end stop : ℕ) → low ≤ stop →
-      IsLongest SpellsOptionalPriority extends_expression tokens (from + 2) end stop →
-      Goes SpellsActivation tokens from exit_rest end stop
-  activation_goes_on low end stop near longest =
-      past SpellsActivation tokens from SpellsOptionalPriority extends_expression exit_rest (from + 2) low end stop
-      (activation_goes low) near longest (λ others at to h. ap extends_expression h.0)
 
 module _ (others : List Token) where
   pub priority_optional : (k : ℕ) (x : Option Expr) (b : ℕ) → SpellsMaybe (SpellsAfter others w.PRIO) k x b →

@@ -11,15 +11,15 @@ use Rattle.pearl_parse_expr.specs.Stops.{IsOnly, is_symbol}
 use Rattle.pearl_parse_expr.specs.Least.{GoesIn}
 use Rattle.pearl_parse_expr.specs.Reads.{ReadsOnly}
 use Rattle.pearl_parse_expr.proofs.Offered.{IsLocal}
-use Rattle.pearl_parse.specs.Stops.{IsMissing, IsStopped}
-use Rattle.pearl_parse.specs.Reached.{HaltsBehind}
+use Rattle.pearl_grammar.specs.Reached.{IsStopped, HaltsBehind}
+use Rattle.pearl_parse.specs.Stops.{IsMissing}
 use Rattle.pearl_parse.specs.Reads.{ReadsOnlyBehind}
-use Rattle.pearl_parse.proofs.Steps.{Rest, Ends, Then, Goes, past_only, missing, no_part, ends}
+use Rattle.pearl_grammar.proofs.Offered.{Rest, Ends, Next, ends_fill, State, past_part, halt_part, done, goes_in_told}
+use Rattle.pearl_parse.proofs.Steps.{Goes, past_only, missing, no_part, ends}
 use Rattle.pearl_parse.proofs.StatementRests.{exit_rest}
-use Rattle.pearl_parse.proofs.Comes.{ends_fill}
 use Rattle.pearl_parse.proofs.Made.{semicolon}
 use Rattle.pearl_parse.proofs.Tails.{semicolon_fills}
-use Rattle.pearl_parse.proofs.States.{State, past_part, past_symbol, halt_part, halt_token, done, goes_in_told}
+use Rattle.pearl_parse.proofs.States.{past_symbol, halt_token}
 use Rattle.pearl_parse.proofs.Unread.{unread}
 
 -- from number `at` on, no earlier than `first`, whatever begins as the whole does goes on by `rest`, and what `made`
@@ -36,7 +36,7 @@ module _ {X : Type 0} (room : ℕ) (whole : List Token → Spelling X) (tokens :
   -- before the last part, which has one end
   module _ {P Q : Type 0} (inner : ℕ) (part : List Token → Spelling P) (some : List Token → Spelling Q)
       (is_local : IsLocal some) (few : inner ≤ room)
-      (a : Stands room whole tokens from 0 first (Then part Ends) (Then some Ends) at stop) where
+      (a : Stands room whole tokens from 0 first (Next part Ends) (Next some Ends) at stop) where
     fits : inner + 0 + 8 * from ≤ room + 8 * at
     fits = omega (arith, few, a.level.near)
 

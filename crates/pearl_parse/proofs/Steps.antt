@@ -11,17 +11,9 @@ use Rattle.pearl_parse_expr.specs.declared.reading.Halt.{Halt}
 use Rattle.pearl_parse_expr.specs.declared.reading.Halt.TheVariants.{Refused, NoMemory}
 use Rattle.pearl_parse_expr.specs.Stops.{IsLongest, IsOnly, EndsEarly, IsHalted}
 use Rattle.pearl_parse_expr.proofs.Offered.{clash, shorter}
-use Rattle.pearl_parse.specs.Stops.{IsStopped, IsMissing, SpellsOptional}
-
--- the rest of a part, from one token to the token after it
-abbrev pub Rest : Type 1
-Rest = List Token → ℕ → ℕ → Type 0
-
-abbrev pub Ends : Rest
-Ends others at to = to ≡ at
-
-abbrev pub Then : {Y : Type 0} → (List Token → Spelling Y) → Rest → Rest
-Then {Y} spells rest others at to = (y : Y) × (m : ℕ) × spells others at y m × rest others m to
+use Rattle.pearl_grammar.specs.Reached.{IsStopped}
+use Rattle.pearl_grammar.proofs.Offered.{Rest, Next}
+use Rattle.pearl_parse.specs.Stops.{IsMissing, SpellsOptional}
 
 -- whatever begins there begins with no token of this kind
 abbrev pub Avoids : (Option What → Bool) → Rest → Type 0
@@ -49,19 +41,19 @@ module _ {X : Type 0} (whole : List Token → Spelling X) (tokens : List Token) 
   -- behind a part that ends before no token that stands there
   pub past : {Y : Type 0} (spells : List Token → Spelling Y) (extends : Option What → Bool) (rest : Rest)
       (at stop end new : ℕ) →
-      Goes (Then spells rest) at stop → stop ≤ new → IsLongest spells extends tokens at end new → Avoids extends rest →
+      Goes (Next spells rest) at stop → stop ≤ new → IsLongest spells extends tokens at end new → Avoids extends rest →
       Goes rest end new
   past spells extends rest at stop end new go below longest avoids = λ others agree x to h.
       let read = go others (shorter tokens others stop new below agree) x to h in
       by others to read (longest others agree read.0 read.1 read.2)
     where
-      by : (others : List Token) (to : ℕ) (read : Then spells rest others at to) → (read.1 ≡ end) ⊎
+      by : (others : List Token) (to : ℕ) (read : Next spells rest others at to) → (read.1 ≡ end) ⊎
           EndsEarly extends others end read.1 → rest others end to
       by others to read (inl same) = subst (λ k. rest others k to) same read.3
       by others to read (inr early) = absurd (clash _ early.1 (avoids others read.1 to read.3))
 
   pub past_only : {Y : Type 0} (spells : List Token → Spelling Y) (rest : Rest) (at stop end new : ℕ) →
-      Goes (Then spells rest) at stop → stop ≤ new → IsOnly spells tokens at end new → Goes rest end new
+      Goes (Next spells rest) at stop → stop ≤ new → IsOnly spells tokens at end new → Goes rest end new
   past_only spells rest at stop end new go below only = λ others agree x to h.
       let read = go others (shorter tokens others stop new below agree) x to h in
       subst (λ k. rest others k to) (only others agree read.0 read.1 read.2) read.3
@@ -99,7 +91,7 @@ module _ {X : Type 0} (whole : List Token → Spelling X) (tokens : List Token) 
 
   -- a part that is not there
   pub no_part : {Y : Type 0} (spells : List Token → Spelling Y) (rest : Rest) (at stop : ℕ) (halt : Halt) →
-      Goes (Then spells rest) at stop → from ≤ stop →
+      Goes (Next spells rest) at stop → from ≤ stop →
       IsStopped spells tokens at stop halt → IsHalted whole tokens from halt
   no_part spells rest at stop NoMemory go near h = tt
   no_part spells rest at stop (Refused k) go near h = (
@@ -111,7 +103,7 @@ module _ {X : Type 0} (whole : List Token → Spelling X) (tokens : List Token) 
   )
 
   pub no_part_behind : {Y : Type 0} (least_stop : ℕ) (spells : List Token → Spelling Y) (rest : Rest) (at stop : ℕ)
-      (halt : Halt) → Goes (Then spells rest) at stop → from ≤ stop → least_stop ≤ stop →
+      (halt : Halt) → Goes (Next spells rest) at stop → from ≤ stop → least_stop ≤ stop →
       IsStopped spells tokens at stop halt → IsStopped whole tokens from least_stop halt
   no_part_behind least_stop spells rest at stop NoMemory go near behind h = tt
   no_part_behind least_stop spells rest at stop (Refused k) go near behind h =
@@ -119,7 +111,7 @@ module _ {X : Type 0} (whole : List Token → Spelling X) (tokens : List Token) 
       (halted.0, halted.1, omega (arith, h.2, behind), halted.2)
 
   pub no_first : {Y : Type 0} (spells : List Token → Spelling Y) (rest : Rest) (at stop : ℕ) (halt : Halt) →
-      Goes (Then spells rest) at stop → from ≤ at → stop ≤ at →
+      Goes (Next spells rest) at stop → from ≤ at → stop ≤ at →
       IsHalted spells tokens at halt → IsHalted whole tokens from halt
   no_first spells rest at stop NoMemory go near below h = tt
   no_first spells rest at stop (Refused k) go near below h = (

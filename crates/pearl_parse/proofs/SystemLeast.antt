@@ -17,16 +17,16 @@ use Rattle.pearl_parse_expr.proofs.Offered.{IsLocal, parts_of}
 use Rattle.pearl_parse_decl.proofs.Offered.{local_of, after_of, each_long, each_keeps, maybe_keeps, device_keeps}
 use Rattle.pearl_parse.specs.Stops.{IsMissing}
 use Rattle.pearl_parse.specs.Modules.{SpellsOptionalSystem, SpellsOpening}
-use Rattle.pearl_parse.specs.Reached.{HaltsBehind}
-use Rattle.pearl_parse.proofs.Steps.{Rest, Ends, Then, past}
+use Rattle.pearl_grammar.specs.Reached.{HaltsBehind}
+use Rattle.pearl_grammar.proofs.Offered.{Rest, Ends, Next, Fills, Makes, ends_fill, State, first, done, goes_in_told}
+use Rattle.pearl_parse.proofs.Steps.{past}
 use Rattle.pearl_parse.proofs.ModuleRests.{problem_rest, opening_goes, problem_stops}
 use Rattle.pearl_parse.proofs.LocalModules.{system_keeps}
-use Rattle.pearl_parse.proofs.Comes.{Fills, BehindWord, BehindSymbol, Maybe, Makes, ends_fill, fills_word, fills_symbol}
+use Rattle.pearl_parse.proofs.Comes.{BehindWord, BehindSymbol, Maybe, fills_word, fills_symbol}
 use Rattle.pearl_parse.proofs.Tails.{fills_each}
 use Rattle.pearl_parse.proofs.Optional.{maybe_of}
 use Rattle.pearl_parse.proofs.Stands.{Stands}
-use Rattle.pearl_parse.proofs.States.{State, first, past_word, past_symbol, past_first, halt_token, halt_first, done}
-use Rattle.pearl_parse.proofs.States.{goes_in_told}
+use Rattle.pearl_parse.proofs.States.{past_word, past_symbol, past_first, halt_token, halt_first}
 
 -- ---- SYSTEM ";" { device }
 
@@ -41,7 +41,7 @@ device_after : (others : List Token) (from : ℕ) (x : Device) (to : ℕ) → Sp
 device_after others from x to h = let far = after_of 7 SpellsDevice device_keeps others from x to h in omega
     (arith, far)
 
-system_made : Makes SpellsSystem (BehindWord w.SYSTEM (BehindSymbol s.SEMICOLON (Then Devices Ends)))
+system_made : Makes SpellsSystem (BehindWord w.SYSTEM (BehindSymbol s.SEMICOLON (Next Devices Ends)))
 system_made others from to small h =
     let list = h.1.1 in
     let two : from + 1 + 1 ≡ from + 2 = omega arith in
@@ -54,21 +54,21 @@ system_made others from to small h =
 
 module _ (tokens : List Token) (from : ℕ) (here : HasWord tokens from w.SYSTEM) (inside : from < length tokens)
     (few : length tokens < 2 ^ 55) where
-  system_begun : State 16 SpellsSystem tokens from 0 (BehindSymbol s.SEMICOLON (Then Devices Ends)) (from + 1) from
+  system_begun : State 16 SpellsSystem tokens from 0 (BehindSymbol s.SEMICOLON (Next Devices Ends)) (from + 1) from
   system_begun =
-      past_word 16 SpellsSystem tokens from 0 w.SYSTEM (BehindSymbol s.SEMICOLON (Then Devices Ends)) from from
+      past_word 16 SpellsSystem tokens from 0 w.SYSTEM (BehindSymbol s.SEMICOLON (Next Devices Ends)) from from
       (from + 1) (omega arith)
-      (first 16 SpellsSystem tokens from 0 (BehindWord w.SYSTEM (BehindSymbol s.SEMICOLON (Then Devices Ends))) from
+      (first 16 SpellsSystem tokens from 0 (BehindWord w.SYSTEM (BehindSymbol s.SEMICOLON (Next Devices Ends))) from
       from system_made (omega arith) (omega arith) (omega arith) (omega arith) few) here inside
 
-  devices_fill : Fills 0 (Then Devices Ends)
+  devices_fill : Fills 0 (Next Devices Ends)
   devices_fill = fills_each 0 Ends ends_fill SpellsDevice
 
   pub no_devices : (halt : Halt) → IsMissing tokens (is_symbol s.SEMICOLON) (from + 1) from halt → HaltsBehind 16
       SpellsSystem tokens from 0 halt
   no_devices halt h =
-      halt_token 16 SpellsSystem tokens from 0 1 (BehindSymbol s.SEMICOLON (Then Devices Ends))
-      (fills_symbol 0 (Then Devices Ends) devices_fill s.SEMICOLON (omega arith)) (omega arith)
+      halt_token 16 SpellsSystem tokens from 0 1 (BehindSymbol s.SEMICOLON (Next Devices Ends))
+      (fills_symbol 0 (Next Devices Ends) devices_fill s.SEMICOLON (omega arith)) (omega arith)
       (is_symbol s.SEMICOLON)
       (from + 1) from halt system_begun h
 
@@ -80,7 +80,7 @@ module _ (tokens : List Token) (from : ℕ) (here : HasWord tokens from w.SYSTEM
       (done 16 SpellsSystem tokens from 0 end stop stop
       (past_first 16 SpellsSystem tokens from 0 0 24 Devices Ends devices_are_local ends_fill (omega arith) (from + 2)
       from (omega arith)
-      (past_symbol 16 SpellsSystem tokens from 0 s.SEMICOLON (Then Devices Ends) (from + 1) from (from + 2)
+      (past_symbol 16 SpellsSystem tokens from 0 s.SEMICOLON (Next Devices Ends) (from + 1) from (from + 2)
       (omega arith) system_begun symbol within) xs end stop h ahead reach (omega arith) near g) (omega arith))
 
 -- ---- [ system ] PROBLEM ";"
@@ -101,15 +101,15 @@ last_fills = fills_symbol 0 Ends ends_fill s.SEMICOLON (omega arith)
 problem_fills : Fills 2 problem_begins
 problem_fills = fills_word 1 last_symbol last_fills w.PROBLEM (omega arith)
 
-opened_made : Makes SpellsOpening (Then (Maybe SpellsSystem) problem_begins)
+opened_made : Makes SpellsOpening (Next (Maybe SpellsSystem) problem_begins)
 opened_made others from to small h = (h.0, (h.1, h.2, h.3.0, h.3.1.0, omega (arith, h.3.1.1)))
 
 module _ (tokens : List Token) (from : ℕ) (inside : from ≤ length tokens) (few : length tokens < 2 ^ 55) where
   abbrev pub Opening : Rest → ℕ → ℕ → Type 0
   Opening = State 24 SpellsOpening tokens from 0
 
-  opening_first : Opening (Then (Maybe SpellsSystem) problem_begins) from from
-  opening_first = first 24 SpellsOpening tokens from 0 (Then (Maybe SpellsSystem) problem_begins) from from opened_made
+  opening_first : Opening (Next (Maybe SpellsSystem) problem_begins) from from
+  opening_first = first 24 SpellsOpening tokens from 0 (Next (Maybe SpellsSystem) problem_begins) from from opened_made
       (omega arith) (omega arith) (omega arith) inside few
 
   pub no_system : (halt : Halt) → IsHalted SpellsOptionalSystem tokens from halt → HaltsIn 16 (Maybe SpellsSystem)

@@ -20,18 +20,18 @@ use Rattle.pearl_parse_expr.proofs.Offered.{letter_token, letter_lawful, placed,
 use Rattle.pearl_parse.specs.Stops.{SpellsFormats}
 use Rattle.pearl_parse.specs.Calls.{SpellsArguments}
 use Rattle.pearl_parse.specs.Bodies.{SpellsStatements, SpellsInner}
-use Rattle.pearl_parse.proofs.Steps.{Rest, Ends, Then}
-use Rattle.pearl_parse.proofs.Comes.{Fills, Behind, BehindWord, BehindSymbol, Maybe, ends_fill, fills_as, fills_token}
+use Rattle.pearl_grammar.proofs.Offered.{Rest, Ends, Next, Fills, ends_fill, fills_as, fills_token}
+use Rattle.pearl_parse.proofs.Comes.{Behind, BehindWord, BehindSymbol, Maybe}
 use Rattle.pearl_parse.proofs.Comes.{fills_word, fills_symbol, fills_name, fills_maybe}
-use Rattle.pearl_parse.proofs.Made.{semicolon, station}
+use Rattle.pearl_parse.proofs.Made.{semicolon}
 use Rattle.pearl_parse.proofs.ScheduleMade.{After, activation, continuation, resumption}
 use Rattle.pearl_parse.proofs.NestedRests.{closing_rest}
 
 module _ (n : ℕ) (rest : Rest) (fills : Fills n rest) where
   -- NOW, as the expression that is missing
-  pub fills_expr : Fills (n + 1) (Then SpellsWhole rest)
+  pub fills_expr : Fills (n + 1) (Next SpellsWhole rest)
   fills_expr =
-      fills_token n rest fills (token_of (what.Word w.NOW)) (Then SpellsWhole rest) (omega arith)
+      fills_token n rest fills (token_of (what.Word w.NOW)) (Next SpellsWhole rest) (omega arith)
       (λ others k to here h.
       let word = ap (option_map (λ token. token.what)) here in
       let at = ap (option_map (λ token. token.place)) here in (
@@ -42,9 +42,9 @@ module _ (n : ℕ) (rest : Rest) (fills : Fills n rest) where
       ))
 
   -- A, as the only format
-  pub fills_formats : Fills (n + 1) (Then (λ tokens. SpellsList tokens (SpellsFmt tokens)) rest)
+  pub fills_formats : Fills (n + 1) (Next (λ tokens. SpellsList tokens (SpellsFmt tokens)) rest)
   fills_formats =
-      fills_token n rest fills (letter_token 65) (Then (λ tokens. SpellsList tokens (SpellsFmt tokens)) rest)
+      fills_token n rest fills (letter_token 65) (Next (λ tokens. SpellsList tokens (SpellsFmt tokens)) rest)
       (letter_lawful 65 (inl (omega arith, omega arith)))
       (λ others k to here h. (
         Free A None 0 ∷ [],
@@ -55,22 +55,22 @@ module _ (n : ℕ) (rest : Rest) (fills : Fills n rest) where
 
   -- no parts
   pub fills_each : {X : Type 0} (spells : List Token → Spelling X) →
-      Fills n (Then (λ tokens. SpellsEach (spells tokens)) rest)
-  fills_each spells = fills_as n rest fills (Then (λ tokens. SpellsEach (spells tokens)) rest)
+      Fills n (Next (λ tokens. SpellsEach (spells tokens)) rest)
+  fills_each spells = fills_as n rest fills (Next (λ tokens. SpellsEach (spells tokens)) rest)
       (λ others k to h. ([], k, refl, h))
 
-  pub fills_statements : (depth : ℕ) → Fills n (Then (SpellsStatements depth) rest)
-  fills_statements depth = fills_as n rest fills (Then (SpellsStatements depth) rest)
+  pub fills_statements : (depth : ℕ) → Fills n (Next (SpellsStatements depth) rest)
+  fills_statements depth = fills_as n rest fills (Next (SpellsStatements depth) rest)
       (λ others k to h. ([], k, refl, h))
 
-  pub fills_inner : (depth : ℕ) → Fills n (Then (SpellsInner depth) rest)
-  fills_inner depth = fills_as n rest fills (Then (SpellsInner depth) rest)
+  pub fills_inner : (depth : ℕ) → Fills n (Next (SpellsInner depth) rest)
+  fills_inner depth = fills_as n rest fills (Next (SpellsInner depth) rest)
       (λ others k to h. (([], []), k, (k, refl, refl), h))
 
-  pub fills_choices : (depth : ℕ) → Fills (n + 1) (Then (λ tokens. SpellsSome (SpellsBranch tokens depth w.ALT)) rest)
+  pub fills_choices : (depth : ℕ) → Fills (n + 1) (Next (λ tokens. SpellsSome (SpellsBranch tokens depth w.ALT)) rest)
   fills_choices depth =
       fills_token n rest fills (token_of (what.Word w.ALT))
-      (Then (λ tokens. SpellsSome (SpellsBranch tokens depth w.ALT)) rest) (omega arith)
+      (Next (λ tokens. SpellsSome (SpellsBranch tokens depth w.ALT)) rest) (omega arith)
       (λ others k to here h. (
         record { statements = parts_of [] (omega arith); place = 0 } ∷ [],
         k + 1,
@@ -83,59 +83,48 @@ module _ (n : ℕ) (rest : Rest) (fills : Fills n rest) where
 pub semicolon_fills : Fills 1 semicolon
 semicolon_fills = fills_symbol 0 Ends ends_fill s.SEMICOLON (omega arith)
 
-pub name_fills : Fills 2 (Then SpellsName semicolon)
+pub name_fills : Fills 2 (Next SpellsName semicolon)
 name_fills = fills_name 1 semicolon semicolon_fills
 
--- TO id ";", or FROM id ";"
-pub to_fills : Fills 3 (station w.TO)
-to_fills = fills_word 2 (Then SpellsName semicolon) name_fills w.TO (omega arith)
-
-pub from_fills : Fills 3 (station w.FROM)
-from_fills = fills_word 2 (Then SpellsName semicolon) name_fills w.FROM (omega arith)
-
 -- ":=" expr ";"
-pub assignment_fills : Fills 3 (Behind HasBecomes (Then SpellsWhole semicolon))
+pub assignment_fills : Fills 3 (Behind HasBecomes (Next SpellsWhole semicolon))
 assignment_fills =
-    fills_as 3 (BehindSymbol s.BECOMES (Then SpellsWhole semicolon)) (fills_symbol 2 (Then SpellsWhole semicolon)
+    fills_as 3 (BehindSymbol s.BECOMES (Next SpellsWhole semicolon)) (fills_symbol 2 (Next SpellsWhole semicolon)
     (fills_expr 1 semicolon semicolon_fills) s.BECOMES (omega arith))
-    (Behind HasBecomes (Then SpellsWhole semicolon)) (λ others k to h. (inl h.0, h.1))
-
--- ")" ";"
-pub closed_fills : Fills 2 (BehindSymbol s.RIGHT_ROUND semicolon)
-closed_fills = fills_symbol 1 semicolon semicolon_fills s.RIGHT_ROUND (omega arith)
+    (Behind HasBecomes (Next SpellsWhole semicolon)) (λ others k to h. (inl h.0, h.1))
 
 pub bracket_fills : Fills 1 (BehindSymbol s.RIGHT_ROUND Ends)
 bracket_fills = fills_symbol 0 Ends ends_fill s.RIGHT_ROUND (omega arith)
 
 -- behind the id of a call
-pub arguments_fill : Fills 1 (Then SpellsArguments Ends)
-arguments_fill = fills_as 1 semicolon semicolon_fills (Then SpellsArguments Ends)
+pub arguments_fill : Fills 1 (Next SpellsArguments Ends)
+arguments_fill = fills_as 1 semicolon semicolon_fills (Next SpellsArguments Ends)
     (λ others k to h. ([], to, (k, refl, h.0, h.1), refl))
 
 -- id ";"
-pub call_fills : Fills 2 (Then SpellsName (Then SpellsArguments Ends))
-call_fills = fills_name 1 (Then SpellsArguments Ends) arguments_fill
+pub call_fills : Fills 2 (Next SpellsName (Next SpellsArguments Ends))
+call_fills = fills_name 1 (Next SpellsArguments Ends) arguments_fill
 
 -- fmt ";"
-pub formats_fill : Fills 2 (Then SpellsFormats Ends)
+pub formats_fill : Fills 2 (Next SpellsFormats Ends)
 formats_fill =
-    fills_as 2 (Then (λ tokens. SpellsList tokens (SpellsFmt tokens)) semicolon)
-    (fills_formats 1 semicolon semicolon_fills) (Then SpellsFormats Ends)
+    fills_as 2 (Next (λ tokens. SpellsList tokens (SpellsFmt tokens)) semicolon)
+    (fills_formats 1 semicolon semicolon_fills) (Next SpellsFormats Ends)
     (λ others k to h. (h.0, to, (h.1, h.2, h.3.0, h.3.1), refl))
 
 -- BY fmt ";"
-pub by_fills : Fills 3 (BehindWord w.BY (Then SpellsFormats Ends))
-by_fills = fills_word 2 (Then SpellsFormats Ends) formats_fill w.BY (omega arith)
+pub by_fills : Fills 3 (BehindWord w.BY (Next SpellsFormats Ends))
+by_fills = fills_word 2 (Next SpellsFormats Ends) formats_fill w.BY (omega arith)
 
 -- ---- schedules
 
 pub activation_fills : Fills 3 activation
-activation_fills = fills_word 2 (Then SpellsName (Then (Maybe (After w.PRIO)) semicolon))
-    (fills_name 1 (Then (Maybe (After w.PRIO)) semicolon) (fills_maybe 1 semicolon semicolon_fills (After w.PRIO)))
+activation_fills = fills_word 2 (Next SpellsName (Next (Maybe (After w.PRIO)) semicolon))
+    (fills_name 1 (Next (Maybe (After w.PRIO)) semicolon) (fills_maybe 1 semicolon semicolon_fills (After w.PRIO)))
     w.ACTIVATE (omega arith)
 
 pub continuation_fills : Fills 3 continuation
-continuation_fills = fills_word 2 (Then SpellsName semicolon) name_fills w.CONTINUE (omega arith)
+continuation_fills = fills_word 2 (Next SpellsName semicolon) name_fills w.CONTINUE (omega arith)
 
 pub resumption_fills : Fills 2 resumption
 resumption_fills = fills_word 1 semicolon semicolon_fills w.RESUME (omega arith)
@@ -155,33 +144,33 @@ end_fills = closing_fills w.END (omega arith)
 
 -- [ word { stmt } ] FIN ";"
 abbrev pub otherwise : ℕ → ℕ → Rest
-otherwise depth word = Then (Maybe (λ tokens. SpellsBranch tokens depth word)) (closing_rest w.FIN)
+otherwise depth word = Next (Maybe (λ tokens. SpellsBranch tokens depth word)) (closing_rest w.FIN)
 
 pub otherwise_fills : (depth word : ℕ) → Fills 2 (otherwise depth word)
 otherwise_fills depth word = fills_maybe 2 (closing_rest w.FIN) fin_fills (λ tokens. SpellsBranch tokens depth word)
 
 -- { stmt } [ ELSE { stmt } ] FIN ";"
-pub then_fills : (depth : ℕ) → Fills 2 (Then (SpellsStatements depth) (otherwise depth w.ELSE))
+pub then_fills : (depth : ℕ) → Fills 2 (Next (SpellsStatements depth) (otherwise depth w.ELSE))
 then_fills depth = fills_statements 2 (otherwise depth w.ELSE) (otherwise_fills depth w.ELSE) depth
 
 -- ALT { stmt } { ALT { stmt } } [ OUT { stmt } ] FIN ";"
-pub alternatives_fill : (depth : ℕ) → Fills 3 (Then (λ tokens. SpellsSome (SpellsBranch tokens depth w.ALT))
+pub alternatives_fill : (depth : ℕ) → Fills 3 (Next (λ tokens. SpellsSome (SpellsBranch tokens depth w.ALT))
     (otherwise depth w.OUT))
 alternatives_fill depth = fills_choices 2 (otherwise depth w.OUT) (otherwise_fills depth w.OUT) depth
 
 -- body END ";"
-pub inner_fills : (depth : ℕ) → Fills 2 (Then (SpellsInner depth) (closing_rest w.END))
+pub inner_fills : (depth : ℕ) → Fills 2 (Next (SpellsInner depth) (closing_rest w.END))
 inner_fills depth = fills_inner 2 (closing_rest w.END) end_fills depth
 
 -- ---- modules
 
 -- ";" END ";"
-pub block_fills : Fills 3 (Then SpellsBlock Ends)
+pub block_fills : Fills 3 (Next SpellsBlock Ends)
 block_fills =
     fills_as 3 (BehindSymbol s.SEMICOLON (BehindWord w.END semicolon))
     (fills_symbol 2 (BehindWord w.END semicolon) (fills_word 1 semicolon semicolon_fills w.END (omega arith))
     s.SEMICOLON (omega arith))
-    (Then SpellsBlock Ends)
+    (Next SpellsBlock Ends)
     (λ others k to h.
     let at = placed others (k + 1) (what.Word w.END) h.1.0 in (
       record { declarations = parts_of [] (omega arith); statements = parts_of [] (omega arith); place = at.0 },

@@ -1,46 +1,41 @@
 -- Statements that schedule tasks, read one part after the other: behind a time or an interrupt stands CONTINUE with an
 -- id, RESUME, or an activation.
-use Rattle.std.proofs.Common.{◌≡◌, ℕ, ◌+◌, ◌<◌, ◌≤◌, ◌^◌, max, Bool, true, false, List, Vec, Option, length, Result, Ok}
+use Rattle.std.proofs.Common.{◌≡◌, ℕ, ◌+◌, ◌<◌, ◌≤◌, ◌^◌, max, Bool, true, false, List, Option, length, Result, Ok}
 use Rattle.std.proofs.Common.{sym, ap, subst, arith}
 use Rattle.std.specs.Result.{IsErr, IsErrAnd}
 use Rattle.pearl_tree.specs.declared.name.Name.{Name}
 use Rattle.pearl_tree.specs.declared.expression.Expr.{Expr}
 use Rattle.pearl_tree.specs.declared.statement.Period.{Period}
-use Rattle.pearl_tree.specs.declared.statement.SemaWord.{SemaWord}
 use Rattle.pearl_tree.specs.declared.statement.Stmt.{Stmt}
 use Rattle.pearl_tree.specs.declared.token.Token.{Token}
 use Rattle.pearl_tree.specs.Standing.{what_at, HasWord, HasSymbol, IsName, SpellsName}
-use Rattle.pearl_tree.specs.Statements.{SpellsPeriod, sema_word}
+use Rattle.pearl_tree.specs.Statements.{SpellsPeriod}
 use Rattle.pearl_tree.specs.declared.symbol.TheConstants as s
 use Rattle.pearl_tree.specs.declared.word_code.TheConstants as w
 use Rattle.pearl_parse_expr.specs.declared.reading.Halt.{Halt}
 use Rattle.pearl_parse_expr.specs.declared.reading.Reading.{Reading}
 use Rattle.pearl_parse_expr.specs.Stops.{IsOnly, extends_expression, is_name, is_symbol, is_word}
 use Rattle.pearl_parse_expr.specs.Least.{GoesIn}
-use Rattle.pearl_parse_expr.specs.Reads.{ReadsList}
-use Rattle.pearl_parse_decl.specs.Readings.{by_comma, never}
-use Rattle.pearl_parse.specs.Stops.{IsMissing, SpellsNameList}
+use Rattle.pearl_parse.specs.Stops.{IsMissing}
 use Rattle.pearl_parse.specs.Schedules.{SpellsOptionalAfter, SpellsLongPeriod, SpellsActivation, SpellsAnyBegun}
 use Rattle.pearl_parse.specs.Schedules.{time_word}
 use Rattle.pearl_parse.specs.Reads.{ReadsBehind, ReadsNested}
-use Rattle.pearl_parse.proofs.Steps.{Rest, Ends, Then, past, missing, ends}
-use Rattle.pearl_parse.proofs.StatementRests.{Spelled, exit_rest}
+use Rattle.pearl_grammar.proofs.Offered.{Rest, Ends, Next, State, past_part}
+use Rattle.pearl_parse.proofs.Steps.{past, missing, ends}
+use Rattle.pearl_parse.proofs.StatementRests.{Spelled}
 use Rattle.pearl_parse.proofs.ScheduleRests.{activation_rest, continue_rest}
 use Rattle.pearl_parse.proofs.TaskingRests.{resume_rest, begun_rest, continued_goes, resumed_goes, begins_goes}
 use Rattle.pearl_parse.proofs.TaskingRests.{periodic_goes}
 use Rattle.pearl_parse.proofs.WhenRests.{late_rest, avoids_begun, when_continues, when_resumes, when_begins}
-use Rattle.pearl_parse.proofs.TransferRests.{semas_goes}
 use Rattle.pearl_parse.proofs.Comes.{Maybe}
 use Rattle.pearl_parse.proofs.Made.{semicolon}
 use Rattle.pearl_parse.proofs.ScheduleMade.{After, continuation, resumption}
-use Rattle.pearl_parse.proofs.Tails.{semicolon_fills}
 use Rattle.pearl_parse.proofs.ScheduleLeast.{timed_continues, timed_resumes, timed_begins, interrupt_continues}
 use Rattle.pearl_parse.proofs.ScheduleLeast.{interrupt_resumes, interrupt_late, interrupt_begins, period_is_local}
 use Rattle.pearl_parse.proofs.ScheduleLeast.{activation_part_fills, periodic_activation_made}
-use Rattle.pearl_parse.proofs.TransferLeast.{name_list_is_local}
-use Rattle.pearl_parse.proofs.StatementLeast.{by_rule, semas_begun, name_missing, behind_name, semicolon_missing}
+use Rattle.pearl_parse.proofs.StatementLeast.{by_rule, name_missing, behind_name, semicolon_missing}
 use Rattle.pearl_parse.proofs.StatementLeast.{semicolon_read}
-use Rattle.pearl_parse.proofs.States.{State, past_word, past_part, past_first}
+use Rattle.pearl_parse.proofs.States.{past_word}
 use Rattle.pearl_parse.proofs.Stands.{Stands}
 use Rattle.pearl_parse.proofs.Unread.{unread}
 
@@ -54,8 +49,8 @@ module _ (tokens : List Token) (depth from : ℕ) where
   -- CONTINUE id ";"
   module _ (at stop : ℕ) (a : TaskAt continue_rest continuation at stop) (here : HasWord tokens at w.CONTINUE)
       (within : at < length tokens) where
-    before_task : (k : ℕ) → k ≡ at + 1 → Level (Then SpellsName semicolon) k stop
-    before_task k is = past_word 24 (Spelled depth) tokens from 0 w.CONTINUE (Then SpellsName semicolon) at stop k is
+    before_task : (k : ℕ) → k ≡ at + 1 → Level (Next SpellsName semicolon) k stop
+    before_task k is = past_word 24 (Spelled depth) tokens from 0 w.CONTINUE (Next SpellsName semicolon) at stop k is
         a.level here within
 
     pub no_task : {Q : Halt → Type 0} (halt : Halt) (result : Result (Reading Stmt) Halt) →
@@ -152,7 +147,7 @@ module _ (tokens : List Token) (depth from : ℕ) (inside : from < length tokens
 
     pub time_begins : is_word w.CONTINUE (what_at tokens x.end) ≡ false →
         is_word w.RESUME (what_at tokens x.end) ≡ false →
-        TaskAt tokens depth from begun_rest (Then SpellsAnyBegun Ends) x.end x.stop
+        TaskAt tokens depth from begun_rest (Next SpellsAnyBegun Ends) x.end x.stop
     time_begins no_continue no_resume = record {
       goes = begins_goes tokens depth from later word x.end x.stop here is read.bounds.2 below read.longest no_continue
           no_resume;
@@ -188,7 +183,7 @@ module _ (tokens : List Token) (depth from : ℕ) (inside : from < length tokens
 
     module _ (no_continue : is_word w.CONTINUE (what_at tokens (from + 2)) ≡ false)
         (no_resume : is_word w.RESUME (what_at tokens (from + 2)) ≡ false) where
-      pub then_waits : TaskAt tokens depth from late_rest (Then (Maybe (After w.AFTER)) (Then SpellsAnyBegun Ends))
+      pub then_waits : TaskAt tokens depth from late_rest (Next (Maybe (After w.AFTER)) (Next SpellsAnyBegun Ends))
           (from + 2) (from + 2)
       then_waits = record {
         goes = when_begins tokens depth from here no_continue no_resume;
@@ -201,7 +196,7 @@ module _ (tokens : List Token) (depth from : ℕ) (inside : from < length tokens
       pub then_begins : (x : Reading (Option Expr)) →
           ReadsBehind 8 (Maybe (After w.AFTER)) SpellsOptionalAfter (Maybe (After w.AFTER)) extends_expression tokens
           (from + 2) (from + 2) (from + 2) (Ok x) →
-          TaskAt tokens depth from begun_rest (Then SpellsAnyBegun Ends) x.end x.stop
+          TaskAt tokens depth from begun_rest (Next SpellsAnyBegun Ends) x.end x.stop
       then_begins x read = record {
         goes = past (Spelled depth) tokens from SpellsOptionalAfter extends_expression begun_rest (from + 2) (from + 2)
             x.end x.stop then_waits.goes read.bounds.2 read.longest avoids_begun;
@@ -215,34 +210,17 @@ module _ (tokens : List Token) (depth from : ℕ) (inside : from < length tokens
   -- ALL expr [ UNTIL expr | DURING expr ]
   pub past_period : HasWord tokens from w.ALL → (x : Reading Period) →
       ReadsBehind 16 SpellsPeriod SpellsLongPeriod SpellsPeriod extends_expression tokens from (from + 1) from (Ok x) →
-      TaskAt tokens depth from activation_rest (Then SpellsActivation Ends) x.end x.stop
+      TaskAt tokens depth from activation_rest (Next SpellsActivation Ends) x.end x.stop
   past_period here x read = record {
     goes = past (Spelled depth) tokens from SpellsLongPeriod extends_expression activation_rest from from x.end x.stop
         (periodic_goes tokens depth from here) read.bounds.2 read.longest
         (λ others at to h. ap extends_expression h.2.1);
-    level = past_part 24 (Spelled depth) tokens from 0 3 16 SpellsPeriod (Then SpellsActivation Ends) period_is_local
+    level = past_part 24 (Spelled depth) tokens from 0 3 16 SpellsPeriod (Next SpellsActivation Ends) period_is_local
         activation_part_fills (omega arith) from from (omega arith)
-        (by_rule tokens depth from inside few (Then SpellsPeriod (Then SpellsActivation Ends))
+        (by_rule tokens depth from inside few (Next SpellsPeriod (Next SpellsActivation Ends))
         (periodic_activation_made depth)) x.part x.end x.stop read.spells (omega (arith, read.bounds)) read.bounds.3
         read.least;
     ahead = omega (arith, read.bounds);
     near = read.bounds.2;
     inside = read.bounds.3;
-  }
-
-  -- ( REQUEST | RELEASE ) id { "," id }
-  pub past_names : {A : Type 0} (word : SemaWord) → HasWord tokens from (sema_word word) →
-      (x : Reading (Vec Name A)) → ReadsList 16 SpellsNameList (by_comma never) tokens (from + 1) (Ok x) →
-      TaskAt tokens depth from exit_rest semicolon x.end x.stop
-  past_names {A} word here x read = record {
-    goes = past (Spelled depth) tokens from SpellsNameList (by_comma never) exit_rest (from + 1) from x.end x.stop
-        (semas_goes tokens depth from word here) (omega (arith, read.ahead)) read.longest
-        (λ others at to h. ap (by_comma never) h.0);
-    level = past_first 24 (Spelled depth) tokens from 0 1 16 SpellsNameList semicolon name_list_is_local
-        semicolon_fills (omega arith) (from + 1) from (omega arith)
-        (semas_begun tokens depth from inside few word here) x.part.items x.end x.stop read.spells
-        (omega (arith, read.ahead)) (omega (arith, read.ahead)) (omega arith) (omega (arith, read.ahead)) read.least;
-    ahead = omega (arith, read.ahead);
-    near = omega (arith, read.ahead);
-    inside = omega (arith, read.ahead);
   }

@@ -21,11 +21,12 @@ use Rattle.pearl_tree.proofs.Offered.{same_word, start_word, start_begins, once_
 use Rattle.pearl_parse_expr.specs.declared.reading.Halt.{Halt}
 use Rattle.pearl_parse_expr.specs.Stops.{IsLongest, IsHalted, extends_expression, is_name, is_word}
 use Rattle.pearl_parse_expr.proofs.Offered.{clash}
-use Rattle.pearl_parse.specs.Stops.{IsStopped}
+use Rattle.pearl_grammar.specs.Reached.{IsStopped}
 use Rattle.pearl_parse.specs.Schedules.{begins_end, time_word, SpellsOptionalEnd, SpellsOptionalPeriod}
 use Rattle.pearl_parse.specs.Schedules.{SpellsLongPeriod, SpellsActivation, SpellsBegun}
 use Rattle.pearl_parse.proofs.ByFirst.{group, of_kind}
-use Rattle.pearl_parse.proofs.Steps.{Rest, Ends, Then, Avoids, Goes, past, no_part}
+use Rattle.pearl_grammar.proofs.Offered.{Rest, Ends, Next}
+use Rattle.pearl_parse.proofs.Steps.{Avoids, Goes, past, no_part}
 use Rattle.pearl_parse.proofs.StatementRests.{Spelled}
 use Rattle.pearl_parse.proofs.ScheduleRests.{continue_rest, priority_optional, once_is_missing, no_once}
 
@@ -42,7 +43,7 @@ abbrev pub resumed : Rest
 resumed others at to = HasWord others at w.RESUME × HasSymbol others (at + 1) s.SEMICOLON × (to ≡ at + 2)
 
 abbrev pub begun_rest : Rest
-begun_rest = Then SpellsBegun Ends
+begun_rest = Next SpellsBegun Ends
 
 abbrev pub after_time : Rest
 after_time others at to = continued others at to ⊎ (resumed others at to ⊎ begun_rest others at to)
@@ -51,7 +52,7 @@ abbrev pub SpellsTime : Bool → List Token → ℕ → Expr → ℕ → Type 0
 SpellsTime later tokens = SpellsAfter tokens (time_word later)
 
 abbrev pub timed_rest : Bool → Rest
-timed_rest later = Then (SpellsTime later) after_time
+timed_rest later = Next (SpellsTime later) after_time
 
 group_nine : (later : Bool) → group_of (what.Word (time_word later)) ≡ Some 9
 group_nine true = refl
@@ -158,7 +159,7 @@ module _ (others : List Token) where
       by a e h = absurd e
 
 abbrev pub period_rest : Rest
-period_rest = Then SpellsLongPeriod (Then SpellsActivation Ends)
+period_rest = Next SpellsLongPeriod (Next SpellsActivation Ends)
 
 module _ (others : List Token) where
   only_periodic : (depth from : ℕ) → HasWord others from w.ALL → (a : Stmt) (to : ℕ) →

@@ -13,19 +13,16 @@ use Rattle.pearl_parse_expr.specs.Stops.{IsHalted, is_word}
 use Rattle.pearl_parse_expr.specs.Least.{ReachesIn, GoesIn, HaltsIn}
 use Rattle.pearl_parse_expr.proofs.Offered.{IsLocal}
 use Rattle.pearl_parse_decl.proofs.Offered.{Kept, local_of, list_keeps, fmt_keeps}
-use Rattle.pearl_parse.specs.Stops.{SpellsBefore, SpellsNameList, SpellsFormats, SpellsStation}
-use Rattle.pearl_parse.proofs.Steps.{Ends, Then}
-use Rattle.pearl_parse.proofs.LocalRests.{name_list_keeps, before_keeps, formats_keep, station_keeps}
-use Rattle.pearl_parse.proofs.Comes.{Fills, BehindWord, Makes, ends_fill, fills_as, fills_word, fills_name}
+use Rattle.pearl_parse.specs.Stops.{SpellsBefore, SpellsFormats, SpellsStation}
+use Rattle.pearl_grammar.proofs.Offered.{Ends, Next, Fills, Makes, ends_fill, fills_as, State, first, halts_in}
+use Rattle.pearl_grammar.proofs.Offered.{goes_in_told, done}
+use Rattle.pearl_parse.proofs.LocalRests.{before_keeps, formats_keep, station_keeps}
+use Rattle.pearl_parse.proofs.Comes.{BehindWord, fills_word, fills_name}
 use Rattle.pearl_parse.proofs.Made.{semicolon, formats_made, station_made}
 use Rattle.pearl_parse.proofs.Tails.{by_fills}
-use Rattle.pearl_parse.proofs.States.{State, first, past_word, past_name, past_first, halt_first, halt_token, halts_in}
-use Rattle.pearl_parse.proofs.States.{goes_in_told, done}
+use Rattle.pearl_parse.proofs.States.{past_word, past_name, past_first, halt_first, halt_token}
 
 -- ---- what the parts depend on
-
-pub name_list_is_local : IsLocal SpellsNameList
-name_list_is_local = local_of 1 SpellsNameList name_list_keeps
 
 pub formats_are_local : IsLocal (λ tokens. SpellsList tokens (SpellsFmt tokens))
 formats_are_local = local_of 1 (λ tokens. SpellsList tokens (SpellsFmt tokens))
@@ -39,12 +36,12 @@ station_is_local = local_of 4 SpellsStation station_keeps
 
 -- ---- formats and stations
 
-pub station_fills : Fills 4 (Then SpellsName (BehindWord w.BY (Then SpellsFormats Ends)))
-station_fills = fills_name 3 (BehindWord w.BY (Then SpellsFormats Ends)) by_fills
+pub station_fills : Fills 4 (Next SpellsName (BehindWord w.BY (Next SpellsFormats Ends)))
+station_fills = fills_name 3 (BehindWord w.BY (Next SpellsFormats Ends)) by_fills
 
-pub station_part_fills : Fills 4 (Then SpellsStation Ends)
-station_part_fills = fills_as 4 (Then SpellsName (BehindWord w.BY (Then SpellsFormats Ends))) station_fills
-    (Then SpellsStation Ends)
+pub station_part_fills : Fills 4 (Next SpellsStation Ends)
+station_part_fills = fills_as 4 (Next SpellsName (BehindWord w.BY (Next SpellsFormats Ends))) station_fills
+    (Next SpellsStation Ends)
     (λ others k to h.
     let formats = h.3.1 in
     let behind : h.1 + 1 ≡ k + 2 = omega (arith, h.2.1) in (
@@ -60,27 +57,27 @@ station_part_fills = fills_as 4 (Then SpellsName (BehindWord w.BY (Then SpellsFo
     ))
 
 module _ (tokens : List Token) (from low : ℕ) (inside : from ≤ length tokens) (few : length tokens < 2 ^ 55) where
-  pub formats_first : State 24 SpellsFormats tokens from low (Then (λ tokens. SpellsList tokens (SpellsFmt tokens))
+  pub formats_first : State 24 SpellsFormats tokens from low (Next (λ tokens. SpellsList tokens (SpellsFmt tokens))
       semicolon) from low
-  formats_first = first 24 SpellsFormats tokens from low (Then (λ tokens. SpellsList tokens (SpellsFmt tokens))
+  formats_first = first 24 SpellsFormats tokens from low (Next (λ tokens. SpellsList tokens (SpellsFmt tokens))
       semicolon) 0 low formats_made (omega arith) (omega arith) (omega arith) inside few
 
   pub station_first : State 24 SpellsStation tokens from low
-      (Then SpellsName (BehindWord w.BY (Then SpellsFormats Ends))) from low
-  station_first = first 24 SpellsStation tokens from low (Then SpellsName (BehindWord w.BY (Then SpellsFormats Ends))) 0
+      (Next SpellsName (BehindWord w.BY (Next SpellsFormats Ends))) from low
+  station_first = first 24 SpellsStation tokens from low (Next SpellsName (BehindWord w.BY (Next SpellsFormats Ends))) 0
       low station_made (omega arith) (omega arith) (omega arith) inside few
 
   pub station_by : (name : Name) → IsName tokens from name → from < length tokens →
-      State 24 SpellsStation tokens from low (BehindWord w.BY (Then SpellsFormats Ends)) (from + 1) low
+      State 24 SpellsStation tokens from low (BehindWord w.BY (Next SpellsFormats Ends)) (from + 1) low
   station_by name here within =
-      past_name 24 SpellsStation tokens from low name (BehindWord w.BY (Then SpellsFormats Ends)) from low (from + 1)
+      past_name 24 SpellsStation tokens from low name (BehindWord w.BY (Next SpellsFormats Ends)) from low (from + 1)
       (omega arith) station_first here within
 
   pub station_formats : (name : Name) → IsName tokens from name → from < length tokens →
       HasWord tokens (from + 1) w.BY → from + 1 < length tokens →
-      State 24 SpellsStation tokens from low (Then SpellsFormats Ends) (from + 2) low
+      State 24 SpellsStation tokens from low (Next SpellsFormats Ends) (from + 2) low
   station_formats name here within next inner =
-      past_word 24 SpellsStation tokens from low w.BY (Then SpellsFormats Ends) (from + 1) low (from + 2) (omega arith)
+      past_word 24 SpellsStation tokens from low w.BY (Next SpellsFormats Ends) (from + 1) low (from + 2) (omega arith)
       (station_by name here within) next inner
 
 -- ---- a list that may be missing, and the word behind it
@@ -101,7 +98,7 @@ module _ {X : Type 0} (spells : List Token → Spelling X) (kept : Kept 1 spells
   word_fills : Fills 1 (BehindWord word Ends)
   word_fills = fills_word 0 Ends ends_fill word known
 
-  listed_made : Makes (SpellsBefore word spells) (Then Listed (BehindWord word Ends))
+  listed_made : Makes (SpellsBefore word spells) (Next Listed (BehindWord word Ends))
   listed_made others from to small h = by h.0 h.2
     where
       by : (xs : List X) → Listed others from xs h.1 → (xs : List X) × SpellsBefore word spells others from xs to
@@ -109,8 +106,8 @@ module _ {X : Type 0} (spells : List Token → Spelling X) (kept : Kept 1 spells
       by (x ∷ xs) g = (x ∷ xs, (h.1, g, h.3.0, h.3.1))
 
   module _ (tokens : List Token) (from : ℕ) (inside : from ≤ length tokens) (few : length tokens < 2 ^ 55) where
-    listed_first : State 24 (SpellsBefore word spells) tokens from 0 (Then Listed (BehindWord word Ends)) from from
-    listed_first = first 24 (SpellsBefore word spells) tokens from 0 (Then Listed (BehindWord word Ends)) from from
+    listed_first : State 24 (SpellsBefore word spells) tokens from 0 (Next Listed (BehindWord word Ends)) from from
+    listed_first = first 24 (SpellsBefore word spells) tokens from 0 (Next Listed (BehindWord word Ends)) from from
         listed_made (omega arith) (omega arith) (omega arith) inside few
 
     pub no_list_least : (halt : Halt) → IsHalted Listed tokens from halt → HaltsIn 16 Listed tokens from halt →

@@ -1,35 +1,31 @@
 -- What is left of a statement of semaphores or of a transfer behind its first token.
-use Rattle.std.proofs.Common.{◌≡◌, ℕ, ◌+◌, List, Some, T, eqb, refl, subst, arith}
+use Rattle.std.proofs.Common.{◌≡◌, ℕ, ◌+◌, List, T, eqb, refl, subst, arith}
 use Rattle.pearl_tree.specs.declared.expression.Expr.{Expr}
-use Rattle.pearl_tree.specs.declared.statement.SemaWord.{SemaWord}
-use Rattle.pearl_tree.specs.declared.statement.SemaWord.TheVariants.{Request, Release}
-use Rattle.pearl_tree.specs.declared.statement.Stmt.{Stmt, OnSemas, Put, Get}
-use Rattle.pearl_tree.specs.declared.token.What.TheVariants as what
+use Rattle.pearl_tree.specs.declared.statement.Stmt.{Stmt, Put, Get}
 use Rattle.pearl_tree.specs.declared.token.Token.{Token}
 use Rattle.pearl_tree.specs.Standing.{HasWord, SpellsList}
 use Rattle.pearl_tree.specs.Expressions.{SpellsWhole, SpellsOwnRef}
 use Rattle.pearl_tree.specs.Formats.{SpellsFmt}
-use Rattle.pearl_tree.specs.Statements.{SpellsStmt, sema_word}
+use Rattle.pearl_tree.specs.Statements.{SpellsStmt}
 use Rattle.pearl_tree.specs.declared.word_code.TheConstants as w
-use Rattle.pearl_tree.proofs.Offered.{group_of, no_expr_at}
+use Rattle.pearl_tree.proofs.Offered.{no_expr_at}
 use Rattle.pearl_parse_expr.specs.declared.reading.Halt.{Halt}
 use Rattle.pearl_parse_expr.specs.declared.reading.Halt.TheVariants.{Refused, NoMemory}
-use Rattle.pearl_parse.specs.Stops.{IsStopped, SpellsBefore, SpellsNameList, SpellsFormats, SpellsStation}
+use Rattle.pearl_grammar.specs.Reached.{IsStopped}
+use Rattle.pearl_parse.specs.Stops.{SpellsBefore, SpellsFormats, SpellsStation}
 use Rattle.pearl_parse.proofs.ByFirst.{group}
-use Rattle.pearl_parse.proofs.Steps.{Rest, Ends, Then, Goes}
-use Rattle.pearl_parse.proofs.StatementRests.{Spelled, exit_rest, behind_word}
-
-abbrev pub semas_rest : Rest
-semas_rest = Then SpellsNameList exit_rest
+use Rattle.pearl_grammar.proofs.Offered.{Rest, Ends, Next}
+use Rattle.pearl_parse.proofs.Steps.{Goes}
+use Rattle.pearl_parse.proofs.StatementRests.{Spelled, behind_word}
 
 abbrev pub station_ends : Rest
-station_ends = Then SpellsStation Ends
+station_ends = Next SpellsStation Ends
 
 abbrev pub put_rest : Rest
-put_rest = Then (SpellsBefore w.TO SpellsWhole) station_ends
+put_rest = Next (SpellsBefore w.TO SpellsWhole) station_ends
 
 abbrev pub get_rest : Rest
-get_rest = Then (SpellsBefore w.FROM SpellsOwnRef) station_ends
+get_rest = Next (SpellsBefore w.FROM SpellsOwnRef) station_ends
 
 pub no_value : (tokens : List Token) (from : ℕ) (x : Expr) (to : ℕ) → HasWord tokens from w.TO →
     SpellsWhole tokens from x to → ⊥
@@ -49,19 +45,6 @@ station_stopped tokens from least_stop (Refused k) h = (
 )
 
 module _ (tokens : List Token) (depth from : ℕ) where
-  pub semas_goes : (word : SemaWord) → HasWord tokens from (sema_word word) →
-      Goes (Spelled depth) tokens from semas_rest (from + 1) from
-  semas_goes word here = behind_word tokens depth from (sema_word word) 11 semas_rest here (kind word) by
-    where
-      kind : (word : SemaWord) → group_of (what.Word (sema_word word)) ≡ Some 11
-      kind Request = refl
-      kind Release = refl
-
-      by : (others : List Token) (a : Stmt) (to : ℕ) → T (eqb (group a) 11) → SpellsStmt others depth from a to →
-          semas_rest others (from + 1) to
-      by others (OnSemas part) to e h = (part.value.names.items.items, h.0, h.3, (h.4, h.5))
-      by others a to e h = absurd e
-
   pub put_goes : HasWord tokens from w.PUT → Goes (Spelled depth) tokens from put_rest (from + 1) from
   put_goes here = behind_word tokens depth from w.PUT 13 put_rest here refl by
     where

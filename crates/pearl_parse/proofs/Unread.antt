@@ -11,11 +11,11 @@ use Rattle.pearl_parse_expr.specs.declared.reading.Reading.{Reading}
 use Rattle.pearl_parse_expr.specs.Stops.{IsHalted}
 use Rattle.pearl_parse_expr.specs.Least.{HaltsIn}
 use Rattle.pearl_parse_expr.specs.Reads.{ReadsAs, ReadsOnly}
-use Rattle.pearl_parse.specs.Stops.{IsStopped}
-use Rattle.pearl_parse.specs.Reached.{HaltsBehind}
+use Rattle.pearl_grammar.specs.Reached.{IsStopped, HaltsBehind}
 use Rattle.pearl_parse_expr.specs.Reads.{ReadsOnlyMaybe}
 use Rattle.pearl_parse.specs.Reads.{ReadsBehind, ReadsOnlyBehind}
-use Rattle.pearl_parse.proofs.States.{halts_in, handed_on}
+use Rattle.pearl_grammar.proofs.Offered.{halts_in}
+use Rattle.pearl_parse.proofs.States.{handed_on}
 
 module _ {X : Type 0} (room : ℕ) (spells : List Token → Spelling X) (tokens : List Token) (from : ℕ) where
   -- none begins

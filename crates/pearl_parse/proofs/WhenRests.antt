@@ -18,13 +18,14 @@ use Rattle.pearl_parse_expr.specs.Stops.{extends_expression, is_name, is_word}
 use Rattle.pearl_parse_expr.proofs.Offered.{clash}
 use Rattle.pearl_parse.specs.Schedules.{SpellsOptionalAfter, SpellsOptionalPeriod}
 use Rattle.pearl_parse.proofs.ByFirst.{group, of_kind}
-use Rattle.pearl_parse.proofs.Steps.{Rest, Then, Avoids, Goes}
+use Rattle.pearl_grammar.proofs.Offered.{Rest, Next}
+use Rattle.pearl_parse.proofs.Steps.{Avoids, Goes}
 use Rattle.pearl_parse.proofs.StatementRests.{Spelled}
 use Rattle.pearl_parse.proofs.ScheduleRests.{continue_rest, priority_optional}
 use Rattle.pearl_parse.proofs.TaskingRests.{continued, resumed, resume_rest, begun_rest, optional_period, same}
 
 abbrev pub late_rest : Rest
-late_rest = Then SpellsOptionalAfter begun_rest
+late_rest = Next SpellsOptionalAfter begun_rest
 
 abbrev pub after_interrupt : Rest
 after_interrupt others at to = continued others at to ⊎ (resumed others at to ⊎ late_rest others at to)

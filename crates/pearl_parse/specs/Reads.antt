@@ -15,9 +15,9 @@ use Rattle.pearl_parse_expr.specs.declared.reading.Reading.{Reading}
 use Rattle.pearl_parse_expr.specs.Stops.{IsLongest, IsOnly, IsAhead, IsHalted, StopsWithin}
 use Rattle.pearl_parse_expr.specs.Least.{IsLeastIn}
 use Rattle.pearl_parse_expr.specs.Reads.{ReadsOnly}
-use Rattle.pearl_parse.specs.Stops.{IsStopped}
+use Rattle.pearl_grammar.specs.Reached.{IsStopped, HaltsBehind}
 use Rattle.pearl_parse.specs.Bodies.{SpellsClosing}
-use Rattle.pearl_parse.specs.Reached.{HaltsBehind, IsLeastBehind}
+use Rattle.pearl_parse.specs.Reached.{IsLeastBehind}
 
 -- a statement is read, with at most `depth` of those that hold others within one another
 abbrev pub ReadsNested : ℕ → List Token → ℕ → Result (Reading Stmt) Halt → Type 0

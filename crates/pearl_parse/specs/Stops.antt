@@ -1,5 +1,5 @@
 -- What statements that begin alike have in common: which token goes on with a part, and with which none goes on.
-use Rattle.std.specs.Prelude.{◌≡◌, ℕ, ◌+◌, ◌≤◌, ◌==◌, ◌||◌, Bool, true, false, List, [], ◌∷◌, length, max, Option, Some}
+use Rattle.std.specs.Prelude.{◌≡◌, ℕ, ◌+◌, ◌==◌, ◌||◌, Bool, true, false, List, [], ◌∷◌, max, Option, Some}
 use Rattle.std.specs.Prelude.{None}
 use Rattle.pearl_tree.specs.declared.token.What.{What}
 use Rattle.pearl_tree.specs.declared.token.What.TheVariants as what
@@ -8,7 +8,7 @@ use Rattle.pearl_tree.specs.declared.limit.TheConstants as limit
 use Rattle.pearl_tree.specs.Standing.{Spelling, what_at, HasWord, HasSymbol, IsName, SpellsName, SpellsList}
 use Rattle.pearl_parse_expr.specs.declared.reading.Halt.{Halt}
 use Rattle.pearl_parse_expr.specs.declared.reading.Halt.TheVariants.{Refused, NoMemory}
-use Rattle.pearl_parse_expr.specs.Stops.{Stuck, SpellsNamed}
+use Rattle.pearl_parse_expr.specs.Stops.{SpellsNamed}
 use Rattle.pearl_parse.specs.FirstWords.{statement_words}
 use Rattle.pearl_parse.specs.declared.transfer.Transfer.{Transfer}
 use Rattle.pearl_tree.specs.declared.expression.Selector.{Selector}
@@ -18,12 +18,6 @@ use Rattle.pearl_tree.specs.declared.name.Name.{Name}
 use Rattle.pearl_tree.specs.declared.format.Fmt.{Fmt}
 use Rattle.pearl_tree.specs.declared.symbol.TheConstants as s
 use Rattle.pearl_tree.specs.declared.word_code.TheConstants as w
-
--- nothing was read: for want of memory, or since with this token, no earlier one than at `least_stop`, none begins
-abbrev pub IsStopped : {X : Type 0} → (List Token → Spelling X) → List Token → ℕ → ℕ → Halt → Type 0
-IsStopped {X} spells tokens from least_stop NoMemory = Unit {0}
-IsStopped {X} spells tokens from least_stop (Refused stop) =
-    Stuck spells tokens from stop × (from ≤ stop) × (least_stop ≤ stop) × (stop ≤ length tokens)
 
 -- why a token is not there: it is refused at its number, or at `stop` where that is greater
 abbrev pub IsMissing : List Token → (Option What → Bool) → ℕ → ℕ → Halt → Type 0

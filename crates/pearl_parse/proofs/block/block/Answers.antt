@@ -7,8 +7,7 @@ use Rattle.pearl_tree.specs.declared.word_code.TheConstants as w
 use Rattle.pearl_parse_expr.specs.Stops.{is_symbol, is_word}
 use Rattle.pearl_parse_decl.specs.Readings.{behind as told_behind}
 use Rattle.pearl_parse_expr.proofs.Offered.{reading_is}
-use Rattle.pearl_parse.specs.Stops.{IsStopped}
-use Rattle.pearl_parse.specs.Reached.{HaltsBehind}
+use Rattle.pearl_grammar.specs.Reached.{IsStopped, HaltsBehind}
 use Rattle.pearl_parse.proofs.Steps.{missing_behind, no_part_behind, ends}
 use Rattle.pearl_parse.proofs.BlockRests.{end_rest, opened_rest, opened_goes, body_goes, behind_is_stopped}
 use Rattle.pearl_parse.proofs.BlockReads.{past_whole}

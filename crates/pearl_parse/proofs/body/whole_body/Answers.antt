@@ -3,7 +3,7 @@ use Rattle.std.proofs.Common.{arith}
 use Rattle.pearl_tree.specs.declared.limit.TheConstants as limit
 use Rattle.pearl_parse.specs.Bodies.{SpellsInner}
 use Rattle.pearl_parse.proofs.Blocks.{whole_is_longest, no_whole}
-use Rattle.pearl_parse.proofs.States.{goes_in_told, halts_in}
+use Rattle.pearl_grammar.proofs.Offered.{goes_in_told, halts_in}
 use Rattle.pearl_parse.proofs.body.whole_body.Goals as goal
 
 pub returns-in-Ok : goal.returns-in-Ok

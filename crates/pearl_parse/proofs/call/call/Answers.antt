@@ -4,7 +4,8 @@ use Rattle.pearl_parse_expr.specs.Stops.{is_name}
 use Rattle.pearl_parse_expr.proofs.Offered.{reading_is}
 use Rattle.pearl_tree.specs.declared.statement.Stmt.TheVariants as stmt
 use Rattle.pearl_parse.specs.Calls.{SpellsArguments}
-use Rattle.pearl_parse.proofs.Steps.{Ends, missing, Then}
+use Rattle.pearl_grammar.proofs.Offered.{Ends, Next}
+use Rattle.pearl_parse.proofs.Steps.{missing}
 use Rattle.pearl_parse.proofs.StatementRests.{Spelled}
 use Rattle.pearl_parse.proofs.CallRests.{call_rest, call_goes}
 use Rattle.pearl_tree.specs.Standing.{SpellsName}
@@ -29,7 +30,7 @@ returns-in_err-called c = λ depth.
     (call_goes tokens depth from c.requires.word)
     (λ others to h. h.0) (omega arith) (omega (arith, c.requires.within)) (omega (arith, c.requires.within))
     c.in_err-called.ensures.missing)
-    (halt_token 24 (Spelled depth) tokens from 0 2 (Then SpellsName (Then SpellsArguments Ends)) call_fills
+    (halt_token 24 (Spelled depth) tokens from 0 2 (Next SpellsName (Next SpellsArguments Ends)) call_fills
     (omega arith) is_name (from + 1) from c.in_err-called.field-0.0 begun c.in_err-called.ensures.missing)
 
 pub returns-in_err-arguments : goal.returns-in_err-arguments

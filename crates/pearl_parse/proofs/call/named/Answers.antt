@@ -12,7 +12,7 @@ use Rattle.pearl_parse.proofs.Tails.{semicolon_fills}
 use Rattle.pearl_parse.proofs.CallLeast.{arguments_are_local, no_target_least}
 use Rattle.pearl_parse.proofs.CallReads.{past_target, past_assigned, past_named}
 use Rattle.pearl_parse.proofs.StatementLeast.{expr_is_local}
-use Rattle.pearl_parse.proofs.States.{halt_part}
+use Rattle.pearl_grammar.proofs.Offered.{halt_part}
 use Rattle.pearl_parse.proofs.Stands.{no_last, last_is_only, last_goes, no_semicolon, semicolon_is_only, semicolon_goes}
 use Rattle.pearl_parse.proofs.Unread.{unread}
 use Rattle.pearl_parse.proofs.call.named.Goals as goal

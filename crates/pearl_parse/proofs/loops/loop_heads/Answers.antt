@@ -4,12 +4,13 @@ use Rattle.pearl_tree.specs.declared.word_code.TheConstants as w
 use Rattle.pearl_parse_expr.specs.Stops.{is_word}
 use Rattle.pearl_parse_expr.proofs.Offered.{reading_is}
 use Rattle.pearl_parse.specs.Bodies.{SpellsOptionalFor, SpellsHeads}
-use Rattle.pearl_parse.proofs.Steps.{missing, no_first, ends, Ends}
+use Rattle.pearl_grammar.proofs.Offered.{Ends, done, goes_in_told}
+use Rattle.pearl_parse.proofs.Steps.{missing, no_first, ends}
 use Rattle.pearl_parse.proofs.LoopRests.{from_rest, by_rest, to_rest, while_rest, repeat_word, heads_goes}
 use Rattle.pearl_parse.proofs.LoopLeast.{by_head, to_head, while_head, repeat_word as repeat_behind, control_halts}
 use Rattle.pearl_parse.proofs.LoopLeast.{by_fills, to_fills, while_fills, repeat_fills}
 use Rattle.pearl_parse.proofs.LoopReads.{behind_for, behind_from, behind_by, behind_to, behind_while, no_optional}
-use Rattle.pearl_parse.proofs.States.{past_word, halt_token, done, goes_in_told}
+use Rattle.pearl_parse.proofs.States.{past_word, halt_token}
 use Rattle.pearl_parse.proofs.Unread.{unread}
 use Rattle.pearl_parse.proofs.loops.loop_heads.Goals as goal
 

@@ -2,7 +2,8 @@
 use Rattle.std.proofs.Common.{◌≡◌, sym, subst, ◌<◌, ◌^◌, inl, length, rules, arith}
 use Rattle.pearl_tree.specs.declared.tree.Tree.{Tree}
 use Rattle.pearl_parse.specs.Modules.{SpellsHead, SpellsOpening, SpellsEnding, SpellsSource}
-use Rattle.pearl_parse.proofs.Steps.{Ends, past_only, no_part, no_first, ends}
+use Rattle.pearl_grammar.proofs.Offered.{Ends}
+use Rattle.pearl_parse.proofs.Steps.{past_only, no_part, no_first, ends}
 use Rattle.pearl_parse.proofs.ModuleRests.{problems_rest, list_rest, source_goes, last_goes, Declarations, as_tree}
 use Rattle.pearl_parse.proofs.ModuleLeast.{head_halts, past_title, opening_halts, past_opening, past_decls, close_halts}
 use Rattle.pearl_parse.proofs.ModuleLeast.{source_halts}

@@ -9,7 +9,7 @@ use Rattle.pearl_parse.proofs.Steps.{err_told, missing_is_refused, missing, ends
 use Rattle.pearl_parse.proofs.ModuleRests.{bracketed_rest, bracketed_goes, bracket_closes, bare_is_only, name_begins}
 use Rattle.pearl_parse.proofs.ModuleRests.{no_name}
 use Rattle.pearl_parse.proofs.ModuleLeast.{no_bracketed, no_bracket}
-use Rattle.pearl_parse.proofs.States.{halts_in}
+use Rattle.pearl_grammar.proofs.Offered.{halts_in}
 use Rattle.pearl_parse.proofs.Unread.{unread_only_maybe}
 use Rattle.pearl_parse.proofs.module.module_name.Goals as goal
 

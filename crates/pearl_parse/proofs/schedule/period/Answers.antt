@@ -1,14 +1,13 @@
 -- That a period is read, or the least stop is told.
 use Rattle.std.proofs.Common.{◌<◌, ◌^◌, length, rules, arith}
 use Rattle.pearl_parse_expr.proofs.Offered.{reading_is}
-use Rattle.pearl_parse.proofs.Steps.{Ends, Then}
+use Rattle.pearl_grammar.proofs.Offered.{Ends, Next, ends_fill, halt_part, past_part, done}
 use Rattle.pearl_parse.proofs.ScheduleRests.{period_stopped}
 use Rattle.pearl_tree.specs.Statements.{SpellsPeriodEnd, SpellsPeriod}
 use Rattle.pearl_tree.specs.declared.word_code.TheConstants as w
-use Rattle.pearl_parse.proofs.Comes.{Maybe, ends_fill}
+use Rattle.pearl_parse.proofs.Comes.{Maybe}
 use Rattle.pearl_parse.proofs.ScheduleMade.{After}
 use Rattle.pearl_parse.proofs.ScheduleLeast.{after_is_local, maybe_end_is_local, end_fills, period_first, period_past}
-use Rattle.pearl_parse.proofs.States.{halt_part, past_part, done}
 use Rattle.pearl_parse.proofs.Unread.{unread_behind}
 use Rattle.pearl_parse.proofs.schedule.period.Goals as goal
 
@@ -38,7 +37,7 @@ returns-in_err-duration c =
     let few : length tokens < 2 ^ 55 = search rules in
     unread_behind _ c.in_err-duration.field-0.0 c.from_residual.result c.from_residual.ensures (λ e is. is)
     (search rules)
-    (halt_part 16 SpellsPeriod tokens from low 0 8 (After w.ALL) (Then (Maybe SpellsPeriodEnd) Ends)
+    (halt_part 16 SpellsPeriod tokens from low 0 8 (After w.ALL) (Next (Maybe SpellsPeriodEnd) Ends)
     (after_is_local w.ALL) end_fills (omega arith) from low (omega arith)
     (period_first tokens from low (omega (arith, c.requires.from)) few) c.in_err-duration.field-0.0
     c.in_err-duration.ensures.least)
@@ -55,7 +54,8 @@ returns c =
     read.spells (omega (arith, read.bounds)) (omega (arith, read.bounds)) read.least in
     let end = c.in_ok-end.end in
     let last = c.in_ok-end.ensures.reads in
-    rw (reading_is c.map.result (record { duration = duration.part; end = end.part; place = c.place_at-place.result }) end.end
+    rw (reading_is c.map.result (record { duration = duration.part; end = end.part; place = c.place_at-place.result })
+    end.end
     end.stop (search rules) (search rules) (search rules))
     (record {
       spells = search rules;

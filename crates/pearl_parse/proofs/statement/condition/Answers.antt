@@ -4,12 +4,13 @@ use Rattle.pearl_tree.specs.Statements.{SpellsAfter}
 use Rattle.pearl_tree.specs.declared.word_code.TheConstants as w
 use Rattle.pearl_parse_expr.specs.Stops.{extends_expression, is_word}
 use Rattle.pearl_parse.specs.Bodies.{SpellsCondition}
-use Rattle.pearl_parse.proofs.Steps.{past, missing, no_part, ends, Ends}
+use Rattle.pearl_grammar.proofs.Offered.{Ends, halt_part, done, goes_in_told}
+use Rattle.pearl_parse.proofs.Steps.{past, missing, no_part, ends}
 use Rattle.pearl_parse.proofs.NestedRests.{then_word, condition_goes}
 use Rattle.pearl_parse.proofs.ScheduleMade.{After}
 use Rattle.pearl_parse.proofs.ScheduleLeast.{after_is_local}
 use Rattle.pearl_parse.proofs.LoopLeast.{then_word as then_behind, then_fills, condition_first, condition_past}
-use Rattle.pearl_parse.proofs.States.{past_word, halt_part, halt_token, done, goes_in_told}
+use Rattle.pearl_parse.proofs.States.{past_word, halt_token}
 use Rattle.pearl_parse.proofs.Unread.{unread}
 use Rattle.pearl_parse.proofs.statement.condition.Goals as goal
 

@@ -7,7 +7,7 @@ use Rattle.pearl_parse_expr.proofs.Offered.{reading_is}
 use Rattle.pearl_parse.proofs.Steps.{missing}
 use Rattle.pearl_parse.proofs.ModuleRests.{devices_rest, devices_go, system_is_longest}
 use Rattle.pearl_parse.proofs.SystemLeast.{no_devices, system_goes}
-use Rattle.pearl_parse.proofs.States.{halts_in}
+use Rattle.pearl_grammar.proofs.Offered.{halts_in}
 use Rattle.pearl_parse.proofs.Unread.{unread_as}
 use Rattle.pearl_parse.proofs.system.system.Goals as goal
 

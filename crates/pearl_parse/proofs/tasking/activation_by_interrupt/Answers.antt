@@ -3,7 +3,8 @@ use Rattle.std.proofs.Common.{◌+◌, ◌<◌, ◌^◌, length, rules, arith}
 use Rattle.pearl_parse_expr.proofs.Offered.{reading_is}
 use Rattle.pearl_tree.specs.declared.statement.Stmt.TheVariants as stmt
 use Rattle.pearl_parse.specs.Schedules.{SpellsOptionalAfter, SpellsBegun, SpellsAnyBegun}
-use Rattle.pearl_parse.proofs.Steps.{Ends, no_part, Then}
+use Rattle.pearl_grammar.proofs.Offered.{Ends, Next, halt_part}
+use Rattle.pearl_parse.proofs.Steps.{no_part}
 use Rattle.pearl_parse.proofs.StatementRests.{Spelled}
 use Rattle.pearl_parse.proofs.TaskingRests.{begun_rest}
 use Rattle.pearl_tree.specs.declared.word_code.TheConstants as w
@@ -12,7 +13,6 @@ use Rattle.pearl_parse.proofs.ScheduleMade.{After}
 use Rattle.pearl_parse.proofs.ScheduleLeast.{maybe_after_is_local, begun_is_local, begun_fills}
 use Rattle.pearl_parse.proofs.Stands.{no_last, last_is_only, last_goes}
 use Rattle.pearl_parse.proofs.TaskingReads.{then_waits, then_begins}
-use Rattle.pearl_parse.proofs.States.{halt_part}
 use Rattle.pearl_parse.proofs.Unread.{unread}
 use Rattle.pearl_parse.proofs.tasking.activation_by_interrupt.Goals as goal
 
@@ -27,7 +27,7 @@ returns-in_err-after c = λ depth.
     c.from_residual.ensures (λ e is. is)
     (no_part (Spelled depth) tokens from SpellsOptionalAfter begun_rest (from + 2) (from + 2) c.in_err-after.field-0.0
     at.goes (omega arith) c.in_err-after.ensures.refused)
-    (halt_part 24 (Spelled depth) tokens from 0 3 8 (Maybe (After w.AFTER)) (Then SpellsAnyBegun Ends)
+    (halt_part 24 (Spelled depth) tokens from 0 3 8 (Maybe (After w.AFTER)) (Next SpellsAnyBegun Ends)
     (maybe_after_is_local w.AFTER) begun_fills (omega arith) (from + 2) (from + 2) (omega arith) at.level
     c.in_err-after.field-0.0 c.in_err-after.ensures.least)
 

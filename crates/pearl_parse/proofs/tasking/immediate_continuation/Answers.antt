@@ -2,7 +2,8 @@
 use Rattle.std.proofs.Common.{◌+◌, ap, ◌<◌, ◌^◌, length, rules, arith}
 use Rattle.pearl_tree.specs.declared.symbol.TheConstants as s
 use Rattle.pearl_parse_expr.specs.Stops.{is_symbol, is_name}
-use Rattle.pearl_parse.proofs.Steps.{missing, ends, Then}
+use Rattle.pearl_grammar.proofs.Offered.{Next}
+use Rattle.pearl_parse.proofs.Steps.{missing, ends}
 use Rattle.pearl_parse.proofs.StatementRests.{Spelled}
 use Rattle.pearl_parse.proofs.ScheduleRests.{continue_rest, continue_goes}
 use Rattle.pearl_tree.specs.Standing.{SpellsName}
@@ -20,7 +21,7 @@ returns-in_err-task c = λ depth.
     let tokens = c.args.tokens.now in
     let from = c.args.from in
     let few : length tokens < 2 ^ 55 = search rules in
-    let at = past_word 24 (Spelled depth) tokens from 0 w.CONTINUE (Then SpellsName semicolon) from from (from + 1)
+    let at = past_word 24 (Spelled depth) tokens from 0 w.CONTINUE (Next SpellsName semicolon) from from (from + 1)
     (omega arith) (by_rule tokens depth from c.requires.within few continuation (continuation_made depth))
     c.requires.word c.requires.within in
     unread 24 (Spelled depth) tokens from _ c.in_err-task.field-0.0 c.from_residual.result c.from_residual.ensures
@@ -36,7 +37,7 @@ returns-in_err-symbol c = λ depth.
     let tokens = c.args.tokens.now in
     let from = c.args.from in
     let few : length tokens < 2 ^ 55 = search rules in
-    let at = past_word 24 (Spelled depth) tokens from 0 w.CONTINUE (Then SpellsName semicolon) from from (from + 1)
+    let at = past_word 24 (Spelled depth) tokens from 0 w.CONTINUE (Next SpellsName semicolon) from from (from + 1)
     (omega arith) (by_rule tokens depth from c.requires.within few continuation (continuation_made depth))
     c.requires.word c.requires.within in
     unread 24 (Spelled depth) tokens from _ c.in_err-symbol.field-0.0 c.from_residual-in_err-symbol.result

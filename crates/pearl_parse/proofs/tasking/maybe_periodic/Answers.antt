@@ -2,13 +2,14 @@
 use Rattle.std.proofs.Common.{◌<◌, ◌^◌, length, rules, arith}
 use Rattle.pearl_parse_expr.proofs.Offered.{reading_is}
 use Rattle.pearl_parse.specs.Schedules.{SpellsOptionalPeriod, SpellsActivation, SpellsBegun, SpellsAnyBegun}
-use Rattle.pearl_parse.proofs.Steps.{Ends, past_only, no_part_behind, Then}
+use Rattle.pearl_grammar.proofs.Offered.{Ends, Next, ends_fill, halt_part, past_part, done}
+use Rattle.pearl_parse.proofs.Steps.{past_only, no_part_behind}
 use Rattle.pearl_parse.proofs.ScheduleRests.{activation_rest, begun_goes, begun_goes_on}
 use Rattle.pearl_tree.specs.Statements.{SpellsPeriod}
-use Rattle.pearl_parse.proofs.Comes.{Maybe, ends_fill}
-use Rattle.pearl_parse.proofs.ScheduleLeast.{maybe_period_is_local, activation_is_local, activation_part_fills}
+use Rattle.pearl_parse.proofs.Comes.{Maybe}
+use Rattle.pearl_parse.proofs.Activations.{activation_is_local}
+use Rattle.pearl_parse.proofs.ScheduleLeast.{maybe_period_is_local, activation_part_fills}
 use Rattle.pearl_parse.proofs.ScheduleLeast.{begun_first, begun_past}
-use Rattle.pearl_parse.proofs.States.{halt_part, past_part, done}
 use Rattle.pearl_parse.proofs.Unread.{unread_only_behind}
 use Rattle.pearl_parse.proofs.tasking.maybe_periodic.Goals as goal
 
@@ -22,7 +23,7 @@ returns-in_err-period c =
     (no_part_behind SpellsBegun tokens from low SpellsOptionalPeriod activation_rest from low
     c.in_err-period.field-0.0 (begun_goes tokens from low) c.requires.least_stop.0 (omega arith)
     c.in_err-period.ensures.refused)
-    (halt_part 24 SpellsAnyBegun tokens from low 3 16 (Maybe SpellsPeriod) (Then SpellsActivation Ends)
+    (halt_part 24 SpellsAnyBegun tokens from low 3 16 (Maybe SpellsPeriod) (Next SpellsActivation Ends)
     maybe_period_is_local activation_part_fills (omega arith) from low (omega arith)
     (begun_first tokens from low (omega (arith, c.requires.from)) few) c.in_err-period.field-0.0
     c.in_err-period.ensures.least)

@@ -3,15 +3,16 @@ use Rattle.std.proofs.Common.{◌<◌, ◌^◌, length, rules, arith}
 use Rattle.pearl_parse_expr.proofs.Offered.{reading_is}
 use Rattle.pearl_tree.specs.declared.statement.Stmt.TheVariants as stmt
 use Rattle.pearl_parse.specs.Schedules.{SpellsLongPeriod, SpellsActivation}
-use Rattle.pearl_parse.proofs.Steps.{Ends, no_part, Then}
+use Rattle.pearl_grammar.proofs.Offered.{Ends, Next, halt_part}
+use Rattle.pearl_parse.proofs.Steps.{no_part}
 use Rattle.pearl_parse.proofs.StatementRests.{Spelled}
 use Rattle.pearl_parse.proofs.ScheduleRests.{activation_rest}
 use Rattle.pearl_parse.proofs.TaskingRests.{periodic_goes}
 use Rattle.pearl_tree.specs.Statements.{SpellsPeriod}
-use Rattle.pearl_parse.proofs.ScheduleLeast.{period_is_local, activation_is_local, activation_part_fills}
+use Rattle.pearl_parse.proofs.Activations.{activation_is_local}
+use Rattle.pearl_parse.proofs.ScheduleLeast.{period_is_local, activation_part_fills}
 use Rattle.pearl_parse.proofs.ScheduleLeast.{periodic_activation_made}
 use Rattle.pearl_parse.proofs.StatementLeast.{by_rule}
-use Rattle.pearl_parse.proofs.States.{halt_part}
 use Rattle.pearl_parse.proofs.Stands.{no_last, last_is_only, last_goes}
 use Rattle.pearl_parse.proofs.TaskingReads.{past_period}
 use Rattle.pearl_parse.proofs.Unread.{unread}
@@ -22,13 +23,13 @@ returns-in_err-period c = λ depth.
     let tokens = c.args.tokens.now in
     let from = c.args.from in
     let few : length tokens < 2 ^ 55 = search rules in
-    let begun = by_rule tokens depth from c.requires.within few (Then SpellsPeriod (Then SpellsActivation Ends))
+    let begun = by_rule tokens depth from c.requires.within few (Next SpellsPeriod (Next SpellsActivation Ends))
     (periodic_activation_made depth) in
     unread 24 (Spelled depth) tokens from _ c.in_err-period.field-0.0 c.from_residual.result c.from_residual.ensures
     (λ e is. is)
     (no_part (Spelled depth) tokens from SpellsLongPeriod activation_rest from from c.in_err-period.field-0.0
     (periodic_goes tokens depth from c.requires.word) (omega arith) c.in_err-period.ensures.refused)
-    (halt_part 24 (Spelled depth) tokens from 0 3 16 SpellsPeriod (Then SpellsActivation Ends) period_is_local
+    (halt_part 24 (Spelled depth) tokens from 0 3 16 SpellsPeriod (Next SpellsActivation Ends) period_is_local
     activation_part_fills (omega arith) from from (omega arith) begun c.in_err-period.field-0.0
     c.in_err-period.ensures.least)
 

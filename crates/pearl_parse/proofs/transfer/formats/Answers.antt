@@ -7,11 +7,11 @@ use Rattle.pearl_parse_expr.specs.declared.reading.Halt.TheVariants.{Refused}
 use Rattle.pearl_parse_expr.specs.Stops.{is_symbol}
 use Rattle.pearl_parse_expr.proofs.Offered.{reading_is}
 use Rattle.pearl_parse.specs.Stops.{SpellsFormats}
-use Rattle.pearl_parse.proofs.Steps.{Ends}
+use Rattle.pearl_grammar.proofs.Offered.{Ends, past_part, halt_part, done}
 use Rattle.pearl_parse.proofs.Made.{semicolon}
 use Rattle.pearl_parse.proofs.Tails.{semicolon_fills}
 use Rattle.pearl_parse.proofs.TransferLeast.{formats_are_local, formats_first}
-use Rattle.pearl_parse.proofs.States.{past_part, past_symbol, halt_part, halt_token, halted_behind, done}
+use Rattle.pearl_parse.proofs.States.{past_symbol, halt_token, halted_behind}
 use Rattle.pearl_parse.proofs.transfer.formats.Goals as goal
 
 pub returns-then-not-is_symbol : goal.returns-then-not-is_symbol

@@ -1,17 +1,17 @@
 -- That a station is read with its formats, or the least stop is told.
 use Rattle.std.proofs.Common.{◌<◌, ◌^◌, length, rules, ◌+◌, arith}
 use Rattle.pearl_parse_expr.proofs.Offered.{reading_is}
-use Rattle.pearl_parse.proofs.Steps.{Ends, Then}
+use Rattle.pearl_grammar.proofs.Offered.{Ends, Next, ends_fill, past_part, halt_part, done}
 use Rattle.pearl_parse.proofs.TransferRests.{station_stopped}
 use Rattle.pearl_tree.specs.Standing.{SpellsName}
 use Rattle.pearl_tree.specs.declared.word_code.TheConstants as w
 use Rattle.pearl_parse_expr.specs.Stops.{is_name, is_word}
 use Rattle.pearl_parse.specs.Stops.{SpellsFormats, SpellsStation}
-use Rattle.pearl_parse.proofs.Comes.{BehindWord, ends_fill}
+use Rattle.pearl_parse.proofs.Comes.{BehindWord}
 use Rattle.pearl_parse.proofs.Tails.{by_fills}
 use Rattle.pearl_parse.proofs.TransferLeast.{formats_end_is_local, station_fills, station_first, station_by}
 use Rattle.pearl_parse.proofs.TransferLeast.{station_formats}
-use Rattle.pearl_parse.proofs.States.{past_part, halt_part, halt_token, done}
+use Rattle.pearl_parse.proofs.States.{halt_token}
 use Rattle.pearl_parse.proofs.Unread.{unread_only_behind}
 use Rattle.pearl_parse.proofs.transfer.station.Goals as goal
 
@@ -63,7 +63,7 @@ returns-in_err-dation c =
     let few : length tokens < 2 ^ 55 = search rules in
     unread_only_behind _ c.in_err-dation.field-0.0 c.from_residual.result c.from_residual.ensures (λ e is. is)
     (search rules)
-    (halt_token 24 SpellsStation tokens from low 4 (Then SpellsName (BehindWord w.BY (Then SpellsFormats Ends)))
+    (halt_token 24 SpellsStation tokens from low 4 (Next SpellsName (BehindWord w.BY (Next SpellsFormats Ends)))
     station_fills (omega arith) is_name from low c.in_err-dation.field-0.0
     (station_first tokens from low (omega (arith, c.requires.from)) few) c.in_err-dation.ensures.missing)
 
@@ -76,7 +76,7 @@ returns-in_err-word c =
     unread_only_behind _ c.in_err-word.field-0.0 c.from_residual-in_err-word.result c.from_residual-in_err-word.ensures
     (λ e is. is)
     (search rules)
-    (halt_token 24 SpellsStation tokens from low 3 (BehindWord w.BY (Then SpellsFormats Ends)) by_fills (omega arith)
+    (halt_token 24 SpellsStation tokens from low 3 (BehindWord w.BY (Next SpellsFormats Ends)) by_fills (omega arith)
     (is_word w.BY) (from + 1) low c.in_err-word.field-0.0
     (station_by tokens from low (omega (arith, c.requires.from)) few c.in_ok-dation.dation
     c.in_ok-dation.ensures.stands c.in_ok-dation.ensures.within) c.in_err-word.ensures.missing)
