@@ -1,13 +1,13 @@
 -- An object runs as its program means.
-use Rattle.std.proofs.Common.{◌≡◌, ℕ, ◌+◌, ◌*◌, ◌≤◌, List, Some, None, option_map, length, map, sym, ap, ap₂, ◌∙◌, subst}
+use Rattle.std.proofs.Common.{◌≡◌, ℕ, List, Some, option_map, length, map, sym, ap, ap₂, ◌∙◌, subst}
 use Rattle.std.proofs.lemmas.List.{length-map}
 use Rattle.pearl_rules.specs.declared.entry.Entry.{Entry}
 use Rattle.pearl_rules.specs.Runs as runs
-use Rattle.pearl_rules.specs.Runs.{source_next, source_offers}
+use Rattle.pearl_rules.specs.Runs.{source_offers}
 use Rattle.pearl_rules.specs.Entries.{AreFitting}
 use Rattle.pearl_rules.specs.Faithful.{Alone, Soon, IsFaithful}
-use Rattle.pearl_rules.specs.Laws.{Comes, EndsSoon}
-use Rattle.pearl_rules.proofs.Offered.{faithful, ends_soon, has_kinds, first_end, source_ends}
+use Rattle.pearl_rules.specs.Laws.{Comes}
+use Rattle.pearl_rules.proofs.Offered.{faithful}
 use Rattle.pearl_program.specs.PlainPrograms.{PlainProg}
 use Rattle.pearl_program.specs.Sound.{IsSound}
 use Rattle.pearl_instructions.specs.declared.object.Parts.{Parts as Object}
@@ -20,10 +20,11 @@ use Rattle.pearl_instructions.specs.Setups.{entry_of, setup_of}
 use Rattle.pearl_instructions.specs.Engines.{engine, total_rows, machine_run, marked}
 use Rattle.pearl_instructions.specs.Owners.{rows_left}
 use Rattle.pearl_instructions.specs.RunLaws.{AreTables}
+use Rattle.pearl_instructions_laws.specs.Laws.{RunsEnd}
 use Rattle.pearl_gen_stmt.specs.Generated.{IsGenerated}
 use Rattle.pearl_faithful.specs.Said.{said, without_formats}
 use Rattle.pearl_faithful.specs.Faithful.{RunsAlike, Makes}
-use Rattle.pearl_faithful.specs.Laws.{SameRuns, TasksStand, TasksOfferSoon, FaithfulPrograms, SameActions, ObjectsFinish, ObjectsKeepKinds}
+use Rattle.pearl_faithful.specs.Laws.{SameRuns, TasksStand, TasksOfferSoon, FaithfulPrograms, SameActions, ObjectsFinish}
 use Rattle.pearl_faithful.specs.Standing.{Stands}
 use Rattle.pearl_faithful.proofs.Setups.{same_setups}
 use Rattle.pearl_faithful.proofs.Telling.{end_alike}
@@ -71,11 +72,6 @@ module _ (tables : AreTables) (stand : TasksStand) (offer_soon : TasksOfferSoon)
   runs_faithfully = subst (λ count. IsFaithful (offer p) (engine o) (setup_of o) count (total_rows o)) count
       (faithful (offer p) (engine o) (Stands p o) (λ t frames. rows_left o frames) (setup_of o) (total_rows o) (tables o lawful).slots (tables o lawful).devices alone soon)
 
-  comes_to_its_end : (es : List Entry) → AreFitting (setup_of o) es → (m : ℕ) → Comes (offer p) (setup_of o) es m → source_next (offer p) (runs.source_run (offer p) (setup_of o) es m) ≡ None →
-      EndsSoon (engine o) (setup_of o) es m ((m + 1) * (length o.tasks * total_rows o + 1))
-  comes_to_its_end es fit m comes none = subst (λ count. EndsSoon (engine o) (setup_of o) es m ((m + 1) * (count * total_rows o + 1))) count
-      (ends_soon (offer p) (engine o) (Stands p o) (λ t frames. rows_left o frames) (setup_of o) (total_rows o) (tables o lawful).slots (tables o lawful).devices alone soon es fit m comes none)
-
 pub same_actions : AreTables → TasksStand → TasksOfferSoon → SameActions
 same_actions = runs_faithfully
 
@@ -95,19 +91,12 @@ faithful_programs tables stand soon p o sound generated lawful valid =
       goes_on = makes p o same is;
     }
 
-pub objects_finish : AreTables → TasksStand → TasksOfferSoon → ObjectsFinish
-objects_finish tables stand soon p o sound generated lawful valid es fit =
-    let whole = source_ends (offer p) (setup_of o) es in
-    let first = first_end (offer p) (setup_of o) es whole.0 in
-    let end = comes_to_its_end tables stand soon p o sound generated lawful valid es fit first.at first.comes
-    (subst (λ s. source_next (offer p) s ≡ None) (sym first.same) whole.1) in
+pub objects_finish : AreTables → TasksStand → TasksOfferSoon → RunsEnd → ObjectsFinish
+objects_finish tables stand soon ends p o sound generated lawful valid es fit =
+    let end = ends o valid lawful es fit in
     record {
       at = end.at;
-      within = subst (λ m. end.at ≤ (m + 1) * (length o.tasks * total_rows o + 1)) (sym end.made) end.within;
+      within = end.within;
       has_ended = end.has_ended;
       alike = end_alike p o (faithful_programs tables stand soon p o sound generated lawful valid) es fit end.at end.has_ended;
     }
-
-pub objects_keep_kinds : AreTables → TasksStand → ObjectsKeepKinds
-objects_keep_kinds tables stand p o sound generated lawful valid es fit n =
-    has_kinds (offer p) (engine o) (Stands p o) (setup_of o) (tables o lawful).slots (tables o lawful).devices (stand p o sound generated lawful valid) es fit n

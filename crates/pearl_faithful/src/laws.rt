@@ -5,6 +5,7 @@ ghost use Rattle.pearl_faithful.specs.Laws.{SameTables, SameRuns, TasksStand, Ta
 
 use pearl_gen_stmt::laws::{code_arrives, tasks_offer};
 use pearl_instructions::runs;
+use pearl_instructions_laws::laws::{runs_end, runs_keep_kinds};
 
 /// What a sound program becomes is as each object is to be, and no rule of the validator fails in it, where it has no
 /// more formats than an object may have.
@@ -71,14 +72,14 @@ pub fn objects_finish()
 {
     runs::tables_are_lawful();
     tasks_stand();
+    runs_end();
 }
 
 /// In such a run every variable of the module holds a value of its kind, and only such values wait at an input.
 pub fn objects_keep_kinds()
     ensures { ObjectsKeepKinds }
 {
-    runs::tables_are_lawful();
-    tasks_stand();
+    runs_keep_kinds();
 }
 
 /// An object that does what a program means tells what it does, step by step.

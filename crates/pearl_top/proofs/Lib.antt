@@ -12,7 +12,6 @@ mod PrintLaws
 mod PrintsItsText
 mod ReplayLaws
 mod RunEnds
-mod OwnRuns
 mod TranscriptLaws
 mod Names
 mod FaithfulRuns

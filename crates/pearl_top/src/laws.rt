@@ -5,7 +5,8 @@ ghost use Rattle.pearl_top.specs.Laws.{HasOneMeaning, HasOneTranscript, HasOneSt
 ghost use Rattle.pearl_top.specs.Laws.{CompiledRunsAlike, FilesInOrderEndWell, ObjectsWriteAlike, PrintsItsText, ValidObjectsRun};
 ghost use Rattle.pearl_top.specs.SoundPrograms.{BodiesRenewRight, ProgramsAreSound};
 
-use pearl_instructions::runs;
+use pearl_instructions::runs::objects_run_as_they_offer;
+use pearl_instructions_laws::laws::runs_end;
 
 /// What goes into the variables of tasks and procedures as first values suits them.
 pub fn bodies_renew_right()
@@ -37,10 +38,8 @@ pub fn objects_write_alike()
 pub fn valid_objects_run()
     ensures { ValidObjectsRun }
 {
-    runs::tables_are_lawful();
-    runs::code_stands();
-    runs::actions_are_offered_soon();
-    runs::objects_run_as_they_offer();
+    objects_run_as_they_offer();
+    runs_end();
 }
 
 /// A command and its files have at most one status, where nothing outside fails and memory is there.

@@ -34,11 +34,12 @@ use pearl_script::refusal::Refusal;
 use std::alloc::Global;
 
 /// Carries out the command of the words after the program's name: reads the files that it names from the shelf, and
-/// writes what is due to the sink. Tests hold that each line is one piece.
+/// writes what is due to the sink. Tests hold that each line is one piece, and that a printed text, an object and a listing
+/// are one piece each.
 ///
-/// Memory may run out before a text is printed, while a source is checked or compiled, while an object is read, validated or
-/// listed, before the first line of a run is written, and while the workload runs, and then the line `error memory` alone is
-/// due. What is due otherwise, and with which status, is `Due`.
+/// Memory may run out only before anything is written: while a source or an object is read, while the text, the object, the
+/// listing or the machine is made of it, and while the workload runs. Then the line `error memory` alone is due. What is
+/// due otherwise, and with which status, is `Due`.
 pub fn pearl<S: Shelf, K: Sink>(
     alloc: Global,
     words: &[String],

@@ -1,5 +1,4 @@
-use Rattle.pearl_faithful.proofs.Runs.{objects_keep_kinds}
 use Rattle.pearl_faithful.proofs.laws.objects_keep_kinds.Goals as goal
 
 pub returns : goal.returns
-returns c = objects_keep_kinds c.tables_are_lawful.ensures c.tasks_stand.ensures.alone
+returns c = λ p o sound generated lawful valid es fit n. c.runs_keep_kinds.ensures o valid lawful es fit n

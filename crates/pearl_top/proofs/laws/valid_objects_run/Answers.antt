@@ -1,6 +1,9 @@
-use Rattle.pearl_top.proofs.OwnRuns.{valid_objects_run}
+use Rattle.pearl_instructions.specs.OwnOffers.{own_offer}
 use Rattle.pearl_top.proofs.laws.valid_objects_run.Goals as goal
 
 pub returns : goal.returns
-returns c =
-    valid_objects_run c.tables_are_lawful.ensures c.code_stands.ensures c.actions_are_offered_soon.ensures c.objects_run_as_they_offer.ensures
+returns c = λ o valid lawful. record {
+  offer = own_offer o;
+  runs = c.objects_run_as_they_offer.ensures o valid lawful;
+  finishes = λ es fit. let end = c.runs_end.ensures o valid lawful es fit in (end.at, end.has_ended);
+}
