@@ -25,7 +25,11 @@ mod outside;
 #[cfg(test)]
 mod rules;
 #[cfg(test)]
+mod saved_rules;
+#[cfg(test)]
 mod scans;
+#[cfg(test)]
+mod snapshots;
 #[cfg(test)]
 mod stacks;
 #[cfg(test)]

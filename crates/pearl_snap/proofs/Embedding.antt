@@ -1,9 +1,13 @@
--- A part behind the number of its bytes keeps what is told of it; so a snapshot is read as it is spelled, where an object is.
+-- A part behind the number of its bytes keeps what is told of it; so a snapshot is read as it is spelled.
 use Rattle.std.proofs.Common.{◌≡◌, ℕ, suc, ◌-◌, ◌≤◌, ◌<◌, ◌^◌, Bool, true, false, cond, ltb, ltb-false, List, [], ◌∷◌, ◌++◌, length, take, drop, Result, Ok, Err, refl, sym, ap, subst, ◌∙◌, append_assoc, arith, inl, inr, length-append, ◌⊎◌}
 use Rattle.std.proofs.lemmas.List.{take-append-drop, take-append-le, length-take-le, take_all}
-use Rattle.pearl_fields.specs.Codec.{◌>>=◌, Seen, Codec, exactly, number, number_bytes, number_read, whole_read, IsBytes, IsLawful, IsOrdered}
+use Rattle.pearl_fields.specs.declared.fault.ReadFault.{ReadFault}
+use Rattle.pearl_fields.specs.declared.fault.ReadFault.TheVariants as fault
+use Rattle.pearl_fields.specs.Codec.{◌>>=◌, Seen, Codec, exactly, exact_read, number, number_bytes, number_read, whole_read, IsBytes, IsLawful, IsOrdered}
+use Rattle.pearl_fields.specs.Reads.{Fails}
 use Rattle.pearl_fields.proofs.Offered.{IsTold, number_told, pair_told, shaped_told, exactly_told, whole_takes, whole_again, bind_err, ok_is, local, bytes_before, bytes_behind}
 use Rattle.pearl_object.specs.Objects.{object}
+use Rattle.pearl_object.proofs.Offered.{object_told}
 use Rattle.pearl_snap.specs.Snapshots.{blamed, held_in, embedded_read, embedded, front, snapshot}
 use Rattle.pearl_snap.proofs.Wholes.{saved_told}
 
@@ -70,7 +74,7 @@ empty_number : number_read [] ≡ Err 0
 unfolding number_read
 empty_number = refl
 
-pub embedded_lawful : {X : Type 0} (c : Codec X) → IsLawful c → IsLawful (embedded c)
+embedded_lawful : {X : Type 0} (c : Codec X) → IsLawful c → IsLawful (embedded c)
 unfolding embedded_read
 embedded_lawful {X} c l = record {
   takes = λ bytes x rest are e. by_number bytes x rest are (number_read bytes) refl e;
@@ -96,7 +100,7 @@ embedded_lawful {X} c l = record {
           (omega (arith, t.1, h.1.0), h.1.1),
         )
 
-pub embedded_ordered : {X : Type 0} (c : Codec X) → IsLawful c → IsOrdered (embedded c)
+embedded_ordered : {X : Type 0} (c : Codec X) → IsLawful c → IsOrdered (embedded c)
 unfolding embedded_read
 embedded_ordered c l = record {
   before = λ bytes left are e. elim (bind_err (number_read bytes) (λ n. held_in c (length bytes) n.0 n.1) left e) [
@@ -112,9 +116,40 @@ embedded_ordered c l = record {
   ];
 }
 
--- a snapshot is told, where an object is
-pub snapshot_told : IsLawful object → IsOrdered object → IsTold snapshot
+embedded_told : {X : Type 0} (c : Codec X) → IsTold c → IsTold (embedded c)
+embedded_told c t = record { lawful = embedded_lawful c t.lawful; ordered = embedded_ordered c t.lawful }
+
+pub snapshot_told : IsTold snapshot
 unfolding snapshot
-snapshot_told l o =
+snapshot_told =
     shaped_told (λ s. (tt, (s.object, s.saved))) (λ p. record { object = p.1.0; saved = p.1.1 }) _
-    (pair_told (exactly front) _ (exactly_told 80 (82 ∷ 83 ∷ 49 ∷ [])) (λ x. pair_told (embedded object) _ (record { lawful = embedded_lawful object l; ordered = embedded_ordered object l }) (λ o. saved_told))) (λ a h. refl)
+    (pair_told (exactly front) _ (exactly_told 80 (82 ∷ 83 ∷ 49 ∷ [])) (λ x. pair_told (embedded object) _ (embedded_told object object_told) (λ o. saved_told))) (λ a h. refl)
+
+-- ---- reading the parts one after the other
+
+pub front_fails : {X : Type 0} (c : Codec X) (bytes : List ℕ) (f : ReadFault) → Fails (number_read bytes) f → Fails (embedded_read c bytes) f
+unfolding embedded_read
+front_fails c bytes (fault.Bad left) e = rw e refl
+front_fails c bytes fault.NoMemory e = tt
+
+has_less : (m n : ℕ) → m < n → ltb m n ≡ true
+has_less m n h = grind arith
+
+pub front_short : {X : Type 0} (c : Codec X) (bytes rest : List ℕ) (count : ℕ) → number_read bytes ≡ Ok (count, rest) → length rest < count → embedded_read c bytes ≡ Err 0
+unfolding embedded_read
+front_short c bytes rest count e less = rw (e, has_less (length rest) count less) refl
+
+module _ {X : Type 0} (c : Codec X) (bytes rest inner : List ℕ) (count : ℕ) (e : number_read bytes ≡ Ok (count, rest)) (le : count ≤ length rest) (is : inner ≡ take count rest) where
+  pub part_read : (x : X) (behind : List ℕ) → behind ≡ drop count rest → whole_read c inner ≡ Ok x → embedded_read c bytes ≡ Ok (x, behind)
+  unfolding embedded_read
+  part_read x behind left seen =
+      let here : whole_read c (take count rest) ≡ Ok x = ap (whole_read c) (sym is) ∙ seen in rw (e, has_room (length rest) count le, here, left) refl
+
+  pub part_bad : (d : ℕ) → whole_read c inner ≡ Err d → embedded_read c bytes ≡ Err (length bytes)
+  unfolding embedded_read
+  part_bad d seen = let here : whole_read c (take count rest) ≡ Err d = ap (whole_read c) (sym is) ∙ seen in rw (e, has_room (length rest) count le, here) refl
+
+-- what stands behind the front is no more than there was
+pub front_shorter : (bytes rest : List ℕ) → IsBytes bytes → exact_read (length bytes) front bytes ≡ Ok (tt, rest) → length rest ≤ length bytes
+front_shorter bytes rest are e =
+    let t = (exactly_told 80 (82 ∷ 83 ∷ 49 ∷ [])).lawful.takes bytes tt rest are e in omega (arith, ap length t.0, length-append front rest)

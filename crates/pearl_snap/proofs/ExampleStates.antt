@@ -16,8 +16,8 @@ use Rattle.pearl_snap.specs.declared.saved.Target.TheVariants.{Own}
 use Rattle.pearl_snap.specs.declared.saved.SavedCell.{SavedCell}
 use Rattle.pearl_snap.specs.declared.saved.SavedCell.TheVariants.{Value, Variable}
 use Rattle.pearl_snap.specs.declared.saved.FrameRecord.{FrameRecord}
-use Rattle.pearl_value.specs.WellFormed.{IsValueOf}
-use Rattle.pearl_snap.specs.Rules.{HasParts, HasNumbers, HasPlans, IsPlan, IsAtCall, IsAtPlace, HasStacks, IsStackOf, AllRefer, own_kind, Names}
+use Rattle.pearl_value.specs.WellFormed.{IsValue, IsValueOf}
+use Rattle.pearl_snap.specs.Rules.{HasParts, HasNumbers, HasPlans, IsPlan, IsHeld, IsAtCall, IsAtPlace, HasStacks, IsStackOf, AllRefer, own_kind, Names}
 
 -- a variable n of two slots, a procedure with a reference, and a task that calls it with its cell
 abbrev returning : Code
@@ -91,12 +91,19 @@ numbers_are = record {
 plans_are : HasPlans small standing
 plans_are = (record { dormant = λ e. refl; goes_on = tt; starts = tt }, tt)
 
+five_is : IsValue (cell.Fixed 31 (pos 5))
+five_is = ((omega arith, omega arith), record { low = omega (arith, ints); high = omega (arith, ints) })
+
+-- 1000 is no FIXED(5)
+too_wide : IsHeld (Value (cell.Fixed 5 (pos 1000))) → ⊥
+too_wide h = let high = h.1.high in omega (arith, ints, high)
+
 -- the lower frame is at its Call, without the argument
 at_call : IsAtCall small 0 lowest
-at_call = record { code = calling; routine = refl; place = refl; callee = adding; called = refl; stands = record { cells = refl; operands = refl } }
+at_call = record { code = calling; routine = refl; place = refl; callee = adding; called = refl; stands = record { cells = refl; operands = refl; values = (five_is, tt) } }
 
 at_place : IsAtPlace small (called 0 0)
-at_place = record { code = returning; routine = refl; place = omega arith; stands = record { cells = refl; operands = refl } }
+at_place = record { code = returning; routine = refl; place = omega arith; stands = record { cells = refl; operands = refl; values = (tt, tt) } }
 
 stands : HasStacks small 0 standing.tasks ((lowest ∷ called 0 0 ∷ []) ∷ [])
 stands = ((refl, at_call, (refl, at_place)), tt)

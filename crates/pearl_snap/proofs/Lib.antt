@@ -1,5 +1,12 @@
-mod Literals
 mod Wholes
 mod Embedding
+mod Puts
+mod Reading
+mod Shorter
 mod ExampleStates
 mod ExampleBytes
+mod Alls
+mod Zips
+mod Values
+mod References
+mod Climbing

@@ -1,7 +1,8 @@
 -- Cells, plans, tasks and states are read as they are spelled.
-use Rattle.std.proofs.Common.{◌≡◌, ℕ, zero, suc, ◌-◌, ◌^◌, ◌<◌, true, false, List, [], ◌∷◌, None, Some, refl, ap, arith}
-use Rattle.pearl_fields.specs.Codec.{Codec, number, pair}
-use Rattle.pearl_fields.proofs.Offered.{IsTold, byte_told, number_told, shaped_told, pair_told, tagged_told, counted_told, made_arm}
+use Rattle.std.proofs.Common.{◌≡◌, ℕ, zero, suc, ◌-◌, ◌^◌, ◌<◌, true, false, List, [], ◌∷◌, None, Some, refl, ap, ◌∙◌, arith}
+use Rattle.pearl_fields.specs.Codec.{Codec, nothing, number, pair}
+use Rattle.pearl_fields.proofs.Offered.{IsTold, IsArm, byte_told, number_told, nothing_told, shaped_told, pair_told, tagged_told, counted_told, made_arm}
+use Rattle.pearl_object.proofs.Offered.{flag_told, bounds_told, kind_told, literal_told}
 use Rattle.pearl_object.specs.Kinds.{kind}
 use Rattle.pearl_object.specs.Literals.{literal}
 use Rattle.pearl_object.specs.Operands.{bounds, flag}
@@ -17,7 +18,14 @@ use Rattle.pearl_snap.specs.Cells.{target_tag, target_slot, target_own, target_a
 use Rattle.pearl_snap.specs.Plans.{end_tag, end_time, end_arms, end, series_fields, made_series, series, maybe_tag, or_else, maybe_arms, maybe, no_series, maybe_series, plan_fields, made_plan, plan, no_plan, continuation, started, no_start, activation}
 use Rattle.pearl_snap.specs.Tasks.{frame_fields, made_frame, frame, all_cells, after_frame, frames, task_tag, dormant_fields, made_dormant, active_fields, made_active, acting, task_arms, task}
 use Rattle.pearl_snap.specs.States.{tasks_of, rows_of, stacks_of, slots, counts, switches, typed, values, terminals, inputs, Fields, saved_fields, made_saved, saved}
-use Rattle.pearl_snap.proofs.Literals.{◌&◌, single, flag_told, bounds_told, kind_told, literal_told}
+
+infixr 10 ◌&◌
+abbrev ◌&◌ : {A B : Type 0} → A → B → A × B
+a & b = (a, b)
+
+-- an arm of one value
+single : {X : Type 0} (tag : X → ℕ) (t : ℕ) (x : X) → tag x ≡ t → IsArm tag t (nothing x)
+single tag t x is = record { told = nothing_told x; tagged = λ y h. ap tag h ∙ is }
 
 each_told : {X : Type 0} (low high : ℕ) (c : Codec X) → IsTold c → IsTold (each_in low high c)
 each_told low high c l = counted_told low high c.bytes (λ (s : Free). c) (λ s x. s) free (λ s. l) (λ s x. refl)
@@ -47,7 +55,7 @@ reference_told : IsTold reference
 unfolding reference
 reference_told =
     shaped_told (λ r. (r.kind, r.target)) (λ p. record { kind = p.0; target = p.1 }) (pair (kind None) (λ of. target))
-    (pair_told (kind None) (λ of. target) kind_told (λ of. target_told)) (λ a h. refl)
+    (pair_told (kind None) (λ of. target) (kind_told None) (λ of. target_told)) (λ a h. refl)
 
 array_told : IsTold array
 unfolding array
@@ -59,7 +67,7 @@ cell_told : IsTold cell
 unfolding cell
 cell_told =
     tagged_told 0 cell_tag cell_arms
-    (made_arm cell_tag 0 cell_value Value (literal None) literal_told (λ a. refl) (λ a. refl)
+    (made_arm cell_tag 0 cell_value Value (literal None) (literal_told None) (λ a. refl) (λ a. refl)
     & made_arm cell_tag 1 cell_variable Variable reference reference_told (λ a. refl) (λ a. refl)
     & made_arm cell_tag 2 cell_array Array array array_told (λ a. refl) (λ a. refl)
     & tt)
@@ -157,7 +165,7 @@ unfolding saved
 saved_told =
     shaped_told saved_fields made_saved _
     (pair_told number _ number_told (λ moment. pair_told number _ number_told (λ clock. pair_told maybe_number _ maybe_number_told (λ last.
-    pair_told slots _ (each_told 0 65536 (literal None) literal_told) (λ held. pair_told counts _ (each_told 0 1000 number number_told) (λ free.
+    pair_told slots _ (each_told 0 65536 (literal None) (literal_told None)) (λ held. pair_told counts _ (each_told 0 1000 number number_told) (λ free.
     pair_told switches _ (each_told 0 99 flag flag_told) (λ on. pair_told terminals _ (each_told 0 99 typed (each_told 0 4096 any_byte any_byte_told)) (λ bytes.
-    pair_told inputs _ (each_told 0 99 values (each_told 0 256 (literal None) literal_told)) (λ waiting. each_told 0 200 task task_told)))))))))
+    pair_told inputs _ (each_told 0 99 values (each_told 0 256 (literal None) (literal_told None))) (λ waiting. each_told 0 200 task task_told)))))))))
     (λ a h. fields_again a)

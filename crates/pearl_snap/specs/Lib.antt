@@ -8,7 +8,9 @@ pub mod Plans
 pub mod Tasks
 -- how the state of a run is spelled
 pub mod States
--- how a snapshot is spelled: an object behind the number of its bytes, and the state of a run of it
+-- how a snapshot is spelled, and what its bytes are read as
 pub mod Snapshots
 -- what a state must be so that a run can go on from it: rules N1 to N6
 pub mod Rules
+-- what references lead to, where a state keeps N2 and N5
+pub mod Leads

@@ -10,7 +10,7 @@ use Rattle.pearl_value.specs.declared.device.Device.TheVariants.{Input}
 use Rattle.pearl_value.specs.Cells.{kind_of}
 use Rattle.pearl_value.specs.Counts.{IsPreset}
 use Rattle.pearl_value.specs.Devices.{sort_rank}
-use Rattle.pearl_value.specs.WellFormed.{IsTyped, IsValueOf}
+use Rattle.pearl_value.specs.WellFormed.{IsTyped, IsValue, IsValueOf}
 use Rattle.pearl_rules.specs.Devices.{terminal_room, input_room}
 use Rattle.pearl_rules.specs.Plans.{day}
 use Rattle.pearl_rules.specs.Slots.{IsUrgency}
@@ -62,6 +62,11 @@ WaitsTyped pending = AllByRecursion IsTyped pending × (length pending ≤ termi
 
 abbrev pub WaitsOf : Kind → List Cell → Type 0
 WaitsOf kind pending = AllByRecursion (IsValueOf kind) pending × (length pending ≤ input_room)
+
+-- what slots and inputs hold are values, each within its kind, as it is where a state fits its spelling
+pub record HoldsValues (core : CoreRecord) : Type 0 where
+  pub slots : AllByRecursion IsValue core.slots
+  pub inputs : AllByRecursion (AllByRecursion IsValue) core.inputs
 
 -- Slots, counts, switches, terminals, inputs and tasks are as many as the object's; each slot and each input holds values of its
 -- kind, a terminal line ends and letters, no more than have room; and each count is below 2^31.
@@ -132,10 +137,16 @@ kind_held (Array array) = None
 abbrev pub AreOf : List CellKind → List SavedCell → Type 0
 AreOf kinds cells = map kind_held cells ≡ map Some kinds
 
+-- what is held is a reference, or a value within its kind
+abbrev pub IsHeld : SavedCell → Type 0
+IsHeld (Value x) = IsValue x
+IsHeld reference = Unit {0}
+
 -- a frame of some code, whose operands, the top one first, have these kinds
 pub record Stands (code : Code) (shape : List CellKind) (f : FrameRecord) : Type 0 where
   pub cells : AreOf code.cells f.cells
   pub operands : AreOf shape (reverse f.operands)
+  pub values : AllByRecursion IsHeld (f.cells ++ f.operands)
 
 -- the top frame is at an instruction, with the operands before it
 pub record IsAtPlace (o : Object) (f : FrameRecord) : Type 0 where

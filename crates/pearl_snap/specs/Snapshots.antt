@@ -1,8 +1,13 @@
--- How a snapshot is spelled: an object behind the number of its bytes, and the state of a run of it.
-use Rattle.std.specs.Prelude.{ℕ, ◌<◌, ◌^◌, ◌++◌, nat_lt, take, drop, if◌then◌else◌, List, [], ◌∷◌, length, Result, Ok, Err}
+-- How a snapshot is spelled, and what bytes are read as.
+use Rattle.std.specs.Prelude.{◌≡◌, ◌⊎◌, ℕ, ◌-◌, ◌<◌, ◌^◌, ◌++◌, nat_lt, take, drop, if◌then◌else◌, List, [], ◌∷◌, length, Result, Ok, Err}
 use Rattle.pearl_instructions.specs.declared.object.Parts.{Parts as Object}
-use Rattle.pearl_fields.specs.Codec.{◌>>=◌, Seen, Codec, number_bytes, number_read, shaped, pair, exactly, whole_read}
+use Rattle.pearl_instructions.specs.Lawful.{IsObject}
+use Rattle.pearl_fields.specs.declared.fault.ReadFault.{ReadFault}
+use Rattle.pearl_fields.specs.declared.fault.ReadFault.TheVariants as fault
+use Rattle.pearl_fields.specs.Codec.{◌>>=◌, Seen, Codec, number_bytes, number_read, shaped, pair, exactly, whole_read, IsBytes}
 use Rattle.pearl_object.specs.Objects.{object}
+use Rattle.pearl_snap.specs.declared.fault.ReadFail.{ReadFail}
+use Rattle.pearl_snap.specs.declared.fault.ReadFail.TheVariants.{BadBytes, NoMemory}
 use Rattle.pearl_snap.specs.declared.saved.Saved.{Saved}
 use Rattle.pearl_snap.specs.declared.snapshot.Snapshot.{Snapshot}
 use Rattle.pearl_snap.specs.States.{saved}
@@ -39,3 +44,31 @@ snapshot =
 -- the one spelling of an object and a state
 abbrev pub snapshot_bytes : Object → Saved → List ℕ
 snapshot_bytes o s = snapshot.bytes (record { object = o; saved = s })
+
+-- ---- answers
+
+-- what all of the bytes were read as, or how many there are from the first bad field on
+abbrev pub GivesWhole : Result Snapshot ℕ → Result Snapshot ReadFault → Type 0
+GivesWhole seen (Ok s) = seen ≡ Ok s
+GivesWhole seen (Err (fault.Bad left)) = seen ≡ Err left
+GivesWhole seen (Err fault.NoMemory) = Unit {0}
+
+-- the answer is this, unless memory ran out
+abbrev pub IsThis : Snapshot → Result Snapshot ReadFail → Type 0
+IsThis s (Ok t) = t ≡ s
+IsThis s (Err (BadBytes place)) = ⊥
+IsThis s (Err NoMemory) = Unit {0}
+
+-- what these bytes are read as is a snapshot, or they end before a field or within one
+abbrev pub IsFaultless : Result Snapshot ℕ → Type 0
+IsFaultless seen = (seen ≡ Err 0) ⊎ ((s : Snapshot) × (seen ≡ Ok s))
+
+-- the answer is the place of the first bad field, or how many bytes there are where they end before a field or within one:
+-- no field before the place is bad, and where one is bad, no snapshot's bytes begin with these
+abbrev pub IsBad : List ℕ → Result Snapshot ReadFail → Type 0
+IsBad bytes (Ok s) = Unit {0}
+IsBad bytes (Err NoMemory) = Unit {0}
+IsBad bytes (Err (BadBytes place)) =
+    (left : ℕ) × (whole_read snapshot bytes ≡ Err left) × (place ≡ length bytes - left)
+    × IsFaultless (whole_read snapshot (take place bytes))
+    × (0 < left → (s : Snapshot) (more : List ℕ) → IsObject s.object → saved.fits s.saved → IsBytes more → snapshot_bytes s.object s.saved ≡ bytes ++ more → ⊥)

@@ -1,13 +1,16 @@
 -- How the state of a run is spelled.
-use Rattle.std.specs.Prelude.{ℕ, Bool, List, [], ◌∷◌, map, Option, None}
+use Rattle.std.specs.Prelude.{◌≡◌, ℕ, Bool, List, [], ◌∷◌, map, Option, None, Result, Ok, Err}
 use Rattle.pearl_value.specs.declared.cell.Cell.{Cell}
-use Rattle.pearl_fields.specs.Codec.{Codec, number, shaped, pair}
+use Rattle.pearl_fields.specs.declared.fault.ReadFault.{ReadFault}
+use Rattle.pearl_fields.specs.Codec.{Seen, Codec, number, shaped, pair}
+use Rattle.pearl_fields.specs.Reads.{Fails}
 use Rattle.pearl_object.specs.Literals.{literal}
 use Rattle.pearl_object.specs.Operands.{flag}
 use Rattle.pearl_snap.specs.declared.record.TaskRecord.{TaskRecord}
 use Rattle.pearl_snap.specs.declared.saved.FrameRecord.{FrameRecord}
 use Rattle.pearl_snap.specs.declared.saved.Saved.{Saved}
 use Rattle.pearl_snap.specs.declared.states.SavedTask.{SavedTask}
+use Rattle.pearl_snap.specs.declared.states.TaskLists.{TaskLists}
 use Rattle.pearl_snap.specs.Lists.{each_in, any_byte, maybe_number}
 use Rattle.pearl_snap.specs.Tasks.{task}
 
@@ -77,3 +80,8 @@ saved =
     shaped saved_fields made_saved
     (pair number (λ moment. pair number (λ clock. pair maybe_number (λ last. pair slots (λ held. pair counts (λ free.
     pair switches (λ on. pair terminals (λ bytes. pair inputs (λ waiting. tasks)))))))))
+
+-- what the reading of tasks gives, in two lists
+abbrev pub GivesTasks : Seen (List SavedTask) → List ℕ → Result TaskLists ReadFault → Type 0
+GivesTasks seen new (Ok lists) = (xs : List SavedTask) × (seen ≡ Ok (xs, new)) × (lists.rows ≡ rows_of xs) × (lists.stacks ≡ stacks_of xs)
+GivesTasks seen new (Err fault) = Fails seen fault

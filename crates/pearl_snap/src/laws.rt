@@ -1,9 +1,10 @@
 // What holds of the bytes of saved states.
 
 ghost use Rattle.pearl_fields.specs.Codec.{IsLawful, IsOrdered};
-ghost use Rattle.pearl_object.specs.Objects.{object};
 ghost use Rattle.pearl_snap.specs.Snapshots.{snapshot};
+ghost use Rattle.pearl_snap.specs.declared.saved.Saved.{Saved};
 ghost use Rattle.pearl_snap.specs.States.{saved};
+ghost use Rattle.pearl_snap.specs.Rules.{HoldsValues};
 
 /// A state is read as it is spelled, whatever follows, and what is read is spelled so: each has one spelling, and no state's
 /// bytes begin another's. Where a field is bad, it is the first: what stands before it is cut, and not bad.
@@ -12,8 +13,13 @@ pub fn states_are_read_as_they_are_spelled()
     ensures ordered { IsOrdered saved }
 {}
 
-/// So is a whole snapshot, if objects are.
+/// So is a whole snapshot.
 pub fn snapshots_are_read_as_they_are_spelled()
-    ensures lawful { IsLawful object → IsOrdered object → IsLawful snapshot }
-    ensures ordered { IsLawful object → IsOrdered object → IsOrdered snapshot }
+    ensures lawful { IsLawful snapshot }
+    ensures ordered { IsOrdered snapshot }
+{}
+
+/// What a state that was read holds in its slots and inputs is values.
+pub fn slots_and_inputs_hold_values()
+    ensures { (s : Saved) → saved.fits s → HoldsValues s.core }
 {}

@@ -1,9 +1,17 @@
-// Saved runs: the whole state of a run as a record, how its bytes are spelled, and what it must be. No code reads or writes
-// these bytes yet.
+// Saved runs: the whole state of a run as a record, the bytes of snapshots, both ways, and what a state must be. No command
+// reaches them yet.
 #![tactic(auto)]
 
+pub mod cells;
+pub mod core_rules;
+pub mod fault;
+pub mod frames;
 pub mod laws;
+mod parts;
+pub mod plans;
 pub mod record;
+pub mod reference_rule;
 pub mod saved;
 pub mod snapshot;
+pub mod state;
 pub mod states;

@@ -20,3 +20,10 @@ pub struct SavedTask {
     pub row: TaskRecord,
     pub frames: Listing<FrameRecord>,
 }
+
+/// Tasks, and their stacks.
+#[derive(Drop)]
+pub struct TaskLists {
+    pub rows: Listing<TaskRecord>,
+    pub stacks: Listing<Listing<FrameRecord>>,
+}

@@ -1,0 +1,8 @@
+use Rattle.std.proofs.Common.{rules}
+use Rattle.pearl_snap.proofs.cells.target_at.Goals as goal
+
+pub returns-in_err-frame-in-1 : goal.returns-in_err-frame-in-1
+returns-in_err-frame-in-1 c = rw c.in-1.is (search rules)
+
+pub returns-in_err-cell-in-1 : goal.returns-in_err-cell-in-1
+returns-in_err-cell-in-1 c = rw c.in-1.is (search rules)
