@@ -1,0 +1,2 @@
+mod OneMark
+mod Refusing

@@ -1,0 +1,18 @@
+// What holds of every machine. Each function's contract is one theorem; none does anything.
+
+ghost use Rattle.std.specs.Prelude.{◌≡◌, ℕ, List, ◌++◌, Option, Some};
+ghost use Rattle.pearl_rules.specs.declared.entry.Entry.{Entry};
+ghost use Rattle.pearl_rules.specs.Runs.{Coming, Engine, next_mark, machine_after};
+ghost use Rattle.pearl_watch.specs.Handing.{Handing, IsAlone, at_once, handing_after, with_more};
+ghost use Rattle.pearl_watch.specs.Marks.{alone};
+
+/// A machine to which the entries are handed over one mark at a time runs as one that has them all at once, instruction
+/// by instruction and mark by mark: the same core, the same stacks, and the same entries left. Each entry that is handed
+/// over makes its mark and no other. Of entries that stand behind others a mark comes where those make none.
+pub fn hands_over_mark_by_mark<S>()
+    ensures same { (engine : Engine S) (h : Handing S) (n : ℕ) → at_once (handing_after engine h n) ≡ machine_after engine (at_once h) n }
+    ensures alone { (picked : Option ℕ) (es : List Entry) (coming : Coming) → next_mark picked es ≡ Some coming →
+        IsAlone picked coming.mark (alone coming.mark) }
+    ensures behind { (picked : Option ℕ) (es more : List Entry) →
+        next_mark picked (es ++ more) ≡ with_more (next_mark picked es) more (next_mark picked more) }
+{}

@@ -1,0 +1,11 @@
+//! What a monitor of variables needs beside a machine: the marks of an entry, one by one, and the lines that tell what
+//! the watched slots hold.
+#![tactic(auto)]
+
+pub mod fault;
+pub mod laws;
+mod line;
+mod same;
+pub mod steps;
+pub mod watch;
+pub mod watched;
