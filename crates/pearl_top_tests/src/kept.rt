@@ -1,7 +1,7 @@
 // Objects that are kept in files: what `compile`, `exec` and `list` write.
 
 use crate::case::{
-    COMPILE, EXEC, Ended, LIST, ROOM, RUN, Table, end_of, failed, first_executed_otherwise,
+    COMPILE, EXEC, Ended, LIST, PRINT, ROOM, RUN, Table, end_of, failed, first_executed_otherwise,
 };
 use crate::check::PLANT;
 use crate::run::FIRST;
@@ -201,6 +201,24 @@ fn faults_outside_end_a_command_on_objects(rt: HostRuntime) -> Result<(), Fail> 
     assert!(rt; fault.is(Status::ReadFault, read));
     let fault = failed(alloc, COMPILE, FIRST.as_bytes(), "", &[], &[1])?;
     assert!(rt; fault.is(Status::WriteFault, b"".as_slice()));
+    Ok(())
+}
+
+// Whether the command of these words over these bytes as s writes all of it by one call of the sink.
+fn is_one_piece(alloc: Global, words: &[&str], bytes: &[u8]) -> Result<bool, AllocError> {
+    let whole = end_of(alloc, words, bytes, "", ROOM)?;
+    let once = failed(alloc, words, bytes, "", &[], &[2])?;
+    Ok(once.is(Status::Done, whole.bytes.as_slice()))
+}
+
+#[test]
+fn texts_objects_listings_and_summaries_are_one_piece(rt: HostRuntime) -> Result<(), Fail> {
+    let alloc = rt.alloc();
+    let object = compiled(alloc, PLANT)?.bytes;
+    assert!(rt; is_one_piece(alloc, COMPILE, PLANT.as_bytes())?);
+    assert!(rt; is_one_piece(alloc, PRINT, PLANT.as_bytes())?);
+    assert!(rt; is_one_piece(alloc, LIST, object.as_slice())?);
+    assert!(rt; is_one_piece(alloc, &["bench", "1"], b"".as_slice())?);
     Ok(())
 }
 

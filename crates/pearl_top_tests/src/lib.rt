@@ -26,6 +26,10 @@ mod instruction_text;
 #[cfg(test)]
 mod kept;
 #[cfg(test)]
+mod limits;
+#[cfg(test)]
+mod listings;
+#[cfg(test)]
 mod mark;
 #[cfg(test)]
 mod nesting;
