@@ -81,8 +81,8 @@ def called_by_all(count):
     return module("", "", procedures)
 
 
-# How many routines a module has, how many names of one hash are sought, and how a map of names hashes: its first state, its
-# factor, that of a letter, and how many of the lowest bits lead to one place in a map of so many names.
+# How many routines a module has, how many names of one hash are sought, and how the kit's maps hash a name: the first state,
+# the factor, that of a letter, and how many of the lowest bits lead to one place in a map of so many names.
 ROUTINES, HASHED = 400, 9000
 SEED, FACTOR, LETTER, BITS, WORD = 0x243F6A8885A308D3, 0x9E3779B97F4A7C15 ^ 2, 0x010101, 1023, 2**64 - 1
 
@@ -95,7 +95,7 @@ def folded(state, factor):
 
 @lru_cache(maxsize=None)
 def one_hash():
-    """9,000 names of five letters that a map of names keeps at one place, since its hash is the same in every run."""
+    """9,000 names of five letters that a map by hashes keeps at one place, since the hash is the same in every run."""
     found, begin = [], folded(SEED ^ 5, FACTOR ^ 2 ^ 16)
     for front in product(ascii_letters, repeat=4):
         state = begin
@@ -115,6 +115,19 @@ def hashed_names(count):
     names = one_hash()
     uses = "".join(f"{names[-1 - i % 100]}:=1;" for i in range(max(0, count - len(names))))
     return module(f"DCL ({','.join(names[:max(1, count)])}) FIXED;", uses)
+
+
+def hashed_fields(count):
+    """A STRUCT with fields of one hash, and as many assignments to them as there are besides."""
+    names = one_hash()
+    uses = "".join(f"v.{names[-1 - i % 100]}:=1;" for i in range(max(0, count - len(names))))
+    return module(f"DCL v STRUCT[({','.join(names[:max(1, count)])}) FIXED];", uses)
+
+
+def hashed_devices(count):
+    """Devices with names of one hash and words of one hash, and more of other names."""
+    names = one_hash()[:count] + [f"d{i}" for i in range(count - HASHED)]
+    return "MODULE(m);SYSTEM;" + "".join(f"{name}:{name}(1);" for name in names) + "PROBLEM;" + TAIL
 
 
 def routines(count, body):
@@ -185,7 +198,9 @@ CHECKED = [
     ("procedures that each call the next", callers, 560, 2),
     ("200 procedures that call those which come later", called_by_all, 560, 2),
     ("assignments of names that nothing declares", task_of("", "a:=1;", ""), 560, 2),
-    ("9,000 names of one hash, and assignments to some of them", hashed_names, 560, 3),
+    ("9,000 names of one hash, and assignments to some of them", hashed_names, 560, 2),
+    ("9,000 fields of one hash, and assignments to some of them", hashed_fields, 560, 2),
+    ("devices, 9,000 of them with names and words of one hash", hashed_devices, 560, 2),
     ("TYPEs within one another, leaves, and routines with a variable", chains_with_leaves, 560, 3),
     ("TYPEs within one another, and as many variables with INIT", nested_types(" INIT(1)"), 560, 3),
     ("the same, 3,500 to a task", deep_init, 560, 3),
