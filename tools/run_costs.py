@@ -4,7 +4,7 @@
 usage: tools/run_costs.py [--program PROGRAM] [--runs N] [--only WORD] [--markdown]
 
 PROGRAM (default: crates/pearl/out/pearl beside this folder; `./pearl` builds it) runs each plant with a long journal and
-with a short one of the same kind, N times each. Told are the seconds of a processor that the long one takes more, the
+with one without what is measured, N times each. Told are the seconds of a processor that the long one takes more, the
 least of all runs, and what that is for each pick, millisecond, line or start, in microseconds.
 """
 
@@ -79,7 +79,8 @@ def gets(count, items):
     return HEAD + tasks(count, f"DCL a FIXED; REPEAT GET a FROM tty BY {items}; END;", " PRIO 5 MAIN") + TAIL
 
 
-# Each row: a name, the plant, the journal's part that is measured, and how much of what it has.
+# Each row: a name, the plant, the journal's part that is measured, how much of what it has, and, where the lines by
+# themselves are not to be measured, what stands in its place in the other journal.
 WORK = [
     *[(f"a pick, {count} tasks, {what}", plant(count), f"run {picks}\n", picks, "pick")
       for what, plant, picks in [("all ready", ready, 1_000_000), ("all but one waiting", waiting, 1_000_000),
@@ -87,6 +88,8 @@ WORK = [
                                  ("locking", locking, 400_000)]
       for count in (2, 20, 200)],
     ("a millisecond, 400 series, none due", series(198), "pass 1000000 1\n", 1_000_000, "millisecond"),
+    ("a line `tick 1`, 400 series, none due", series(198), "tick 1\n" * 100_000, 100_000, "line", "#ick 1\n" * 100_000),
+    ("a line `tick 1`, no series", dormant(2), "tick 1\n" * 100_000, 100_000, "line", "#ick 1\n" * 100_000),
     ("a day, a start each minute", planned(1, lambda _: 60, lambda _: 60), "pass 86400000 1000\n", 1439, "start"),
     ("100,000 milliseconds, one of 198 plans fires in each", planned(198, often, often),
      "pass 100000 2\n", 100_000, "millisecond"),
@@ -126,11 +129,11 @@ def main():
         print("| Workload | Seconds | Microseconds each |\n|---|---|---|")
     with tempfile.TemporaryDirectory() as folder:
         source, journal = (os.path.join(folder, name) for name in ("source.pearl", "journal"))
-        for name, plant, part, count, _ in WORK:
+        for name, plant, part, count, _, *instead in WORK:
             if args.only not in name:
                 continue
             spent = []
-            for text in (part, ""):
+            for text in (part, *(instead or [""])):
                 with open(source, "w", encoding="ascii") as file:
                     file.write(plant)
                 with open(journal, "w", encoding="ascii") as file:
