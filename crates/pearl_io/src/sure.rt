@@ -1,6 +1,6 @@
-//! A shelf and a sink in memory that never fail.
+//! A shelf and sinks that never fail.
 
-ghost use Rattle.std.specs.Prelude.{◌≡◌, ◌-◌, ◌<◌, ◌≤◌, [], ◌++◌, min, length, take, IfOk, IsOk, Some};
+ghost use Rattle.std.specs.Prelude.{◌≡◌, ◌-◌, ◌<◌, ◌≤◌, [], ◌++◌, min, length, take, IfOk, IsOk, Some, None};
 ghost use Rattle.pearl_io.specs.Outside.{content, IsPiece};
 
 use crate::files::{File, content_of, copy_piece};
@@ -106,5 +106,23 @@ impl Sink for SureSink {
         let count = left.min(piece.len());
         self.bytes.extend_from_slice(&piece[..count]).unwrap();
         Ok(count)
+    }
+}
+
+/// A sink that takes all bytes and tells none of them. It is never full.
+pub struct VoidSink;
+
+impl Sink for VoidSink {
+    ghost taken = { λ _. None };
+
+    ghost faults = { λ _. 0 };
+
+    ghost full = { λ _. ⊥ };
+
+    fn put(&mut self, piece: &[u8]) -> Result<usize, Failed>
+        ensures sure { IsOk result }
+        ensures all { IfOk result (λ count. count ≡ length piece.now) }
+    {
+        Ok(piece.len())
     }
 }

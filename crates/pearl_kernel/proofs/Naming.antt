@@ -21,12 +21,12 @@ use Rattle.pearl_rules.specs.declared.row.TaskRow.{TaskRow}
 use Rattle.pearl_value.specs.declared.device.Device.{Device}
 use Rattle.pearl_value.specs.declared.device.Device.TheVariants as device
 use Rattle.pearl_rules.specs.declared.setup.Setup.{Setup}
-use Rattle.pearl_rules.specs.Core.{Channel, Switch, Bytes, Values, Outward}
+use Rattle.pearl_rules.specs.Core.{Channel, Switch, Bytes, Values, Outward, value_at}
 use Rattle.pearl_rules.specs.Devices.{channel_of}
 use Rattle.pearl_rules.specs.Entries.{EntryFits, IsPrinted, ComesInAt}
 use Rattle.pearl_rules.specs.Slots.{Fits, IsLike, IsChannelOf, IsStart, IsOnce, IsLater, IsRepeat, IsEnd, IsPlan, IsPlannedRow}
 use Rattle.pearl_rules.specs.Tables.{IsInterrupt, IsReadable, input_kind}
-use Rattle.pearl_value.specs.WellFormed.{IsTyped}
+use Rattle.pearl_value.specs.WellFormed.{IsTyped, IsValue}
 use Rattle.pearl_sema.specs.Waiting.{AreThere}
 use Rattle.pearl_kernel.specs.Channels.{HasSwitch, HasBytes, IsFor, HasValuesFor, ComesIn}
 use Rattle.pearl_kernel.specs.Kept.{Kept, IsLawful}
@@ -58,6 +58,13 @@ zip_length P [] [] all = refl
 zip_length P [] (x ∷ now) all = absurd all
 zip_length P (f ∷ first) [] all = absurd all
 zip_length P (f ∷ first) (x ∷ now) all = ap suc (zip_length P first now all.1)
+
+-- what is like something is a value
+value_there : (first now : List Cell) (slot : ℕ) → AllZip IsLike first now → slot < length now → IsValue (value_at now slot)
+value_there first [] slot all there = let no : ⊥ = omega arith in absurd no
+value_there [] (x ∷ now) slot all there = absurd all
+value_there (f ∷ first) (x ∷ now) zero all there = all.0.is_value
+value_there (f ∷ first) (x ∷ now) (suc slot) all there = value_there first now slot all.1 (omega arith)
 
 pub interrupt-there : (setup : Setup) (device : ℕ) → IsInterrupt (slice_get setup.devices device) →
     device < length setup.devices
@@ -195,8 +202,11 @@ module _ (setup : Setup) (k : Kept) (lawful : IsLawful setup k) where
     plans = rows_timely setup k.core.tasks lawful.plans.plans;
   }
 
-  slots_length : length k.core.slots ≡ length setup.slots
-  slots_length = zip_length IsLike setup.slots k.core.slots lawful.kinds.slots
+  pub slots-length : length k.core.slots ≡ length setup.slots
+  slots-length = zip_length IsLike setup.slots k.core.slots lawful.kinds.slots
+
+  pub slot-value : (slot : ℕ) → slot < length k.core.slots → IsValue (value_at k.core.slots slot)
+  slot-value slot there = value_there setup.slots k.core.slots slot lawful.kinds.slots there
 
   pub channels-length : length k.core.channels ≡ length setup.devices
   channels-length = zip_length IsChannelOf setup.devices k.core.channels lawful.kinds.channels
@@ -213,8 +223,8 @@ module _ (setup : Setup) (k : Kept) (lawful : IsLawful setup k) where
 
   -- an action that fits the tables names what is there
   pub fits-names : (a : Action) → Fits setup a → Names k.core a
-  fits-names (action.Read slot) fits = subst (λ n. slot < n) (sym slots_length) fits
-  fits-names (action.Write slot value) fits = subst (λ n. slot < n) (sym slots_length) fits.0
+  fits-names (action.Read slot) fits = subst (λ n. slot < n) (sym slots-length) fits
+  fits-names (action.Write slot value) fits = subst (λ n. slot < n) (sym slots-length) fits.0
   fits-names action.Turn fits = tt
   fits-names action.Enter fits = tt
   fits-names action.Now fits = tt

@@ -2,3 +2,5 @@
 
 -- milliseconds in which no plan fires change the moment alone
 pub use Rattle.pearl_kernel.proofs.Passing.{millisecond-silent, passed-quiet}
+-- a lawful kernel has the tables' slots
+pub use Rattle.pearl_kernel.proofs.Naming.{slots-length}

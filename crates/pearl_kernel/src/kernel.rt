@@ -2,11 +2,12 @@
 
 ghost use Rattle.std.specs.Prelude.{◌≡◌, ◌≢◌, ◌<◌, ◌≤◌, ◌+◌, [], ◌∷◌, Some, None, true, false};
 ghost use Rattle.std.specs.Prelude.{IfOk, IfSome, MatchOption, length, slice_get, slice_set};
+ghost use Rattle.pearl_value.specs.WellFormed.{IsValue};
 ghost use Rattle.pearl_rules.specs.declared.setup.Setup as Tables;
 ghost use Rattle.pearl_timer.specs.Next.{IsNext, NoneIsNext};
 ghost use Rattle.pearl_timer.specs.Timetable.{IsDue};
 ghost use Rattle.pearl_rules.specs.declared.entry.Entry.TheVariants.{Clock, Irpt};
-ghost use Rattle.pearl_rules.specs.Core.{Happened};
+ghost use Rattle.pearl_rules.specs.Core.{Happened, value_at};
 ghost use Rattle.pearl_rules.specs.Devices.{arrived};
 ghost use Rattle.pearl_rules.specs.Entries.{EntryFits, last_moment_of_all};
 ghost use Rattle.pearl_rules.specs.Plans.{millisecond};
@@ -29,6 +30,7 @@ use pearl_rules::entry::Entry;
 use pearl_rules::event::{Event, Shown};
 use pearl_rules::row::Mode;
 use pearl_rules::setup::Setup;
+use pearl_value::cell::Cell;
 use std::alloc::{AllocError, Global};
 use std::marker::Model;
 
@@ -248,6 +250,15 @@ impl Kernel {
                 }
             }
         }
+    }
+
+    /// A slot's value.
+    pub fn slot(&self, slot: u32) -> &Cell
+        requires { slot < length self.now.core.slots }
+        ensures value { result.now ≡ value_at self.now.core.slots slot }
+        ensures is_value { IsValue result.now }
+    {
+        self.state.slot(slot)
     }
 
     /// Whether each event was taken.

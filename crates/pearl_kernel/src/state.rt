@@ -309,6 +309,14 @@ impl State {
         self.semas.waiting(semaphore, after)
     }
 
+    /// A slot's value.
+    pub fn slot(&self, slot: u32) -> &Cell
+        requires { slot < length self.now.core.slots }
+        ensures { result.now ≡ value_at self.now.core.slots slot }
+    {
+        &self.slots[slot as usize]
+    }
+
     /// Puts a slot's value there.
     pub fn read_slot(&self, slot: u32, into: &mut Cell)
         requires { slot < length self.now.core.slots }
