@@ -15,6 +15,7 @@ use Rattle.pearl_rules.specs.Runs.{Turns, Tells, Passes, Arrives, machine_offers
 use Rattle.pearl_rules.proofs.Offered.{states-offers, millisecond-length, arrived-length, millisecond-told_before}
 use Rattle.pearl_rules.proofs.Offered.{arrived-told_before}
 use Rattle.pearl_instructions.specs.declared.object.Parts.{Parts as Object}
+use Rattle.pearl_instructions.specs.Actions.{IsSlotNumber}
 use Rattle.pearl_instructions.specs.Engines.{engine}
 use Rattle.pearl_instructions.specs.Setups.{setup_of}
 use Rattle.pearl_script.specs.Lines.{event_line, state_line, report_line}
@@ -22,7 +23,7 @@ use Rattle.pearl_script.specs.Words.{task_name}
 use Rattle.pearl_kernel.specs.Kept as kernel
 use Rattle.pearl_rules.specs.Laws.{passed}
 use Rattle.pearl_kernel.specs.Timing.{IsQuiet}
-use Rattle.pearl_kernel.proofs.Offered.{passed-quiet}
+use Rattle.pearl_kernel.proofs.Offered.{passed-quiet, slots-length}
 use Rattle.pearl_kernel.specs.Kept.{Kept, IsLawful, IsToldNext, AllSettled, IsFirst, offered, taken}
 use Rattle.pearl_machine.specs.Parts.{going_frames, is_going, start_of, running_of, StepsPart, SettlesPart}
 use Rattle.pearl_machine.specs.Ready.{IsReady, untold, seen_of}
@@ -37,6 +38,7 @@ use Rattle.pearl_machine.proofs.Marking.{parts_after}
 use Rattle.pearl_machine.proofs.Making.{picked_here, tells_here, shows_here, turns_here}
 use Rattle.pearl_machine.proofs.Acting.{turned_taken, acts_seen}
 use Rattle.pearl_machine.proofs.Entering.{steps_silent, steps_offers}
+use Rattle.pearl_machine.proofs.Slots.{table_slots}
 use Rattle.pearl_machine.proofs.Passing.{makes_of, skips_here, ready_changed}
 
 -- where the next event was taken, what was told is that event and what is left
@@ -74,6 +76,12 @@ module _ (o : Object) (setup : Setup) (k : Kept) (parts : List Part) (due : ℕ)
 
   tables_are : setup ≡ setup_of s.object
   tables_are = r.tables ∙ ap setup_of (sym object_is)
+
+  -- a slot of the object is one of the core
+  pub slot_there : (slot : ℕ) → IsSlotNumber s.object slot → slot < length k.core.slots
+  slot_there slot there =
+      subst (λ n. slot < n) (sym (slots-length (setup_of o) k r.lawful ∙ table_slots o.leaves r.object.leaves))
+      (subst (λ x. IsSlotNumber x slot) object_is there)
 
   -- whether something is unsettled
   pub is_first_seen : (found : Option ℕ) → MatchOption found (AllSettled k) (IsFirst k) → is_some found ≡ is_some (unsettled s.state)

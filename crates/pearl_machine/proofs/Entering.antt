@@ -24,7 +24,7 @@ use Rattle.pearl_machine.specs.Ready.{IsReady, untold, seen_of}
 use Rattle.pearl_machine.specs.Seen.{Seen, retold, NobodyActs, Handles, SettlesFirst, ActsFirst, Makes, PassesSome}
 use Rattle.pearl_machine.specs.Told.{IsCutOff, IsCutBehind}
 use Rattle.pearl_machine.specs.declared.part.Part.{Part}
-use Rattle.pearl_machine.proofs.Going.{handles_then, handles_retold, handles_pick, handles_turn, handles_state, handles_arrival}
+use Rattle.pearl_machine.proofs.Going.{handles_then, handles_retold, handles_pick, handles_turn, handles_state, handles_arrival, some_unsettled}
 use Rattle.pearl_machine.proofs.Places.{offered_by, offers_here, goes_here}
 use Rattle.pearl_machine.proofs.ReadyLaws.{first_seen, first_active, first_silent, none_due, told_past, with_offer, ready_offers, ready_goes}
 use Rattle.pearl_machine.proofs.Steps.{first_step}
@@ -106,6 +106,13 @@ settled_object a b s = ap (λ (n : Seen). n.object) s.same
 
 pub settled_moment : (a b : Seen) → SettlesFirst a b → b.state.core.moment ≡ a.state.core.moment
 settled_moment a b s = ap (λ (n : Seen). n.state.core.moment) s.same
+
+pub settled_core : (a b : Seen) → SettlesFirst a b → b.state.core ≡ a.state.core
+settled_core a b s = ap (λ (n : Seen). n.state.core) s.same
+
+-- where each has offered its action none goes on
+pub none_settles : (a b : Seen) → SettlesFirst a b → unsettled a.state ≡ None → ⊥
+none_settles a b s none = some_unsettled a s.task s.frames s.first none
 
 pub settled_told : (a b : Seen) → SettlesFirst a b → b.state.core.told ≡ a.state.core.told
 settled_told a b s = ap (λ (n : Seen). n.state.core.told) s.same

@@ -55,7 +55,7 @@ handles_retold a b from left told now handles before entries rest same =
     record { steps = g.steps; left = g.left; is = g.is; same = λ p known. g.same p (λ settled. known settled ∙ picked_told b now) }
 
 -- where a task is unsettled
-some_unsettled : (s : Seen) (t : ℕ) (frames : List Frame) → IsUnsettled s.state.running t frames → unsettled s.state ≡ None → ⊥
+pub some_unsettled : (s : Seen) (t : ℕ) (frames : List Frame) → IsUnsettled s.state.running t frames → unsettled s.state ≡ None → ⊥
 some_unsettled s t frames first none =
     none-some _ (sym none ∙ first_unsettled 0 s.state.running t frames (λ u less. offered_by _ (first.before u less)) first.here)
 

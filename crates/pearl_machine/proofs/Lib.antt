@@ -16,4 +16,6 @@ mod Entering
 mod Last
 mod Calls
 mod Moments
+mod Slots
+mod Marked
 pub mod Offered

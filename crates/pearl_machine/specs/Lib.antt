@@ -8,3 +8,5 @@ pub mod Known
 pub mod Told
 -- what holds of a machine between its calls
 pub mod Ready
+-- one mark of a run, and what each active task does behind it
+pub mod Marked

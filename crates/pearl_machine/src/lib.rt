@@ -6,9 +6,11 @@
 #![tactic(auto)]
 
 mod known;
+pub mod laws;
 mod lines;
 mod machine;
 mod part;
 mod tables;
 
 pub use machine::Machine;
+pub use tables::setup;

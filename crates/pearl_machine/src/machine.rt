@@ -1,27 +1,29 @@
 //! The machine, from the start of a run to its end.
 
 ghost use Rattle.std.specs.Prelude.{◌≡◌, ◌≢◌, ◌⊎◌, ℕ, ◌+◌, ◌<◌, ◌≤◌, List, [], ◌∷◌, ◌++◌, None, true};
-ghost use Rattle.std.specs.Prelude.{IfOk, OnOk, OnErr, is_some, length};
-ghost use Rattle.pearl_rules.specs.Core.{Report};
+ghost use Rattle.std.specs.Prelude.{IfOk, OnOk, OnErr, is_none, is_some, length};
+ghost use Rattle.pearl_value.specs.WellFormed.{IsValue};
+ghost use Rattle.pearl_rules.specs.Core.{Report, value_at};
 ghost use Rattle.pearl_rules.specs.Pick.{states};
 ghost use Rattle.pearl_rules.specs.declared.entry.Entry.{Entry};
 ghost use Rattle.pearl_rules.specs.declared.entry.Entry.TheVariants.{Run, Tick, Pass};
 ghost use Rattle.pearl_rules.specs.Entries.{last_moment_of_all, moment_after, EntryFits};
 ghost use Rattle.pearl_rules.specs.Runs.{machine_start, machine_step, machine_offers, unsettled};
 ghost use Rattle.pearl_rules.specs.Runs.{Tells, Turns, Passes, Arrives};
+ghost use Rattle.pearl_instructions.specs.Actions.{IsSlotNumber};
 ghost use Rattle.pearl_instructions.specs.Engines.{engine};
 ghost use Rattle.pearl_instructions.specs.Setups.{setup_of};
 ghost use Rattle.pearl_io.specs.Outside.{Takes, TakesFront, WriteFailed};
 ghost use Rattle.pearl_script.specs.Lines.{close_line as line_of_close, lines_of};
 ghost use Rattle.pearl_kernel.specs.Timing.{IsQuiet};
 ghost use Rattle.pearl_machine.specs.Seen.{Seen, Handles, SettledBy, ActedBy, Makes, TakesNext};
-ghost use Rattle.pearl_machine.specs.Seen.{NobodyActs, Skips, PassesSome, retold};
+ghost use Rattle.pearl_machine.specs.Seen.{NobodyActs, Skips, PassesSome, picked, retold};
 ghost use Rattle.pearl_machine.specs.Told.{IsCutOff, IsCutBehind, IsCutInLastMark};
 
 use crate::known::laws_hold;
 use crate::lines::state_of;
 use crate::part::{Part, answer_part, new_parts, settle_part, step_part};
-use crate::tables::tables;
+use crate::tables::setup;
 use arrayvec::ArrayVec;
 use pearl_exchange::heard::Beside;
 use pearl_exchange::offer::Offer;
@@ -32,6 +34,7 @@ use pearl_rules::entry::Entry;
 use pearl_rules::setup::Setup;
 use pearl_script::transcript::{close_line, event_line};
 use pearl_solo::stepped::Gave;
+use pearl_value::cell::Cell;
 use std::alloc::{AllocError, Global};
 use std::marker::Model;
 
@@ -68,7 +71,7 @@ impl Machine {
         ensures start { IfOk result (λ machine. machine.state ≡ machine_start (engine code) (setup_of code) []) }
     {
         laws_hold(&code);
-        let setup = tables(alloc, code.object())?;
+        let setup = setup(alloc, &code)?;
         let kernel = Kernel::new(alloc, &setup)?;
         let parts = new_parts(alloc, &code)?;
         let offer = Box::new(alloc, Offer::new())?;
@@ -117,6 +120,35 @@ impl Machine {
             Gave::Silent => {}
             Gave::Offered => self.kernel.offered(task, &mut self.offer),
         }
+    }
+
+    /// A slot's value.
+    pub fn slot(&self, slot: u32) -> &Cell
+        requires { IsSlotNumber self.now.object slot }
+        ensures value { result.now ≡ value_at self.now.state.core.slots slot }
+        ensures is_value { IsValue result.now }
+    {
+        self.kernel.slot(slot)
+    }
+
+    /// Whether nobody can act. Every active task goes on to its next action first, which doesn't change the core.
+    pub fn idle(&mut self) -> bool
+        ensures idle { result ≡ is_none (picked self.new) }
+        ensures object { self.new.object ≡ self.old.object }
+        ensures core { self.new.state.core ≡ self.old.state.core }
+        ensures settled { unsettled self.new.state ≡ None }
+        ensures still { unsettled self.old.state ≡ None → self.new ≡ self.old }
+        ensures handles { (from : List Entry) → Handles self.old from from self.new [] }
+    {
+        self.settle();
+        self.nobody_acts()
+    }
+
+    // Whether nobody is picked of those that have offered an action.
+    fn nobody_acts(&self) -> bool
+        ensures { result ≡ is_none (picked self.now) }
+    {
+        self.kernel.picked().is_none()
     }
 
     /// Hands the sink the lines of what is told and not written: behind [`Machine::load`] those that open a run. Tests
@@ -230,9 +262,11 @@ impl Machine {
     // Every active task goes on to its next action.
     fn settle(&mut self)
         ensures object { self.new.object ≡ self.old.object }
+        ensures core { self.new.state.core ≡ self.old.state.core }
         ensures told { self.new.state.core.told ≡ self.old.state.core.told }
         ensures moment { self.new.state.core.moment ≡ self.old.state.core.moment }
         ensures settled { unsettled self.new.state ≡ None }
+        ensures still { unsettled self.old.state ≡ None → self.new ≡ self.old }
         ensures handles { (from : List Entry) → Handles self.old from from self.new [] }
     {
         while self.settle_first() {}

@@ -3,27 +3,28 @@
 ghost use Rattle.std.specs.Prelude.{◌≡◌, ◌++◌, IfOk, OnOk, map, replicate};
 ghost use Rattle.std.specs.List.{AllByRecursion, flat_map};
 ghost use Rattle.pearl_value.specs.Blanks.{blank_of, last_or};
-ghost use Rattle.pearl_instructions.specs.Lawful.{IsLeaf, IsObject};
+ghost use Rattle.pearl_instructions.specs.Lawful.{IsLeaf};
 ghost use Rattle.pearl_instructions.specs.Setups.{entry_of, first_cells, setup_of};
 
 use pearl_format::item::Item;
-use pearl_instructions::object::{Leaf, Parts, Task};
+use pearl_instructions::object::{Leaf, Task};
+use pearl_instructions::valid::Valid;
 use pearl_rules::setup::{Setup, TaskEntry};
 use pearl_value::cell::{Cell, copy_of};
 use pearl_value::conversion::blank;
 use pearl_value::listing::Listing;
 use std::alloc::{AllocError as NoMemory, Global};
 
-/// The tables of an object.
-pub fn tables(alloc: Global, object: &Parts) -> Result<Setup, NoMemory>
-    requires { IsObject object.now }
+/// The tables from which an object's run starts.
+pub fn setup(alloc: Global, object: &Valid) -> Result<Setup, NoMemory>
     ensures { IfOk result (λ setup. setup ≡ setup_of object.now) }
 {
-    let tasks = entries(alloc, object.tasks.as_slice())?;
-    let slots = first_values(alloc, object.leaves.as_slice())?;
-    let semaphores = Vec::from_slice(alloc, object.semaphores.as_slice())?;
-    let devices = Vec::from_slice(alloc, object.devices.as_slice())?;
-    let formats = copy_formats(alloc, object.formats.as_slice())?;
+    let parts = object.object();
+    let tasks = entries(alloc, parts.tasks.as_slice())?;
+    let slots = first_values(alloc, parts.leaves.as_slice())?;
+    let semaphores = Vec::from_slice(alloc, parts.semaphores.as_slice())?;
+    let devices = Vec::from_slice(alloc, parts.devices.as_slice())?;
+    let formats = copy_formats(alloc, parts.formats.as_slice())?;
     Ok(Setup {
         tasks: Listing::new(tasks),
         slots: Listing::new(slots),
