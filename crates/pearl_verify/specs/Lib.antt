@@ -8,3 +8,5 @@ pub mod Numbers
 pub mod Jumps
 -- what is told of an instruction, of a routine and of an object
 pub mod Verdicts
+-- the shape before an instruction, and what is kept where it was looked up
+pub mod Shapes

@@ -91,8 +91,8 @@ fn last_rule(
     None
 }
 
-// Makes the kinds before an instruction those behind it.
-fn carry_out(
+/// Makes the kinds before an instruction those behind it.
+pub(crate) fn carry_out(
     object: &Parts,
     formats: &[FormatRow],
     routine: usize,

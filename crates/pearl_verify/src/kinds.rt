@@ -56,6 +56,13 @@ impl Kinds {
         &self.kinds[self.kinds.len().saturating_sub(count)..]
     }
 
+    /// Those below so many, the top one last.
+    pub(crate) fn below(&self, count: usize) -> &[CellKind]
+        ensures { result.now ≡ reverse (drop count self.now) }
+    {
+        &self.kinds[..self.kinds.len().saturating_sub(count)]
+    }
+
     /// Whether they are these, the top one last.
     pub(crate) fn are(&self, kinds: &[CellKind]) -> bool
         ensures { result ≡ same_shape (reverse kinds.now) self.now }

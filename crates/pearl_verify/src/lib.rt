@@ -8,6 +8,7 @@ mod judge;
 mod jumps;
 mod kinds;
 mod limits;
+pub mod lookup;
 mod named;
 mod operands;
 mod pushed;

@@ -37,7 +37,7 @@ pub struct BrokenRule {
 }
 
 /// The code of a routine: the procedures come first, and then the tasks.
-fn code_at(object: &Parts, routine: usize) -> Option<&Code>
+pub fn code_at(object: &Parts, routine: usize) -> Option<&Code>
     ensures code { MatchOption result (routine_at object.now routine ≡ None) (λ code. routine_at object.now routine ≡ Some code.now) }
     ensures few { IfSome result (λ code. routine < length object.now.procedures + length object.now.tasks) }
     ensures next { IfSome result (λ code. routine + 1 < 2 ^ 64) }
