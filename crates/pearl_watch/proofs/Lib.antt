@@ -1,2 +1,5 @@
 mod OneMark
 mod Refusing
+mod SameValues
+mod StepLines
+mod MarkLines

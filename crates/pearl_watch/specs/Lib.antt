@@ -6,3 +6,5 @@ pub mod Handing
 pub mod Watched
 -- the line of a watched slot's value, and when there is none
 pub mod Lines
+-- how the watched slots change over a run, mark by mark
+pub mod Changes

@@ -1,9 +1,13 @@
-// What holds of every machine. Each function's contract is one theorem; none does anything.
+// What holds of every machine and of all values. Each function's contract is one theorem; none does anything.
 
-ghost use Rattle.std.specs.Prelude.{◌≡◌, ℕ, List, ◌++◌, Option, Some};
+ghost use Rattle.std.specs.Prelude.{◌≡◌, ◌↔◌, ℕ, List, ◌++◌, Option, Some, None, true};
+ghost use Rattle.pearl_value.specs.WellFormed.{IsValue};
+ghost use Rattle.pearl_value.specs.declared.cell.Cell.{Cell};
 ghost use Rattle.pearl_rules.specs.declared.entry.Entry.{Entry};
-ghost use Rattle.pearl_rules.specs.Runs.{Coming, Engine, next_mark, machine_after};
+ghost use Rattle.pearl_rules.specs.Runs.{Coming, Engine, Machine, next_mark, machine_after};
 ghost use Rattle.pearl_watch.specs.Handing.{Handing, IsAlone, at_once, handing_after, with_more};
+ghost use Rattle.pearl_watch.specs.declared.watched.Watched.{Watched};
+ghost use Rattle.pearl_watch.specs.Changes.{core_lines, is_same, mark_cores, watch_lines};
 ghost use Rattle.pearl_watch.specs.Marks.{alone};
 
 /// A machine to which the entries are handed over one mark at a time runs as one that has them all at once, instruction
@@ -15,4 +19,16 @@ pub fn hands_over_mark_by_mark<S>()
         IsAlone picked coming.mark (alone coming.mark) }
     ensures behind { (picked : Option ℕ) (es more : List Entry) →
         next_mark picked (es ++ more) ≡ with_more (next_mark picked es) more (next_mark picked more) }
+{}
+
+/// What is written of a run step by step is, for each core after 0, 1, 2 .. marks, the lines of the watched slots that
+/// differ from the core before: no other step has a line.
+pub fn writes_mark_by_mark<S>()
+    ensures { (engine : Engine S) (start : Machine S) (names : List (List ℕ)) (watched : List Watched) (steps : ℕ) →
+        watch_lines names watched engine start steps ≡ core_lines names watched 0 None (mark_cores engine start steps) }
+{}
+
+/// A value counts as changed just where it is another one.
+pub fn tells_values_apart()
+    ensures { (x y : Cell) → IsValue y → (is_same x y ≡ true) ↔ (x ≡ y) }
 {}
