@@ -34,3 +34,5 @@ mod snapshots;
 mod stacks;
 #[cfg(test)]
 mod values;
+#[cfg(test)]
+mod watch;
