@@ -11,6 +11,7 @@ mod Holding
 mod Laid
 mod Counting
 mod Standing
+mod Chains
 mod Building
 mod FieldsMade
 mod Sized

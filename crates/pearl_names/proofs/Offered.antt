@@ -16,6 +16,8 @@ pub use Rattle.pearl_names.proofs.FirstNames.{bytes_symm}
 pub use Rattle.pearl_names.proofs.Counting.{behind, leaves_behind, elements-append, counts_of_variable, sound_counts}
 -- what forms stand for: it stays where more forms come, and fields are found by their names
 pub use Rattle.pearl_names.proofs.Standing.{stands_more, fields_all}
+-- what types come to where STRUCTs with one field are gone past
+pub use Rattle.pearl_names.proofs.Chains.{ends_in}
 -- the forms of written types, field by field
 pub use Rattle.pearl_names.proofs.FieldsMade.{all_match_more, grows_more, grows_none, struct_shown}
 -- how many dimensions and elements bounds have, one after the other

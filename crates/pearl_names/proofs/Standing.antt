@@ -12,6 +12,7 @@ use Rattle.pearl_names.specs.declared.types.TypeRef.{TypeRef}
 use Rattle.pearl_names.specs.declared.types.TypeRef.TheVariants.{Basic, Struct}
 use Rattle.pearl_names.specs.declared.types.FieldForm.{FieldForm}
 use Rattle.pearl_names.specs.declared.types.StructForm.{StructForm}
+use Rattle.pearl_names.specs.Chains.{only_end}
 use Rattle.pearl_names.specs.Counts.{counts, counts_of}
 use Rattle.pearl_names.specs.declared.kinds.Kinds.{Kinds}
 use Rattle.pearl_names.specs.Kinds.{one_kind, kinds_among}
@@ -33,7 +34,7 @@ mutual
   stands_more forms more (Struct number) (OfFields fields) h =
       let inside : number < length forms = slice_get_within forms number h.0 h.1 in
       let same = take-append-le number forms more (omega (arith, inside)) in
-      (h.0, slice_get_more forms more number h.0 h.1, subst (λ l. FieldsStand l 0 0 h.0.fields.entries fields) (sym same) h.2, h.3, h.4, h.5)
+      (h.0, slice_get_more forms more number h.0 h.1, subst (λ l. FieldsStand l 0 0 h.0.fields.entries fields) (sym same) h.2, h.3, h.4, h.5, h.6 ∙ ap (λ l. only_end l h.0.fields.entries) (sym same))
   stands_more forms more (Basic kind) (OfFields fields) h = absurd h
   stands_more forms more (Struct number) (OfKind kind) h = absurd h
 

@@ -13,6 +13,7 @@ use Rattle.pearl_names.specs.declared.slots.Run.{Run}
 use Rattle.pearl_names.specs.declared.slots.Slots.{Slots}
 use Rattle.pearl_names.specs.declared.slots.Frame.{Frame}
 use Rattle.pearl_names.specs.declared.slots.NextField.{NextField}
+use Rattle.pearl_names.specs.declared.types.Elements.{Elements}
 use Rattle.pearl_names.specs.declared.types.FieldForm.{FieldForm}
 use Rattle.pearl_names.specs.declared.types.StructForm.{StructForm}
 use Rattle.pearl_names.specs.declared.types.TypeRef.{TypeRef}
@@ -23,7 +24,7 @@ use Rattle.pearl_names.specs.Kinds.{no_kinds, joined_kinds, kinds_among}
 use Rattle.pearl_names.specs.Layout.{elements, leaves_of_fields}
 use Rattle.pearl_names.specs.Runs.{shape_slots, field_slots, AreFew, AreFewIn, drop_fields, tails_of}
 use Rattle.pearl_names.specs.Shapes.{Shape, OfKind, OfFields, Fields, NoField, MoreField}
-use Rattle.pearl_names.specs.Walks.{run_slots, HasSlots, HasLeft, AllLeft, GoesOn, IsNext, FindsNext, Lists, kinds_of_next}
+use Rattle.pearl_names.specs.Walks.{run_slots, HasSlots, HasSomeSlots, HasLeft, AllLeft, GoesOn, IsNext, FindsNext, Lists, kinds_of_next}
 use Rattle.pearl_names.proofs.Building.{leaves_more}
 use Rattle.pearl_names.proofs.Counting.{cut_mul}
 use Rattle.pearl_names.proofs.KindSets.{kinds-append, kinds-run}
@@ -162,6 +163,15 @@ pub descends_first : (forms : List StructForm) (part : TypeRef) (count : ℕ) (f
     AllLeft forms frames rest → Descends forms forms part count frames (own ++ rest)
 descends_first forms part count frames own rest found leaf left =
     record { later = []; prefix = sym (append-nil forms); own = own; rest = rest; found = found; leaf = leaf; left = left; is = refl }
+
+-- what it has come to may come to more
+pub descends_end : (forms earlier : List StructForm) (part : TypeRef) (count : ℕ) (end : Elements) (frames : List Frame) (slots : List Kind) →
+    Descends forms earlier part count frames slots →
+    ((own : List Kind) (found : HasSlots earlier part count own) → 1 ≤ leaf_count found.shape → HasSomeSlots earlier end.part end.count own) →
+    Descends forms earlier end.part end.count frames slots
+descends_end forms earlier part count end frames slots down ends =
+    let some = ends down.own down.found down.leaf in
+    record { later = down.later; prefix = down.prefix; own = down.own; rest = down.rest; found = some.found; leaf = some.leaf; left = down.left; is = down.is }
 
 -- to the first leaf
 pub descends_last : (forms earlier : List StructForm) (kind : Kind) (count : ℕ) (frames : List Frame) (slots : List Kind) →

@@ -30,6 +30,8 @@ pub mod Kinds
 pub mod Runs
 -- the fields of a STRUCT as contracts see them, and where the first of a name stands
 pub mod FieldEntries
+-- what a STRUCT with one field comes to
+pub mod Chains
 -- the TYPEs of a module by number, with their counts and the bounds of their fields
 pub mod Forms
 -- what each STRUCT adds to the TYPEs by number

@@ -30,6 +30,11 @@ pub record HasSlots (forms : List StructForm) (part : TypeRef) (count : ℕ) (sl
   pub few : AreFew many shape
   pub is : slots ≡ shape_slots many shape
 
+-- and at least one leaf
+pub record HasSomeSlots (forms : List StructForm) (part : TypeRef) (count : ℕ) (slots : List Kind) : Type 0 where
+  pub found : HasSlots forms part count slots
+  pub leaf : 1 ≤ leaf_count found.shape
+
 -- these slots are left of a STRUCT
 pub record HasLeft (forms : List StructForm) (frame : Frame) (slots : List Kind) : Type 0 where
   pub fields : Fields

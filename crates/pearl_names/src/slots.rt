@@ -5,10 +5,12 @@ ghost use Rattle.pearl_value.specs.declared.kind.Kind.{Kind as KindOf};
 ghost use Rattle.pearl_names.specs.Forms.{StandsFor, FieldsStand, leaf_count};
 ghost use Rattle.pearl_names.specs.Kinds.{kinds_among};
 ghost use Rattle.pearl_names.specs.Shapes.{Shape, Fields};
-ghost use Rattle.pearl_names.specs.Walks.{HasSlots, HasLeft, AllLeft, GoesOn, FindsNext, Lists, kinds_of_next};
+ghost use Rattle.pearl_names.specs.Walks.{HasSlots, HasSomeSlots, HasLeft, AllLeft, GoesOn, FindsNext, Lists, kinds_of_next};
 
 use crate::kinds::{Kinds, NO_KINDS, joined_kinds, one_kind};
-use crate::types::{FieldForm, StructForm, TypeRef, counts_of, cut_product, kinds_from};
+use crate::types::{
+    Elements, FieldForm, StructForm, TypeRef, counts_of, cut_product, end_of, kinds_from,
+};
 use pearl_value::kind::Kind;
 use std::alloc::{AllocError as NoMemory, Global};
 
@@ -68,17 +70,33 @@ fn next_field(forms: &[StructForm], form: &StructForm, from: usize) -> Option<Ne
     }
 }
 
-// Goes down to the first leaf of so many elements of a type, and notes what is left on the way.
+// What so many elements of a type come to.
+fn ended(forms: &[StructForm], part: TypeRef, count: u32) -> Elements
+    ensures { (slots : List KindOf) (found : HasSlots forms.now part count slots) → 1 ≤ leaf_count found.shape →
+        HasSomeSlots forms.now result.part result.count slots }
+{
+    let end = end_of(forms, part);
+    Elements {
+        part: end.part,
+        count: cut_product(count, end.count),
+    }
+}
+
+// Goes down to the first leaf of so many elements of a type, and notes what is left on the way. A STRUCT with one field
+// has nothing left then, and is gone past.
 fn descend(
     forms: &[StructForm],
     stack: &mut Vec<Frame>,
-    mut part: TypeRef,
-    mut count: u32,
+    part: TypeRef,
+    count: u32,
 ) -> Result<Option<Run>, NoMemory>
     ensures { IfOk result (λ run. (slots left : List KindOf) (found : HasSlots forms.now part count slots) →
         1 ≤ leaf_count found.shape → AllLeft forms.now stack.old.items left → GoesOn forms.now run stack.new.items (slots ++ left)) }
 {
     let mut earlier = forms;
+    let first = ended(forms, part, count);
+    let mut part = first.part;
+    let mut count = first.count;
     loop {
         let number = match part {
             TypeRef::Basic(kind) => return Ok(Some(Run { kind, count })),
@@ -98,8 +116,10 @@ fn descend(
             next: next.after,
             count,
         })?;
-        part = next.field.part;
-        count = cut_product(count, next.field.elements);
+        let inner = cut_product(count, next.field.elements);
+        let end = ended(earlier, next.field.part, inner);
+        part = end.part;
+        count = end.count;
     }
 }
 

@@ -1,6 +1,7 @@
 // TYPEs by number, with counts of what they would have if each TYPE were written out.
 
-ghost use Rattle.std.specs.Prelude.{◌≡◌, ◌+◌, ◌*◌, true, false, is_none, IfOk, OnOk, ◌++◌, List, ℤ, length, map, option_copied, option_map};
+ghost use Rattle.std.specs.Prelude.{◌≡◌, ◌+◌, ◌*◌, true, false, is_none, IfOk, OnOk, ◌++◌, List, ℤ, length, map, option_copied, option_map, slice_get};
+ghost use Rattle.std.specs.Option.{option_and_then};
 ghost use Rattle.std.specs.Map.{lookup};
 ghost use Rattle.std.specs.Str.{bytes_eq};
 ghost use Rattle.pearl_names.specs.declared.types.Counts.{Counts as CountsOf};
@@ -8,6 +9,7 @@ ghost use Rattle.pearl_names.specs.Shapes.{Shape, OfFields, Fields, NoField, wit
 ghost use Rattle.pearl_tree.specs.Names.{has_repeats};
 ghost use Rattle.pearl_tree.specs.declared.name.Name.{Name as NameOf};
 ghost use Rattle.pearl_names.specs.declared.types.StructForm.{StructForm as StructFormOf};
+ghost use Rattle.pearl_names.specs.Chains as chains;
 ghost use Rattle.pearl_names.specs.Counts as spec;
 ghost use Rattle.pearl_names.specs.Kinds.{kinds_among};
 ghost use Rattle.pearl_names.specs.Runs.{shape_slots, field_slots, drop_fields, tails_of as tails_in};
@@ -117,14 +119,23 @@ pub struct FieldForm {
     pub slot: u32,
 }
 
-/// The fields of a STRUCT by their names, the bounds of all of them, its counts, and which kinds are among its last
-/// fields: of none, of one, and so on up to all.
+/// So many elements of a type.
+#[derive(Clone, Copy, PartialEq, Eq, Debug)]
+pub struct Elements {
+    pub part: TypeRef,
+    pub count: u32,
+}
+
+/// The fields of a STRUCT by their names, the bounds of all of them, its counts, which kinds are among its last fields
+/// (of none, of one, and so on up to all), and of a STRUCT with one field what it comes to: TYPEs with one field each
+/// may be thousands deep, and a walk goes past them in one step.
 #[derive(Drop)]
 pub struct StructForm {
     pub fields: FieldTable,
     pub bounds: Vec<Bounds>,
     pub counts: Counts,
     pub tails: Vec<Kinds>,
+    pub end: Option<Elements>,
 }
 
 fn field_named(form: &StructForm, text: &ArrayVec<u8, 63>) -> Option<FieldForm>
@@ -216,6 +227,51 @@ pub fn counts_of(forms: &[StructForm], part: TypeRef) -> Counts
     match part {
         TypeRef::Basic(_) => ONE,
         TypeRef::Struct(number) => counts_at(forms, number),
+    }
+}
+
+fn end_at(forms: &[StructForm], number: u32) -> Option<Elements>
+    ensures { result ≡ option_and_then (λ form. form.end) (slice_get forms.now number) }
+{
+    match forms.get(number as usize) {
+        Some(form) => form.end,
+        None => None,
+    }
+}
+
+/// What one element of a type comes to where STRUCTs with one field are gone past.
+pub fn end_of(forms: &[StructForm], part: TypeRef) -> Elements
+    ensures { result ≡ chains.end_of forms.now part }
+{
+    match part {
+        TypeRef::Basic(_) => Elements { part, count: 1 },
+        TypeRef::Struct(number) => match end_at(forms, number) {
+            Some(end) => end,
+            None => Elements { part, count: 1 },
+        },
+    }
+}
+
+fn end_of_field(forms: &[StructForm], field: &FieldForm) -> Elements
+    ensures { result ≡ chains.end_of_field forms.now field.now }
+{
+    let end = end_of(forms, field.part);
+    Elements {
+        part: end.part,
+        count: cut_product(field.elements, end.count),
+    }
+}
+
+// What a form that has all its fields comes to, if that is one.
+pub(crate) fn only_end(forms: &[StructForm], form: &StructForm) -> Option<Elements>
+    ensures { result ≡ chains.only_end forms.now form.now.fields.entries }
+{
+    match form.fields.get_index(0) {
+        Some((_, field)) => match form.fields.get_index(1) {
+            Some(_) => None,
+            None => Some(end_of_field(forms, field)),
+        },
+        None => None,
     }
 }
 
