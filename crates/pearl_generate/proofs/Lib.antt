@@ -1,5 +1,4 @@
 mod Sums
-mod SmallerCalls
 mod Weights
 mod Zips
 mod Whole

@@ -1,7 +1,7 @@
 -- The code of routines, and of procedures in order.
 use Rattle.std.proofs.Common.{◌≡◌, ℕ, ◌<◌, List, [], ◌∷◌, ◌++◌, length, get_or, map, Option, None, Some, slice_get, option_map, refl, sym, ap, ◌∙◌, subst, arith, length-append}
 use Rattle.std.proofs.lemmas.List.{length-map}
-use Rattle.std.proofs.lemmas.Option.{slice_get-map, slice_get_read}
+use Rattle.std.proofs.lemmas.Option.{slice_get-map, slice_get_read, get_or_from_slice_get}
 use Rattle.pearl_value.specs.declared.kind.Kind.{Kind}
 use Rattle.pearl_program.specs.declared.program.Procedure.{Procedure}
 use Rattle.pearl_program.specs.declared.program.Program.{Program}
@@ -15,7 +15,7 @@ use Rattle.pearl_gen_expr.specs.Emitting.{Extends}
 use Rattle.pearl_gen_stmt.specs.StmtCode.{StmtsAt}
 use Rattle.pearl_gen_stmt.specs.Generated.{within_program}
 use Rattle.pearl_generate.specs.Routines.{IsRoutine}
-use Rattle.pearl_generate.proofs.Weights.{own_weight, weights_length}
+use Rattle.pearl_faithful.proofs.Offered.{weight_is, weights_count}
 
 stands_last : (list : List Instr) (x : Instr) → slice_get (list ++ x ∷ []) (length list) ≡ Some x
 stands_last [] x = refl
@@ -42,13 +42,16 @@ module _ (program : Program) (weights : List ℕ) (xs : List Procedure) (all : x
   pub has_weight : i < length weights
   has_weight =
       let many : length weights ≡ length xs =
-      ap length are ∙ (weights_length (map plain_procedure program.procedures) ∙ (length-map program.procedures plain_procedure ∙ sym (ap length all))) in
+      ap length are ∙ (weights_count (map plain_procedure program.procedures) ∙ (length-map program.procedures plain_procedure ∙ sym (ap length all))) in
       omega (arith, many, inside)
 
   pub its_weight : (x : Procedure) → CallSmaller 0 (plain_prog program).procedures → x ≡ get_or xs i x →
       get_or weights i 0 ≡ weight (weights_of (plain_prog program).procedures) (plain_procedure x).routine
   its_weight x smaller is =
+      let procedures = map plain_procedure program.procedures in
       let there : slice_get xs i ≡ Some x = slice_get_read xs (length xs) i x refl inside is in
+      let found : slice_get procedures i ≡ Some (plain_procedure x) =
+      slice_get-map plain_procedure program.procedures i ∙ ap (option_map plain_procedure) (ap (λ l. slice_get l i) (sym all) ∙ there) in
       ap (λ w. get_or w i 0) are ∙
-      own_weight (map plain_procedure program.procedures) smaller i (plain_procedure x)
-      (slice_get-map plain_procedure program.procedures i ∙ ap (option_map plain_procedure) (ap (λ l. slice_get l i) (sym all) ∙ there))
+      get_or_from_slice_get (weights_of procedures) i (weight (weights_of procedures) (plain_procedure x).routine) 0
+      (weight_is procedures i (plain_procedure x) found smaller)
