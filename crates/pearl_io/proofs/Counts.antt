@@ -11,9 +11,3 @@ rose_since a b c h (inr last) = inr last
 pub failed_since : (a b c : ℕ) (full : Type 0) → a ≤ b → WriteFailed b c full → WriteFailed a c full
 failed_since a b c full h (inl rose) = inl (rose_since a b c h rose)
 failed_since a b c full h (inr is_full) = inr is_full
-
--- writing never failed where the count stayed at 0 and the sink is never full
-pub never_failed : WriteFailed 0 0 ⊥ → ⊥
-never_failed (inl (inl less)) = let no : ⊥ = omega (arith, less) in no
-never_failed (inl (inr last)) = let no : ⊥ = omega (arith, last) in no
-never_failed (inr full) = full

@@ -4,5 +4,3 @@
 pub use Rattle.pearl_machine.proofs.Taken.{cut_front}
 -- where a run goes from where a machine stands
 pub use Rattle.pearl_machine.proofs.Going.{handles_none, handles_then, handles_on, handles_retold}
--- one mark and the instructions behind it, whatever entries come
-pub use Rattle.pearl_machine.proofs.Marked.{makes_one, makes_none}
