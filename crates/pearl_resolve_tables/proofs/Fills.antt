@@ -1,5 +1,5 @@
 -- Leaves that are made one after the other, how many slots they take, and how many elements there are within bounds.
-use Rattle.std.proofs.Common.{◌≡◌, ℕ, ◌+◌, ◌*◌, ◌<◌, List, [], ◌∷◌, ◌++◌, map, length, take, drop, get_or, Option, Some, None, sym, ap, ◌∙◌, append_assoc, append-nil, arith}
+use Rattle.std.proofs.Common.{◌≡◌, ℕ, ◌+◌, ◌*◌, ◌<◌, Bool, true, refl, List, [], ◌∷◌, ◌++◌, map, length, take, drop, get_or, Option, Some, None, sym, ap, ◌∙◌, append_assoc, append-nil, arith}
 use Rattle.std.proofs.Math.Nat.{mul_assoc}
 use Rattle.std.proofs.lemmas.List.Sums.{sum_by-cons}
 use Rattle.pearl_tree.specs.ShownLiterals.{ShownConst}
@@ -16,15 +16,15 @@ use Rattle.pearl_resolve_tables.specs.Walks.{AllLeft, IsFound, GoesOn}
 use Rattle.pearl_resolve_tables.proofs.Making.{one_left}
 
 -- these leaves are left, what is kept of them so far joined with what is left is all, and so are the slots
-pub record Fills {X : Type 0} (kept : PlainLeaf → X) (forms : List StructForm) (base : List ℕ) (next : Option Found) (frames : List Frame) (text : List ℕ) (made begun : List X) (constants first : List ShownConst) (count : ℕ) (all : List Leaf) : Type 0 where
+pub record Fills {X : Type 0} (kept : PlainLeaf → X) (forms : List StructForm) (asked : Bool) (base : List ℕ) (next : Option Found) (frames : List Frame) (text : List ℕ) (made begun : List X) (constants first : List ShownConst) (count : ℕ) (all : List Leaf) : Type 0 where
   pub left : List Leaf
-  pub goes : GoesOn forms base next frames text left
+  pub goes : GoesOn forms asked base next frames text left
   pub leaves : made ++ map kept (filled_leaves base constants left) ≡ begun ++ map kept (filled_leaves base first all)
   pub counted : count + slots left ≡ slots all
 
-pub fills_first : {X : Type 0} (kept : PlainLeaf → X) (forms : List StructForm) (base : List ℕ) (next : Option Found) (frames : List Frame) (text : List ℕ) (begun : List X) (constants first : List ShownConst) (count : ℕ) (all : List Leaf) →
-    constants ≡ first → count ≡ 0 → GoesOn forms base next frames text all → Fills kept forms base next frames text begun begun constants first count all
-fills_first kept forms base next frames text begun constants first count all same none goes = record {
+pub fills_first : {X : Type 0} (kept : PlainLeaf → X) (forms : List StructForm) (asked : Bool) (base : List ℕ) (next : Option Found) (frames : List Frame) (text : List ℕ) (begun : List X) (constants first : List ShownConst) (count : ℕ) (all : List Leaf) →
+    constants ≡ first → count ≡ 0 → GoesOn forms asked base next frames text all → Fills kept forms asked base next frames text begun begun constants first count all
+fills_first kept forms asked base next frames text begun constants first count all same none goes = record {
   left = all;
   goes = goes;
   leaves = ap (λ c. begun ++ map kept (filled_leaves base c all)) same;
@@ -38,19 +38,23 @@ plain_of text found constants = record {
   values = record { kind = found.kind; count = found.count; constants = map (constant_in found.kind) (take found.count constants) };
 }
 
-found_values : (base : List ℕ) (found : Found) (text : List ℕ) (leaf : Leaf) (constants : List ShownConst) → IsFound base found text leaf →
-    plain_of text found constants ≡ record { name = path_name base leaf.path; values = values_of_leaf constants leaf }
-found_values base found text leaf constants is = λ i. record {
-  name = is.name i;
-  values = record { kind = is.kind i; count = is.count i; constants = map (constant_in (is.kind i)) (take (is.count i) constants) };
-}
+pub found_values : (asked : Bool) (base : List ℕ) (found : Found) (text : List ℕ) (leaf : Leaf) (constants : List ShownConst) → IsFound asked base found text leaf →
+    (plain_of text found constants).values ≡ values_of_leaf constants leaf
+found_values asked base found text leaf constants is =
+    λ i. record { kind = is.kind i; count = is.count i; constants = map (constant_in (is.kind i)) (take (is.count i) constants) }
 
-pub fills_more : {X : Type 0} (kept : PlainLeaf → X) (forms : List StructForm) (base : List ℕ) (found : Found) (next : Option Found) (frames after : List Frame) (text new : List ℕ) (made more begun : List X) (constants others first : List ShownConst) (count total : ℕ) (all : List Leaf) →
-    Fills kept forms base (Some found) frames text made begun constants first count all →
+-- where names are asked for, with its name
+pub found_leaf : (base : List ℕ) (found : Found) (text : List ℕ) (leaf : Leaf) (constants : List ShownConst) → IsFound true base found text leaf →
+    plain_of text found constants ≡ record { name = path_name base leaf.path; values = values_of_leaf constants leaf }
+found_leaf base found text leaf constants is = λ i. record { name = is.name refl i; values = found_values true base found text leaf constants is i }
+
+pub fills_more : {X : Type 0} (kept : PlainLeaf → X) (forms : List StructForm) (asked : Bool) (base : List ℕ) (found : Found) (next : Option Found) (frames after : List Frame) (text new : List ℕ) (made more begun : List X) (constants others first : List ShownConst) (count total : ℕ) (all : List Leaf) →
+    Fills kept forms asked base (Some found) frames text made begun constants first count all →
     more ≡ made ++ kept (plain_of text found constants) ∷ [] → others ≡ left_behind found.count constants → total ≡ count + found.count →
-    ((left : List Leaf) → AllLeft forms base frames text left → GoesOn forms base next after new left) →
-    Fills kept forms base next after new more begun others first total all
-fills_more kept forms base found next frames after text new made more begun constants others first count total all so added behind sums goes =
+    ((left : List Leaf) → AllLeft forms asked base frames text left → GoesOn forms asked base next after new left) →
+    ((leaf : Leaf) → IsFound asked base found text leaf → kept (plain_of text found constants) ≡ kept (record { name = path_name base leaf.path; values = values_of_leaf constants leaf })) →
+    Fills kept forms asked base next after new more begun others first total all
+fills_more kept forms asked base found next frames after text new made more begun constants others first count total all so added behind sums goes tells =
     let leaf = so.goes.0 in
     let rest = so.goes.1 in
     let is = so.goes.2 in
@@ -62,16 +66,16 @@ fills_more kept forms base found next frames after text new made more begun cons
       goes = goes rest so.goes.3;
       leaves = (λ i. added i ++ map kept (filled_leaves base (behind i) rest))
           ∙ append_assoc made (kept (plain_of text found constants) ∷ []) (map kept (filled_leaves base (left_behind found.count constants) rest))
-          ∙ (λ i. made ++ kept (found_values base found text leaf constants is i) ∷ map kept (filled_leaves base (left_behind (is.count i) constants) rest))
+          ∙ (λ i. made ++ tells leaf is i ∷ map kept (filled_leaves base (left_behind (is.count i) constants) rest))
           ∙ ap (λ l. made ++ map kept (filled_leaves base constants l)) (sym so.goes.4)
           ∙ so.leaves;
       counted = omega (arith, sums, here, same, whole);
     }
 
 -- all leaves
-pub fills_all : {X : Type 0} (kept : PlainLeaf → X) (forms : List StructForm) (base : List ℕ) (frames : List Frame) (text : List ℕ) (made begun : List X) (constants first : List ShownConst) (count : ℕ) (all : List Leaf) →
-    Fills kept forms base None frames text made begun constants first count all → (made ≡ begun ++ map kept (filled_leaves base first all)) × (count ≡ slots all)
-fills_all kept forms base frames text made begun constants first count all so =
+pub fills_all : {X : Type 0} (kept : PlainLeaf → X) (forms : List StructForm) (asked : Bool) (base : List ℕ) (frames : List Frame) (text : List ℕ) (made begun : List X) (constants first : List ShownConst) (count : ℕ) (all : List Leaf) →
+    Fills kept forms asked base None frames text made begun constants first count all → (made ≡ begun ++ map kept (filled_leaves base first all)) × (count ≡ slots all)
+fills_all kept forms asked base frames text made begun constants first count all so =
     let none : slots so.left ≡ 0 = ap slots so.goes in
     let whole = so.counted in
     (sym (append-nil made) ∙ ap (λ l. made ++ map kept (filled_leaves base constants l)) (sym so.goes) ∙ so.leaves, omega (arith, none, whole))

@@ -1,5 +1,5 @@
 -- Walks over the leaves of a variable: into a field, down to the first leaf, and on to the next.
-use Rattle.std.proofs.Common.{◌≡◌, ℕ, zero, suc, ◌+◌, ◌*◌, ℤ, List, [], ◌∷◌, ◌++◌, reverse, length, take, drop, slice_get, Option, Some, None, refl, sym, ap, subst, ◌∙◌, append_assoc, append-nil, arith}
+use Rattle.std.proofs.Common.{◌≡◌, ℕ, zero, suc, ◌+◌, ◌*◌, ℤ, Bool, true, false, true≢false, List, [], ◌∷◌, ◌++◌, reverse, length, take, drop, slice_get, Option, Some, None, refl, sym, ap, subst, ◌∙◌, append_assoc, append-nil, arith}
 use Rattle.std.proofs.Math.Seq.{take-append_seam}
 use Rattle.std.proofs.lemmas.Grind.{flat_map-append}
 use Rattle.std.proofs.lemmas.List.{reverse-append, take-append-drop}
@@ -7,6 +7,7 @@ use Rattle.std.proofs.lemmas.Option.{same_Some, none-some}
 use Rattle.std.specs.List.{flat_map}
 use Rattle.arrayvec.specs.ArrayVec.{ArrayVec}
 use Rattle.pearl_value.specs.declared.kind.Kind.{Kind}
+use Rattle.pearl_names.specs.declared.types.Elements.{Elements}
 use Rattle.pearl_names.specs.declared.types.FieldForm.{FieldForm}
 use Rattle.pearl_names.specs.declared.types.StructForm.{StructForm}
 use Rattle.pearl_names.specs.declared.types.TypeRef.{TypeRef}
@@ -16,11 +17,12 @@ use Rattle.pearl_names.specs.Forms.{leaf_count, slot_count, StandsFor, FieldsSta
 use Rattle.pearl_names.specs.Layout.{Leaf, leaves_of, leaves_of_fields, elements}
 use Rattle.pearl_names.specs.Runs.{drop_fields}
 use Rattle.pearl_names.specs.Shapes.{Shape, OfKind, OfFields, Fields, NoField, MoreField}
-use Rattle.pearl_names.proofs.Offered.{elements-append, stands_more, fields_all, no_field}
+use Rattle.pearl_names.specs.Chains.{end_of}
+use Rattle.pearl_names.proofs.Offered.{elements-append, ends_in, stands_more, fields_all, no_field}
 use Rattle.pearl_resolve_tables.specs.declared.walk.Frame.{Frame}
 use Rattle.pearl_resolve_tables.specs.declared.walk.Found.{Found}
 use Rattle.pearl_resolve_tables.specs.Laying.{path_name}
-use Rattle.pearl_resolve_tables.specs.Walks.{HasLeaves, HasLeft, Begins, LeftWithin, AllLeft, GoesOn}
+use Rattle.pearl_resolve_tables.specs.Walks.{HasLeaves, ComesTo, HasLeft, Begins, LeftWithin, AllLeft, GoesOn}
 
 -- the field at an index, with its name
 record FieldAt (forms : List StructForm) (entry : ArrayVec ℕ × FieldForm) (fields : Fields) (i : ℕ) : Type 0 where
@@ -74,62 +76,83 @@ path_more base path key =
     ∙ sym (append_assoc base (flat_map joined path) (46 ∷ key))
 
 -- the innermost of the STRUCTs that a walk is within, and what is left
-record Innermost (forms : List StructForm) (base : List ℕ) (outer : List Frame) (frame : Frame) (text : List ℕ) (leaves : List Leaf) : Type 0 where
+record Innermost (forms : List StructForm) (asked : Bool) (base : List ℕ) (outer : List Frame) (frame : Frame) (text : List ℕ) (leaves : List Leaf) : Type 0 where
   pub path : List (List ℕ)
   pub own : List Leaf
   pub rest : List Leaf
-  pub begins : Begins base frame.bytes path text
+  pub begins : asked ≡ true → Begins base frame.bytes path text
   pub has : HasLeft forms frame path own
-  pub left : AllLeft forms base outer (path_name base path) rest
+  pub left : AllLeft forms asked base outer (path_name base path) rest
   pub is : leaves ≡ own ++ rest
 
 reverse_push : (outer : List Frame) (frame : Frame) → reverse (outer ++ frame ∷ []) ≡ frame ∷ reverse outer
 reverse_push outer frame = reverse-append outer (frame ∷ [])
 
-innermost : (forms : List StructForm) (base : List ℕ) (outer : List Frame) (frame : Frame) (text : List ℕ) (leaves : List Leaf) →
-    AllLeft forms base (outer ++ frame ∷ []) text leaves → Innermost forms base outer frame text leaves
-innermost forms base outer frame text leaves h =
-    by (subst (λ l. LeftWithin forms base l text leaves) (reverse_push outer frame) h)
+innermost : (forms : List StructForm) (asked : Bool) (base : List ℕ) (outer : List Frame) (frame : Frame) (text : List ℕ) (leaves : List Leaf) →
+    AllLeft forms asked base (outer ++ frame ∷ []) text leaves → Innermost forms asked base outer frame text leaves
+innermost forms asked base outer frame text leaves h =
+    by (subst (λ l. LeftWithin forms asked base l text leaves) (reverse_push outer frame) h)
   where
-    by : LeftWithin forms base (frame ∷ reverse outer) text leaves → Innermost forms base outer frame text leaves
+    by : LeftWithin forms asked base (frame ∷ reverse outer) text leaves → Innermost forms asked base outer frame text leaves
     by h = record { path = h.0; own = h.1; rest = h.2; begins = h.3; has = h.4; left = h.5; is = h.6 }
 
-left_push : (forms : List StructForm) (base : List ℕ) (outer : List Frame) (frame : Frame) (path : List (List ℕ)) (text : List ℕ) (own rest : List Leaf) →
-    Begins base frame.bytes path text → HasLeft forms frame path own → AllLeft forms base outer (path_name base path) rest →
-    AllLeft forms base (outer ++ frame ∷ []) text (own ++ rest)
-left_push forms base outer frame path text own rest begins has left =
-    subst (λ l. LeftWithin forms base l text (own ++ rest)) (sym (reverse_push outer frame)) (path, own, rest, begins, has, left, refl)
+left_push : (forms : List StructForm) (asked : Bool) (base : List ℕ) (outer : List Frame) (frame : Frame) (path : List (List ℕ)) (text : List ℕ) (own rest : List Leaf) →
+    (asked ≡ true → Begins base frame.bytes path text) → HasLeft forms frame path own → AllLeft forms asked base outer (path_name base path) rest →
+    AllLeft forms asked base (outer ++ frame ∷ []) text (own ++ rest)
+left_push forms asked base outer frame path text own rest begins has left =
+    subst (λ l. LeftWithin forms asked base l text (own ++ rest)) (sym (reverse_push outer frame)) (path, own, rest, begins, has, left, refl)
+
+-- a text that begins with another one
+pub record Longer (text new : List ℕ) : Type 0 where
+  pub more : List ℕ
+  pub is : new ≡ text ++ more
+
+left_longer : (forms : List StructForm) (asked : Bool) (base : List ℕ) (frames : List Frame) (text new : List ℕ) (leaves : List Leaf) →
+    (asked ≡ true → Longer text new) → LeftWithin forms asked base frames text leaves → LeftWithin forms asked base frames new leaves
+left_longer forms asked base [] text new leaves longer h = h
+left_longer forms asked base (frame ∷ outer) text new leaves longer h = (
+  h.0,
+  h.1,
+  h.2,
+  λ on.
+      let begins = h.3 on in
+      let l = longer on in
+      record { behind = begins.behind ++ l.more; is = l.is ∙ ap (λ t. t ++ l.more) begins.is ∙ append_assoc (path_name base h.0) begins.behind l.more; long = begins.long },
+  h.4,
+  h.5,
+  h.6,
+)
 
 -- inside a field
-pub record Entered (forms inner : List StructForm) (base : List ℕ) (part : TypeRef) (count : ℕ) (frames : List Frame) (text : List ℕ) (leaves : List Leaf) : Type 0 where
+pub record Entered (forms inner : List StructForm) (asked : Bool) (base : List ℕ) (part : TypeRef) (count : ℕ) (frames : List Frame) (text : List ℕ) (leaves : List Leaf) : Type 0 where
   pub path : List (List ℕ)
   pub own : List Leaf
   pub rest : List Leaf
-  pub named : text ≡ path_name base path
+  pub named : asked ≡ true → text ≡ path_name base path
   pub found : HasLeaves inner part count path own
-  pub left : AllLeft forms base frames text rest
+  pub left : AllLeft forms asked base frames text rest
   pub is : leaves ≡ own ++ rest
 
 -- what is known of the way into a field
-pub record Enters (frame : Frame) (entry : ArrayVec ℕ × FieldForm) (text new : List ℕ) (inner : ℕ) : Type 0 where
-  pub name : new ≡ take frame.bytes text ++ 46 ∷ entry.0.items
+pub record Enters (asked : Bool) (frame : Frame) (entry : ArrayVec ℕ × FieldForm) (text new : List ℕ) (inner : ℕ) : Type 0 where
+  pub name : asked ≡ true → new ≡ take frame.bytes text ++ 46 ∷ entry.0.items
   pub count : (n : ℕ) → entry.1.elements ≡ cut n → inner ≡ frame.count * n
 
 abbrev past : Frame → Frame
 past frame = record frame { next = frame.next + 1 }
 
-entered : (forms inner : List StructForm) (base : List ℕ) (outer : List Frame) (frame : Frame) (entry : ArrayVec ℕ × FieldForm) (text new : List ℕ) (leaves : List Leaf) (count : ℕ) →
-    (h : Innermost forms base outer frame text leaves) → FieldAt inner entry h.has.fields frame.next → Enters frame entry text new count →
-    Entered forms inner base entry.1.part count (outer ++ past frame ∷ []) new leaves
-entered forms inner base outer frame entry text new leaves count h at enters =
+entered : (forms inner : List StructForm) (asked : Bool) (base : List ℕ) (outer : List Frame) (frame : Frame) (entry : ArrayVec ℕ × FieldForm) (text new : List ℕ) (leaves : List Leaf) (count : ℕ) →
+    (h : Innermost forms asked base outer frame text leaves) → FieldAt inner entry h.has.fields frame.next → Enters asked frame entry text new count →
+    Entered forms inner asked base entry.1.part count (outer ++ past frame ∷ []) new leaves
+entered forms inner asked base outer frame entry text new leaves count h at enters =
     let key = entry.0.items in
     let path = h.path ++ key ∷ [] in
     let fields = h.has.fields in
     let bounds = h.has.bounds in
     let next : frame.next + 1 ≡ suc frame.next = omega arith in
-    let begun : take frame.bytes text ≡ path_name base h.path =
-    (λ i. take (h.begins.long i) (h.begins.is i)) ∙ take-append_seam (path_name base h.path) h.begins.behind in
-    let here : new ≡ path_name base h.path ++ 46 ∷ key = enters.name ∙ ap (λ l. l ++ 46 ∷ key) begun in
+    let begun : asked ≡ true → take frame.bytes text ≡ path_name base h.path =
+    (λ on. (λ i. take ((h.begins on).long i) ((h.begins on).is i)) ∙ take-append_seam (path_name base h.path) (h.begins on).behind) in
+    let here : asked ≡ true → new ≡ path_name base h.path ++ 46 ∷ key = (λ on. enters.name on ∙ ap (λ l. l ++ 46 ∷ key) (begun on)) in
     let own = leaves_of path (bounds ++ at.bounds) at.shape in
     let behind = leaves_of_fields h.path bounds (drop_fields (frame.next + 1) fields) in
     let all : leaves_of_fields h.path bounds (drop_fields frame.next fields) ≡ own ++ behind =
@@ -138,7 +161,7 @@ entered forms inner base outer frame entry text new leaves count h at enters =
       path = path;
       own = own;
       rest = behind ++ h.rest;
-      named = here ∙ sym (path_more base h.path key);
+      named = λ on. here on ∙ sym (path_more base h.path key);
       found = record {
         shape = at.shape;
         bounds = bounds ++ at.bounds;
@@ -146,37 +169,81 @@ entered forms inner base outer frame entry text new leaves count h at enters =
         counted = enters.count (elements at.bounds) at.count ∙ ap (λ n. n * elements at.bounds) h.has.counted ∙ sym (elements-append bounds at.bounds);
         is = refl;
       };
-      left = left_push forms base outer (past frame) h.path new behind h.rest
-          (record { behind = 46 ∷ key; is = here; long = h.begins.long })
+      left = left_push forms asked base outer (past frame) h.path new behind h.rest
+          (λ on. record { behind = 46 ∷ key; is = here on; long = (h.begins on).long })
           (record { fields = fields; bounds = bounds; stands = h.has.stands; counted = h.has.counted; is = refl }) h.left;
       is = h.is ∙ ap (λ l. l ++ h.rest) (h.has.is ∙ all) ∙ append_assoc own behind h.rest;
     }
 
 -- a walk down: the type that it has come to stands among the earlier forms
-pub record Descends (forms earlier : List StructForm) (base : List ℕ) (part : TypeRef) (count : ℕ) (frames : List Frame) (text : List ℕ) (leaves : List Leaf) : Type 0 where
+pub record Descends (forms earlier : List StructForm) (asked : Bool) (base : List ℕ) (part : TypeRef) (count : ℕ) (frames : List Frame) (text : List ℕ) (leaves : List Leaf) : Type 0 where
   pub later : List StructForm
   pub prefix : forms ≡ earlier ++ later
-  pub entered : Entered forms earlier base part count frames text leaves
+  pub entered : Entered forms earlier asked base part count frames text leaves
 
-pub descends_first : (forms : List StructForm) (base : List ℕ) (part : TypeRef) (count : ℕ) (path : List (List ℕ)) (frames : List Frame) (text : List ℕ) (own left : List Leaf) →
-    text ≡ path_name base path → HasLeaves forms part count path own → AllLeft forms base frames text left → Descends forms forms base part count frames text (own ++ left)
-descends_first forms base part count path frames text own left named found rest = record {
+pub descends_first : (forms : List StructForm) (asked : Bool) (base : List ℕ) (part : TypeRef) (count : ℕ) (path : List (List ℕ)) (frames : List Frame) (text : List ℕ) (own left : List Leaf) →
+    (asked ≡ true → text ≡ path_name base path) → HasLeaves forms part count path own → AllLeft forms asked base frames text left → Descends forms forms asked base part count frames text (own ++ left)
+descends_first forms asked base part count path frames text own left named found rest = record {
   later = [];
   prefix = sym (append-nil forms);
   entered = record { path = path; own = own; rest = left; named = named; found = found; left = rest; is = refl };
 }
 
+-- what it has come to comes to more
+pub descends_end : (forms earlier : List StructForm) (asked : Bool) (base : List ℕ) (part : TypeRef) (count : ℕ) (end : Elements) (frames : List Frame) (text : List ℕ) (leaves : List Leaf) →
+    Descends forms earlier asked base part count frames text leaves →
+    ((path : List (List ℕ)) (own : List Leaf) → HasLeaves earlier part count path own → ComesTo earlier asked end path own) →
+    Descends forms earlier asked base end.part end.count frames text leaves
+descends_end forms earlier asked base part count end frames text leaves down comes =
+    let e = down.entered in
+    let to = comes e.path e.own e.found in
+    record {
+      later = down.later;
+      prefix = down.prefix;
+      entered = record {
+        path = to.behind;
+        own = e.own;
+        rest = e.rest;
+        named = λ on. e.named on ∙ ap (path_name base) (sym (to.same on));
+        found = to.has;
+        left = e.left;
+        is = e.is;
+      };
+    }
+
+-- with its names a type comes to itself
+pub comes_to_itself : (forms : List StructForm) (asked : Bool) (part : TypeRef) (count : ℕ) (path : List (List ℕ)) (leaves : List Leaf) →
+    HasLeaves forms part count path leaves → ComesTo forms asked (record { part = part; count = count }) path leaves
+comes_to_itself forms asked part count path leaves has = record { behind = path; same = λ on. refl; has = has }
+
+-- and without them to the end of STRUCTs with one field
+pub comes_to_end : (forms : List StructForm) (part : TypeRef) (end : Elements) (count each all : ℕ) (path : List (List ℕ)) (leaves : List Leaf) → end ≡ end_of forms part →
+    ((n : ℕ) → end.count ≡ cut n → each ≡ n) → all ≡ count * each → HasLeaves forms part count path leaves →
+    ComesTo forms false (record { part = end.part; count = all }) path leaves
+comes_to_end forms part end count each all path leaves is whole product has =
+    let ends = ends_in forms part has.shape has.stands in record {
+      behind = path ++ ends.path;
+      same = λ on. absurd (true≢false (sym on));
+      has = record {
+        shape = ends.last;
+        bounds = has.bounds ++ ends.bounds;
+        stands = subst (λ e. StandsFor forms e.part ends.last) (sym is) ends.stands;
+        counted = product ∙ (λ i. has.counted i * whole (elements ends.bounds) (ap (λ e. e.count) is ∙ ends.count) i) ∙ sym (elements-append has.bounds ends.bounds);
+        is = has.is ∙ ends.leaves path has.bounds;
+      };
+    }
+
 -- to a leaf
-pub descends_last : (forms earlier : List StructForm) (base : List ℕ) (kind : Kind) (count : ℕ) (frames : List Frame) (text : List ℕ) (leaves : List Leaf) →
-    Descends forms earlier base (Basic kind) count frames text leaves → GoesOn forms base (Some (record { kind = kind; count = count })) frames text leaves
+pub descends_last : (forms earlier : List StructForm) (asked : Bool) (base : List ℕ) (kind : Kind) (count : ℕ) (frames : List Frame) (text : List ℕ) (leaves : List Leaf) →
+    Descends forms earlier asked base (Basic kind) count frames text leaves → GoesOn forms asked base (Some (record { kind = kind; count = count })) frames text leaves
 unfolding StandsFor
-descends_last forms earlier base kind count frames text leaves down = by e.found.shape e.found.stands e.found.is
+descends_last forms earlier asked base kind count frames text leaves down = by e.found.shape e.found.stands e.found.is
   where
-    e : Entered forms earlier base (Basic kind) count frames text leaves
+    e : Entered forms earlier asked base (Basic kind) count frames text leaves
     e = down.entered
 
     by : (shape : Shape) → StandsFor earlier (Basic kind) shape → e.own ≡ leaves_of e.path e.found.bounds shape →
-        GoesOn forms base (Some (record { kind = kind; count = count })) frames text leaves
+        GoesOn forms asked base (Some (record { kind = kind; count = count })) frames text leaves
     by (OfKind to) stands is = (
       record { path = e.path; bounds = e.found.bounds; kind = to },
       e.rest,
@@ -187,20 +254,20 @@ descends_last forms earlier base kind count frames text leaves down = by e.found
     by (OfFields fields) stands is = absurd stands
 
 -- into the first field
-pub descends_more : (forms earlier : List StructForm) (base : List ℕ) (number count bytes inner : ℕ) (frames : List Frame) (text new : List ℕ) (leaves : List Leaf) (form : StructForm) (entry : ArrayVec ℕ × FieldForm) →
-    Descends forms earlier base (Struct number) count frames text leaves → slice_get earlier number ≡ Some form → slice_get form.fields.entries 0 ≡ Some entry →
-    bytes ≡ length text → Enters (record { number = number; next = 0; count = count; bytes = bytes }) entry text new inner →
-    Descends forms (take number earlier) base entry.1.part inner (frames ++ record { number = number; next = 1; count = count; bytes = bytes } ∷ []) new leaves
-descends_more forms earlier base number count bytes inner frames text new leaves form entry down at first long enters =
+pub descends_more : (forms earlier : List StructForm) (asked : Bool) (base : List ℕ) (number count bytes inner : ℕ) (frames : List Frame) (text new : List ℕ) (leaves : List Leaf) (form : StructForm) (entry : ArrayVec ℕ × FieldForm) →
+    Descends forms earlier asked base (Struct number) count frames text leaves → slice_get earlier number ≡ Some form → slice_get form.fields.entries 0 ≡ Some entry →
+    bytes ≡ length text → Enters asked (record { number = number; next = 0; count = count; bytes = bytes }) entry text new inner →
+    Descends forms (take number earlier) asked base entry.1.part inner (frames ++ record { number = number; next = 1; count = count; bytes = bytes } ∷ []) new leaves
+descends_more forms earlier asked base number count bytes inner frames text new leaves form entry down at first long enters =
     let e = down.entered in
     let s = struct_fields earlier number e.found.shape e.found.stands in
     let stands : StandsFor earlier (Struct number) (OfFields s.fields) = subst (StandsFor earlier (Struct number)) s.is e.found.stands in
     let frame : Frame = record { number = number; next = 0; count = count; bytes = bytes } in
-    let h : Innermost forms base frames frame text leaves = record {
+    let h : Innermost forms asked base frames frame text leaves = record {
       path = e.path;
       own = e.own;
       rest = e.rest;
-      begins = record { behind = []; is = e.named ∙ sym (append-nil (path_name base e.path)); long = long ∙ ap length e.named };
+      begins = λ on. record { behind = []; is = e.named on ∙ sym (append-nil (path_name base e.path)); long = long ∙ ap length (e.named on) };
       has = record {
         fields = s.fields;
         bounds = e.found.bounds;
@@ -208,51 +275,40 @@ descends_more forms earlier base number count bytes inner frames text new leaves
         counted = e.found.counted;
         is = e.found.is ∙ ap (leaves_of e.path e.found.bounds) s.is;
       };
-      left = subst (λ t. AllLeft forms base frames t e.rest) e.named e.left;
+      left = left_longer forms asked base (reverse frames) text (path_name base e.path) e.rest
+          (λ on. record { more = []; is = sym (e.named on) ∙ sym (append-nil text) }) e.left;
       is = e.is;
     } in
     let field = field_at (take number earlier) 0 0 form.fields.entries s.fields 0 entry (fields_stand earlier number form s.fields at stands) first in
     record {
       later = drop number earlier ++ down.later;
       prefix = down.prefix ∙ ap (λ l. l ++ down.later) (sym (take-append-drop number earlier)) ∙ append_assoc (take number earlier) (drop number earlier) down.later;
-      entered = entered forms (take number earlier) base frames frame entry text new leaves inner h field enters;
+      entered = entered forms (take number earlier) asked base frames frame entry text new leaves inner h field enters;
     }
 
 -- a STRUCT that has a field left
-pub frame_next : (forms : List StructForm) (base : List ℕ) (frames : List Frame) (frame : Frame) (text new : List ℕ) (leaves : List Leaf) (form : StructForm) (entry : ArrayVec ℕ × FieldForm) (count : ℕ) →
-    AllLeft forms base (frames ++ frame ∷ []) text leaves → slice_get forms frame.number ≡ Some form → slice_get form.fields.entries frame.next ≡ Some entry →
-    Enters frame entry text new count → Entered forms forms base entry.1.part count (frames ++ past frame ∷ []) new leaves
-frame_next forms base frames frame text new leaves form entry count left at is enters =
-    let h = innermost forms base frames frame text leaves left in
+pub frame_next : (forms : List StructForm) (asked : Bool) (base : List ℕ) (frames : List Frame) (frame : Frame) (text new : List ℕ) (leaves : List Leaf) (form : StructForm) (entry : ArrayVec ℕ × FieldForm) (count : ℕ) →
+    AllLeft forms asked base (frames ++ frame ∷ []) text leaves → slice_get forms frame.number ≡ Some form → slice_get form.fields.entries frame.next ≡ Some entry →
+    Enters asked frame entry text new count → Entered forms forms asked base entry.1.part count (frames ++ past frame ∷ []) new leaves
+frame_next forms asked base frames frame text new leaves form entry count left at is enters =
+    let h = innermost forms asked base frames frame text leaves left in
     let field = field_at forms 0 0 form.fields.entries h.has.fields frame.next entry (fields_of forms frame.number form h.has.fields at h.has.stands) is in
-    entered forms forms base frames frame entry text new leaves count h field enters
+    entered forms forms asked base frames frame entry text new leaves count h field enters
 
-pub onward_goes : (forms : List StructForm) (base : List ℕ) (part : TypeRef) (count : ℕ) (frames after : List Frame) (text new : List ℕ) (leaves : List Leaf) (next : Option Found) →
-    Entered forms forms base part count frames text leaves →
-    ((path : List (List ℕ)) (own left : List Leaf) → text ≡ path_name base path → HasLeaves forms part count path own → AllLeft forms base frames text left →
-    GoesOn forms base next after new (own ++ left)) → GoesOn forms base next after new leaves
-onward_goes forms base part count frames after text new leaves next e goes =
-    subst (GoesOn forms base next after new) (sym e.is) (goes e.path e.own e.rest e.named e.found e.left)
-
-left_longer : (forms : List StructForm) (base : List ℕ) (frames : List Frame) (text more : List ℕ) (leaves : List Leaf) → LeftWithin forms base frames text leaves → LeftWithin forms base frames (text ++ more) leaves
-left_longer forms base [] text more leaves h = h
-left_longer forms base (frame ∷ outer) text more leaves h = (
-  h.0,
-  h.1,
-  h.2,
-  record { behind = h.3.behind ++ more; is = ap (λ l. l ++ more) h.3.is ∙ append_assoc (path_name base h.0) h.3.behind more; long = h.3.long },
-  h.4,
-  h.5,
-  h.6,
-)
+pub onward_goes : (forms : List StructForm) (asked : Bool) (base : List ℕ) (part : TypeRef) (count : ℕ) (frames after : List Frame) (text new : List ℕ) (leaves : List Leaf) (next : Option Found) →
+    Entered forms forms asked base part count frames text leaves →
+    ((path : List (List ℕ)) (own left : List Leaf) → (asked ≡ true → text ≡ path_name base path) → HasLeaves forms part count path own → AllLeft forms asked base frames text left →
+    GoesOn forms asked base next after new (own ++ left)) → GoesOn forms asked base next after new leaves
+onward_goes forms asked base part count frames after text new leaves next e goes =
+    subst (GoesOn forms asked base next after new) (sym e.is) (goes e.path e.own e.rest e.named e.found e.left)
 
 -- one that has none
-pub frame_done : (forms : List StructForm) (base : List ℕ) (frames : List Frame) (frame : Frame) (text : List ℕ) (leaves : List Leaf) (form : StructForm) →
-    AllLeft forms base (frames ++ frame ∷ []) text leaves → slice_get forms frame.number ≡ Some form → slice_get form.fields.entries frame.next ≡ None →
-    AllLeft forms base frames text leaves
-frame_done forms base frames frame text leaves form left at is =
-    let h = innermost forms base frames frame text leaves left in
+pub frame_done : (forms : List StructForm) (asked : Bool) (base : List ℕ) (frames : List Frame) (frame : Frame) (text : List ℕ) (leaves : List Leaf) (form : StructForm) →
+    AllLeft forms asked base (frames ++ frame ∷ []) text leaves → slice_get forms frame.number ≡ Some form → slice_get form.fields.entries frame.next ≡ None →
+    AllLeft forms asked base frames text leaves
+frame_done forms asked base frames frame text leaves form left at is =
+    let h = innermost forms asked base frames frame text leaves left in
     let none = no_field forms 0 0 form.fields.entries h.has.fields frame.next (fields_of forms frame.number form h.has.fields at h.has.stands) is in
     let empty : h.own ≡ [] = h.has.is ∙ ap (leaves_of_fields h.path h.has.bounds) none in
-    let rest = left_longer forms base (reverse frames) (path_name base h.path) h.begins.behind h.rest h.left in
-    subst (AllLeft forms base frames text) (sym (h.is ∙ ap (λ l. l ++ h.rest) empty)) (subst (λ t. AllLeft forms base frames t h.rest) (sym h.begins.is) rest)
+    let rest = left_longer forms asked base (reverse frames) (path_name base h.path) text h.rest (λ on. record { more = (h.begins on).behind; is = (h.begins on).is }) h.left in
+    subst (AllLeft forms asked base frames text) (sym (h.is ∙ ap (λ l. l ++ h.rest) empty)) rest

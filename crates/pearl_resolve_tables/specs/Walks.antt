@@ -1,5 +1,7 @@
--- Walks over the leaves of a variable: the name is made longer on the way down and cut off on the way up.
-use Rattle.std.specs.Prelude.{◌≡◌, ℕ, ℤ, List, [], ◌∷◌, ◌++◌, length, reverse, Option, Some, None}
+-- Walks over the leaves of a variable: where names are asked for, the name is made longer on the way down and cut off on
+-- the way up.
+use Rattle.std.specs.Prelude.{◌≡◌, ℕ, ℤ, Bool, true, List, [], ◌∷◌, ◌++◌, length, reverse, Option, Some, None}
+use Rattle.pearl_names.specs.declared.types.Elements.{Elements}
 use Rattle.pearl_names.specs.declared.types.StructForm.{StructForm}
 use Rattle.pearl_names.specs.declared.types.TypeRef.{TypeRef}
 use Rattle.pearl_names.specs.declared.types.TypeRef.TheVariants.{Struct}
@@ -19,6 +21,12 @@ pub record HasLeaves (forms : List StructForm) (part : TypeRef) (count : ℕ) (p
   pub counted : count ≡ elements bounds
   pub is : leaves ≡ leaves_of path bounds shape
 
+-- so many elements of a type have these leaves too, behind the same names where names are asked for
+pub record ComesTo (forms : List StructForm) (asked : Bool) (end : Elements) (path : List (List ℕ)) (leaves : List Leaf) : Type 0 where
+  pub behind : List (List ℕ)
+  pub same : asked ≡ true → behind ≡ path
+  pub has : HasLeaves forms end.part end.count behind leaves
+
 -- these leaves are left of a STRUCT behind these names
 pub record HasLeft (forms : List StructForm) (frame : Frame) (path : List (List ℕ)) (leaves : List Leaf) : Type 0 where
   pub fields : Fields
@@ -34,24 +42,24 @@ pub record Begins (base : List ℕ) (bytes : ℕ) (path : List (List ℕ)) (text
   pub long : bytes ≡ length (path_name base path)
 
 -- these leaves of a variable are left of some STRUCTs, each within the next, where the name has come so far
-abbrev pub LeftWithin : List StructForm → (base : List ℕ) → List Frame → (text : List ℕ) → List Leaf → Type 0
-LeftWithin forms base [] text leaves = leaves ≡ []
-LeftWithin forms base (frame ∷ outer) text leaves =
-    (path : List (List ℕ)) × (own : List Leaf) × (rest : List Leaf) × Begins base frame.bytes path text × HasLeft forms frame path own ×
-    LeftWithin forms base outer (path_name base path) rest × (leaves ≡ own ++ rest)
+abbrev pub LeftWithin : List StructForm → (asked : Bool) → (base : List ℕ) → List Frame → (text : List ℕ) → List Leaf → Type 0
+LeftWithin forms asked base [] text leaves = leaves ≡ []
+LeftWithin forms asked base (frame ∷ outer) text leaves =
+    (path : List (List ℕ)) × (own : List Leaf) × (rest : List Leaf) × (asked ≡ true → Begins base frame.bytes path text) × HasLeft forms frame path own ×
+    LeftWithin forms asked base outer (path_name base path) rest × (leaves ≡ own ++ rest)
 
 -- the same, where the innermost STRUCT stands last
-abbrev pub AllLeft : List StructForm → (base : List ℕ) → List Frame → (text : List ℕ) → List Leaf → Type 0
-AllLeft forms base frames text leaves = LeftWithin forms base (reverse frames) text leaves
+abbrev pub AllLeft : List StructForm → (asked : Bool) → (base : List ℕ) → List Frame → (text : List ℕ) → List Leaf → Type 0
+AllLeft forms asked base frames text leaves = LeftWithin forms asked base (reverse frames) text leaves
 
 -- a walk has come to this leaf
-pub record IsFound (base : List ℕ) (found : Found) (text : List ℕ) (leaf : Leaf) : Type 0 where
-  pub name : text ≡ path_name base leaf.path
+pub record IsFound (asked : Bool) (base : List ℕ) (found : Found) (text : List ℕ) (leaf : Leaf) : Type 0 where
+  pub name : asked ≡ true → text ≡ path_name base leaf.path
   pub kind : found.kind ≡ leaf.kind
   pub count : found.count ≡ elements leaf.bounds
 
 -- it has come to the first of these leaves, and the others are left
-abbrev pub GoesOn : List StructForm → (base : List ℕ) → Option Found → List Frame → (text : List ℕ) → List Leaf → Type 0
-GoesOn forms base None frames text leaves = leaves ≡ []
-GoesOn forms base (Some found) frames text leaves =
-    (leaf : Leaf) × (rest : List Leaf) × IsFound base found text leaf × AllLeft forms base frames text rest × (leaves ≡ leaf ∷ rest)
+abbrev pub GoesOn : List StructForm → (asked : Bool) → (base : List ℕ) → Option Found → List Frame → (text : List ℕ) → List Leaf → Type 0
+GoesOn forms asked base None frames text leaves = leaves ≡ []
+GoesOn forms asked base (Some found) frames text leaves =
+    (leaf : Leaf) × (rest : List Leaf) × IsFound asked base found text leaf × AllLeft forms asked base frames text rest × (leaves ≡ leaf ∷ rest)

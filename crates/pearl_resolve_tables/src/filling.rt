@@ -29,23 +29,24 @@ pub(crate) struct Filling<'a> {
 }
 
 impl Filling<'_> {
-    /// Begins with the first leaf.
+    /// Begins with the first leaf. Names are made where they are asked for.
     pub fn start<'a>(
         alloc: Global,
         forms: &[StructForm],
         form: &Form,
+        asked: bool,
         name: &[u8],
         constants: &'a [Const],
     ) -> Result<Filling<'a>, AllocError>
         ensures constants { IfOk result (λ filling. filling.constants.now ≡ constants.now) }
         ensures slots { IfOk result (λ filling. filling.slots ≡ 0) }
         ensures goes { IfOk result (λ filling. (of : tables.Form) → HoldsForm forms.now (Some form.now) (Some of) →
-            GoesOn forms.now name.now filling.next filling.frames.items filling.name.items (leaves_of [] of.bounds of.shape)) }
+            GoesOn forms.now asked name.now filling.next filling.frames.items filling.name.items (leaves_of [] of.bounds of.shape)) }
     {
         let mut name = Vec::from_slice(alloc, name)?;
         let mut frames = Vec::new(alloc);
         let count = all_elements(form.bounds.as_slice())?;
-        let first = descend(forms, form.part, count, &mut name, &mut frames)?;
+        let first = descend(forms, asked, form.part, count, &mut name, &mut frames)?;
         Ok(Filling {
             name,
             frames,
@@ -56,15 +57,20 @@ impl Filling<'_> {
     }
 
     /// Goes past a leaf that the walk has come to.
-    pub fn pass(&mut self, forms: &[StructForm], found: Found) -> Result<(), AllocError>
+    pub fn pass(
+        &mut self,
+        forms: &[StructForm],
+        asked: bool,
+        found: Found,
+    ) -> Result<(), AllocError>
         ensures constants { OnOk result (map shown_const self.new.constants.now ≡ spec.left_behind found.count (map shown_const self.old.constants.now)) }
         ensures slots { OnOk result (self.new.slots ≡ self.old.slots + found.count) }
-        ensures goes { OnOk result ((base : List ℕ) (left : List Leaf) → AllLeft forms.now base self.old.frames.items self.old.name.items left →
-            GoesOn forms.now base self.new.next self.new.frames.items self.new.name.items left) }
+        ensures goes { OnOk result ((base : List ℕ) (left : List Leaf) → AllLeft forms.now asked base self.old.frames.items self.old.name.items left →
+            GoesOn forms.now asked base self.new.next self.new.frames.items self.new.name.items left) }
     {
         self.constants = left_behind(found.count, self.constants);
         self.slots = sum(self.slots, found.count)?;
-        self.next = go_on(forms, &mut self.name, &mut self.frames)?;
+        self.next = go_on(forms, asked, &mut self.name, &mut self.frames)?;
         Ok(())
     }
 }

@@ -82,7 +82,7 @@ fn add_form(
     ensures slots { IfOk result (λ count. (of : tables.Form) → HoldsForm forms.now (Some form.now) (Some of) →
         count ≡ spec.slots (leaves_of [] of.bounds of.shape)) }
 {
-    let mut filling = Filling::start(alloc, forms, form, name, constants)?;
+    let mut filling = Filling::start(alloc, forms, form, true, name, constants)?;
     for _leaf in 0..TOO_MANY {
         let found = match filling.next {
             Some(found) => found,
@@ -90,7 +90,7 @@ fn add_form(
         };
         let leaf = leaf_of(alloc, filling.name.as_slice(), found, filling.constants)?;
         into.push(leaf)?;
-        filling.pass(forms, found)?;
+        filling.pass(forms, true, found)?;
     }
     Err(AllocError)
 }
@@ -108,7 +108,7 @@ fn add_form_values(
     ensures slots { IfOk result (λ count. (of : tables.Form) → HoldsForm forms.now (Some form.now) (Some of) →
         count ≡ spec.slots (leaves_of [] of.bounds of.shape)) }
 {
-    let mut filling = Filling::start(alloc, forms, form, &[], constants)?;
+    let mut filling = Filling::start(alloc, forms, form, false, &[], constants)?;
     for _leaf in 0..TOO_MANY {
         let found = match filling.next {
             Some(found) => found,
@@ -116,7 +116,7 @@ fn add_form_values(
         };
         let values = first_values(alloc, found.kind, found.count, filling.constants)?;
         into.push(values)?;
-        filling.pass(forms, found)?;
+        filling.pass(forms, false, found)?;
     }
     Err(AllocError)
 }

@@ -1,15 +1,16 @@
-// The leaves of a variable one after the other, each with its name. TYPEs may be thousands deep, so what is left of each
-// STRUCT on the way stands in a list.
+// The leaves of a variable one after the other, each with its name where names are asked for. TYPEs may be thousands
+// deep, so what is left of each STRUCT on the way stands in a list; where no names are asked for, STRUCTs with one field
+// are gone past.
 
-ghost use Rattle.std.specs.Prelude.{◌≡◌, ◌+◌, ◌*◌, ◌++◌, ◌∷◌, [], ℕ, Some, List, take, IfOk, OnOk};
+ghost use Rattle.std.specs.Prelude.{◌≡◌, ◌+◌, ◌*◌, ◌++◌, ◌∷◌, [], ℕ, true, Some, List, take, IfOk, OnOk};
 ghost use Rattle.pearl_names.specs.Counts.{cut};
 ghost use Rattle.pearl_names.specs.Layout.{Leaf};
 ghost use Rattle.pearl_resolve_tables.specs.Laying.{path_name};
-ghost use Rattle.pearl_resolve_tables.specs.Walks.{AllLeft, GoesOn, HasLeaves};
+ghost use Rattle.pearl_resolve_tables.specs.Walks.{AllLeft, ComesTo, GoesOn, HasLeaves};
 
 use crate::counts::{product, whole};
 use arrayvec::ArrayVec;
-use pearl_names::types::{FieldForm, StructForm, TypeRef};
+use pearl_names::types::{Elements, FieldForm, StructForm, TypeRef, end_of};
 use pearl_value::kind::Kind;
 use std::alloc::AllocError;
 
@@ -50,6 +51,7 @@ fn past_field(frame: Frame) -> Result<Frame, AllocError>
 
 // Goes into the next field of a STRUCT, and answers how many elements that has.
 fn enter(
+    asked: bool,
     frame: Frame,
     key: &ArrayVec<u8, 63>,
     field: &FieldForm,
@@ -57,29 +59,57 @@ fn enter(
     frames: &mut Vec<Frame>,
 ) -> Result<u32, AllocError>
     ensures frames { OnOk result (frames.new.items ≡ frames.old.items ++ record frame { next = frame.next + 1 } ∷ []) }
-    ensures name { OnOk result (name.new.items ≡ take frame.bytes name.old.items ++ 46 ∷ key.now.items) }
+    ensures name { OnOk result (asked ≡ true → name.new.items ≡ take frame.bytes name.old.items ++ 46 ∷ key.now.items) }
     ensures count { IfOk result (λ count. (n : ℕ) → field.now.elements ≡ cut n → count ≡ frame.count * n) }
 {
-    extend_name(frame.bytes, key, name)?;
+    if asked {
+        extend_name(frame.bytes, key, name)?;
+    }
     frames.push(past_field(frame)?)?;
     let count = product(frame.count, whole(field.elements)?)?;
     Ok(count)
+}
+
+// What so many elements of a type come to. Where names are asked for, that is themselves.
+fn ended(
+    asked: bool,
+    forms: &[StructForm],
+    part: TypeRef,
+    count: u32,
+) -> Result<Elements, AllocError>
+    ensures { IfOk result (λ end. (path : List (List ℕ)) (leaves : List Leaf) → HasLeaves forms.now part count path leaves →
+        ComesTo forms.now asked end path leaves) }
+{
+    if asked {
+        return Ok(Elements { part, count });
+    }
+    let end = end_of(forms, part);
+    let each = whole(end.count)?;
+    let count = product(count, each)?;
+    Ok(Elements {
+        part: end.part,
+        count,
+    })
 }
 
 /// Goes down to the first leaf of so many elements of a type. A STRUCT without fields, which no source has, counts as
 /// want of memory.
 pub(crate) fn descend(
     forms: &[StructForm],
-    mut part: TypeRef,
-    mut count: u32,
+    asked: bool,
+    part: TypeRef,
+    count: u32,
     name: &mut Vec<u8>,
     frames: &mut Vec<Frame>,
 ) -> Result<Found, AllocError>
-    ensures { IfOk result (λ found. (base : List ℕ) (path : List (List ℕ)) (own left : List Leaf) → name.old.items ≡ path_name base path →
-        HasLeaves forms.now part count path own → AllLeft forms.now base frames.old.items name.old.items left →
-        GoesOn forms.now base (Some found) frames.new.items name.new.items (own ++ left)) }
+    ensures { IfOk result (λ found. (base : List ℕ) (path : List (List ℕ)) (own left : List Leaf) → (asked ≡ true → name.old.items ≡ path_name base path) →
+        HasLeaves forms.now part count path own → AllLeft forms.now asked base frames.old.items name.old.items left →
+        GoesOn forms.now asked base (Some found) frames.new.items name.new.items (own ++ left)) }
 {
     let mut earlier = forms;
+    let first = ended(asked, forms, part, count)?;
+    let mut part = first.part;
+    let mut count = first.count;
     loop {
         let number = match part {
             TypeRef::Basic(kind) => return Ok(Found { kind, count }),
@@ -100,19 +130,22 @@ pub(crate) fn descend(
             count,
             bytes: name.len(),
         };
-        count = enter(frame, key, field, name, frames)?;
-        part = field.part;
+        let inner = enter(asked, frame, key, field, name, frames)?;
+        let end = ended(asked, earlier, field.part, inner)?;
+        part = end.part;
+        count = end.count;
     }
 }
 
 /// Goes on to the next leaf, if there is one.
 pub(crate) fn go_on(
     forms: &[StructForm],
+    asked: bool,
     name: &mut Vec<u8>,
     frames: &mut Vec<Frame>,
 ) -> Result<Option<Found>, AllocError>
-    ensures { IfOk result (λ next. (base : List ℕ) (left : List Leaf) → AllLeft forms.now base frames.old.items name.old.items left →
-        GoesOn forms.now base next frames.new.items name.new.items left) }
+    ensures { IfOk result (λ next. (base : List ℕ) (left : List Leaf) → AllLeft forms.now asked base frames.old.items name.old.items left →
+        GoesOn forms.now asked base next frames.new.items name.new.items left) }
 {
     loop {
         let frame = match frames.pop() {
@@ -125,8 +158,8 @@ pub(crate) fn go_on(
         };
         match form.fields.get_index(frame.next) {
             Some((key, field)) => {
-                let count = enter(frame, key, field, name, frames)?;
-                let found = descend(forms, field.part, count, name, frames)?;
+                let count = enter(asked, frame, key, field, name, frames)?;
+                let found = descend(forms, asked, field.part, count, name, frames)?;
                 return Ok(Some(found));
             }
             None => {}

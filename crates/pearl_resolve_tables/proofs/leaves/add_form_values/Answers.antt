@@ -1,16 +1,16 @@
-use Rattle.std.proofs.Common.{◌++◌, ◌∷◌, [], map, ap, subst, ◌∙◌}
+use Rattle.std.proofs.Common.{false, ◌++◌, ◌∷◌, [], map, ap, subst, ◌∙◌}
 use Rattle.std.proofs.lemmas.List.{map-append}
 use Rattle.pearl_tree.specs.ShownLiterals.{shown_const}
 use Rattle.pearl_names.specs.Layout.{leaves_of}
 use Rattle.pearl_program.specs.PlainPrograms.{PlainLeaf}
 use Rattle.pearl_program.specs.PlainStatements.{plain_values}
-use Rattle.pearl_resolve_tables.proofs.Fills.{Fills, fills_first, fills_more}
+use Rattle.pearl_resolve_tables.proofs.Fills.{Fills, fills_first, fills_more, found_values}
 use Rattle.pearl_resolve_tables.proofs.leaves.add_form_values.Goals as goal
 
 pub loop-leaf-init : goal.loop-leaf-init
 loop-leaf-init c = λ of h.
     let begun = c.in_ok-filling.filling in
-    fills_first (λ (leaf : PlainLeaf). leaf.values) c.args.forms.now [] begun.next begun.frames.items begun.name.items (map plain_values c.args.into.now.items) _ _ begun.slots
+    fills_first (λ (leaf : PlainLeaf). leaf.values) c.args.forms.now false [] begun.next begun.frames.items begun.name.items (map plain_values c.args.into.now.items) _ _ begun.slots
     (leaves_of [] of.bounds of.shape) (ap (map shown_const) c.in_ok-filling.ensures.constants) c.in_ok-filling.ensures.slots (c.in_ok-filling.ensures.goes of h)
 
 pub loop-leaf-preserved : goal.loop-leaf-preserved
@@ -24,9 +24,9 @@ loop-leaf-preserved c = λ of h.
     let first = map shown_const c.args.constants.now in
     let made = map plain_values c.loop-leaf.into.items in
     let begun = map plain_values c.args.into.now.items in
-    fills_more (λ (leaf : PlainLeaf). leaf.values) forms [] found after.next before.frames.items after.frames.items before.name.items after.name.items made (map plain_values c.push.new.self.items) begun constants
+    fills_more (λ (leaf : PlainLeaf). leaf.values) forms false [] found after.next before.frames.items after.frames.items before.name.items after.name.items made (map plain_values c.push.new.self.items) begun constants
     (map shown_const after.constants.now) first before.slots after.slots all
-    (subst (λ n. Fills (λ (leaf : PlainLeaf). leaf.values) forms [] n before.frames.items before.name.items made begun constants first before.slots all) c.in-Some.is (c.loop-leaf.invariant of h))
+    (subst (λ n. Fills (λ (leaf : PlainLeaf). leaf.values) forms false [] n before.frames.items before.name.items made begun constants first before.slots all) c.in-Some.is (c.loop-leaf.invariant of h))
     (ap (map plain_values) c.in_ok-push.ensures.items ∙ map-append plain_values c.loop-leaf.into.items (c.in_ok-values.values ∷ [])
     ∙ ap (λ x. made ++ x ∷ []) c.in_ok-values.ensures)
-    c.in_ok-pass.ensures.constants c.in_ok-pass.ensures.slots (c.in_ok-pass.ensures.goes [])
+    c.in_ok-pass.ensures.constants c.in_ok-pass.ensures.slots (c.in_ok-pass.ensures.goes []) (λ leaf is. found_values false [] found before.name.items leaf constants is)
