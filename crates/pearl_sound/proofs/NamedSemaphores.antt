@@ -23,8 +23,8 @@ use Rattle.pearl_tree.specs.ShownModules.{shown_body, shown_decl, shown_tree}
 use Rattle.pearl_names.specs.Scopes.{as_stmts, scopes_in, scopes_in_all, scopes_in_branches, scopes_in_decl}
 use Rattle.pearl_scope.specs.declared.places.Spot.{Spot}
 use Rattle.pearl_scope.specs.Placed.{Placed, placed_stmt, placed_all, placed_branches, placed_otherwise, placed_body}
-use Rattle.pearl_check.specs.Routines.{Routine, decl_routines, decls_routines, routines_of, statements_of}
-use Rattle.pearl_sound.specs.KnownParts.{NamesSome}
+use Rattle.pearl_check.specs.Routines.{Routine, decl_routines, decls_routines, statements_of}
+use Rattle.pearl_sound.specs.KnownParts.{NamesSome, NamesSemaphores}
 use Rattle.pearl_sound.proofs.SoundForms.{all_append}
 
 abbrev IsNamed : Placed → Type 0
@@ -122,8 +122,6 @@ module _ (tokens : List Token) where
       all_append HasNamed (decl_routines next (shown_decl part)) (decls_routines past (map shown_decl rest))
       (decl_named from next part h.0 h.1) (decls_named h.0 past rest to h.2)
 
-pub semaphores_named : (tree : Tree) (tokens : List Token) → Spells tree tokens →
-    AllByRecursion (λ (routine : Routine). AllByRecursion (λ (place : Placed). NamesSome place.statement) (statements_of routine))
-    (routines_of (shown_tree tree))
+pub semaphores_named : (tree : Tree) (tokens : List Token) → Spells tree tokens → NamesSemaphores (shown_tree tree)
 semaphores_named tree tokens spells =
     let h = spells.spells in decls_named tokens (h.1 + 2) 1 tree.declarations.items.items h.2 h.10

@@ -8,6 +8,8 @@ pub use Rattle.pearl_sound.proofs.SimpleStatements.{left_none}
 pub use Rattle.pearl_sound.proofs.RuleNumbers.{numbers_given}
 -- the tasks and procedures of a module that breaks no static rule are sound in its program
 pub use Rattle.pearl_sound.proofs.SoundRoutines.{routines_sound}
+-- in a tree that spells tokens each REQUEST and RELEASE names a semaphore
+pub use Rattle.pearl_sound.proofs.NamedSemaphores.{semaphores_named}
 -- two values that are there and are the same
 pub use Rattle.pearl_sound.proofs.SoundParts.{some_one}
 -- the second of two lists of faults that have none, a test that isn't broken, and what holds of all of two lists

@@ -8,10 +8,8 @@ use Rattle.pearl_value.specs.declared.kind.Kind.{Kind}
 use Rattle.pearl_value.specs.Kinds.{IsKind}
 use Rattle.pearl_tree.proofs.Offered.{ids_are_names}
 use Rattle.pearl_tree.specs.declared.typing.Basic.{Basic}
-use Rattle.pearl_tree.specs.declared.token.Token.{Token}
 use Rattle.pearl_tree.specs.declared.tree.Tree.{Tree}
 use Rattle.pearl_tree.specs.Lawful.{IsLawful}
-use Rattle.pearl_tree.specs.Modules.{Spells}
 use Rattle.pearl_tree.specs.Names.{name_text}
 use Rattle.pearl_tree.specs.ShownDeclarations.{ShownParam}
 use Rattle.pearl_tree.specs.ShownModules.{ShownBody, ShownDecl, OfTask, OfProc, ShownTree, shown_tree}
@@ -38,7 +36,7 @@ use Rattle.pearl_resolve.specs.Numbers as numbering
 use Rattle.pearl_resolve.specs.Expressions.{Numbered}
 use Rattle.pearl_resolve.specs.Statements.{declared_renewals, resolve_all}
 use Rattle.pearl_resolve.specs.Resolve.{formats_in_all, decl_formats, resolve_routine, names_in_param, result_kind, decl_tasks, tasks_in, decl_procedures, procedures_in, if_there, by_number, numbered_of, resolve}
-use Rattle.pearl_sound.specs.KnownParts.{Returns}
+use Rattle.pearl_sound.specs.KnownParts.{NamesSemaphores, Returns}
 use Rattle.pearl_sound.specs.ModuleNames.{AreProcedureNumbers}
 use Rattle.pearl_sound.specs.Ready.{AreRightFirst, AllStand, RoutineRenewsRight}
 use Rattle.pearl_sound.specs.Sights.{Sight, routine_sights, decl_sights, decls_sights}
@@ -52,7 +50,6 @@ use Rattle.pearl_sound.proofs.KeptStatements.{statements_kept}
 use Rattle.pearl_sound.proofs.LawfulLiterals.{statements_literals}
 use Rattle.pearl_sound.proofs.Literals.{all_set}
 use Rattle.pearl_sound.proofs.ModuleRules.{unbroken_lead}
-use Rattle.pearl_sound.proofs.NamedSemaphores.{semaphores_named}
 use Rattle.pearl_sound.proofs.OwnRenewals.{scope_renewed}
 use Rattle.pearl_sound.proofs.PlainCells.{or_fixed, routine_sound_cells}
 use Rattle.pearl_sound.proofs.ScopesThere.{head_there, left_lies, right_lies, decl_next, decl_rows, decls_lie}
@@ -264,7 +261,7 @@ module _ (tree : ShownTree) (devices : List SpecifiedDevice) (procedures : List 
       (record { before = []; behind = []; is = sym (append-nil program.formats); begins = refl }) sighted well in
       (by_number_all (IsProcedure program) procedures (procedures_in numbered first tree.declarations) (length procedures) 0 both.1, both.0)
 
-pub routines_sound : (tree : Tree) (tokens : List Token) → Spells tree tokens → IsLawful tree → all_broken (shown_tree tree) ≡ [] →
+pub routines_sound : (tree : Tree) → NamesSemaphores (shown_tree tree) → IsLawful tree → all_broken (shown_tree tree) ≡ [] →
     (devices : List SpecifiedDevice) (procedures : List ℕ) → Lists device_key (IsDevice (shown_tree tree)) devices →
     AreProcedureNumbers (shown_tree tree) devices procedures →
     AllByRecursion (RoutineRenewsRight (numbered_of (table_of (shown_tree tree)) devices procedures (shown_tree tree))) (routines_of (shown_tree tree)) →
@@ -272,10 +269,9 @@ pub routines_sound : (tree : Tree) (tokens : List Token) → Spells tree tokens 
     (resolve (table_of (shown_tree tree)) devices procedures (shown_tree tree)).procedures ×
     AllByRecursion (IsTask (resolve (table_of (shown_tree tree)) devices procedures (shown_tree tree)))
     (resolve (table_of (shown_tree tree)) devices procedures (shown_tree tree)).tasks
-routines_sound tree tokens spells lawful none devices procedures lists numbers renews =
+routines_sound tree named lawful none devices procedures lists numbers renews =
     let shown = shown_tree tree in
     let others = devices_rules.broken shown ++ (statements_broken (table_of shown) shown ++ whole_broken shown) in
     all_sound_routines shown devices procedures (unbroken_lead shown devices procedures none lists numbers)
     (routines_well (numbered_of (table_of shown) devices procedures shown) (routines_of shown) (statements_kept shown none) (statements_literals tree lawful)
-    (semaphores_named tree tokens spells) renews (all_results shown (left_none (names.broken shown) others none)) (all_urgent shown none)
-    (all_named tree lawful))
+    named renews (all_results shown (left_none (names.broken shown) others none)) (all_urgent shown none) (all_named tree lawful))

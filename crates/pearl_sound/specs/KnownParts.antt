@@ -1,18 +1,21 @@
 -- When what a statement asks for is known: each subject has a kind, and each name a sense. When its names are. And which
 -- statements are asked.
 use Rattle.std.specs.Prelude.{◌≡◌, ℕ, ◌<◌, true, List, length, Option, Some, None}
+use Rattle.std.specs.List.{AllByRecursion}
 use Rattle.pearl_value.specs.declared.kind.Kind.{Kind}
 use Rattle.pearl_tree.specs.declared.typing.Basic.{Basic}
 use Rattle.pearl_tree.specs.ShownStatements.{ShownStmt, OfIf, OfCase, OfRepeat, OfBegin, OfOnSemas, OfPut, OfGet}
+use Rattle.pearl_tree.specs.ShownModules.{ShownTree}
 use Rattle.pearl_names.specs.declared.length.DefaultLength.{DefaultLength}
 use Rattle.pearl_names.specs.declared.scope.View.TheVariants.{Within, WhileOf}
 use Rattle.pearl_names.specs.Lengths.{kind_of_basic}
 use Rattle.pearl_names.specs.Tables.{Sense, BasicDation, Table}
+use Rattle.pearl_scope.specs.Placed.{Placed}
 use Rattle.pearl_check_expr.specs.Judged.{called}
 use Rattle.pearl_check_expr.specs.Senses.{Callee, callee_of}
 use Rattle.pearl_check_expr.specs.Subjects.{ShownSubject, OfValue, OfWhile, OfTarget, OfCallStatement}
 use Rattle.pearl_check.specs.Asked.{Asked, Subject, Named}
-use Rattle.pearl_check.specs.Routines.{RoutineSort, Task, Procedure}
+use Rattle.pearl_check.specs.Routines.{RoutineSort, Task, Procedure, Routine, routines_of, statements_of}
 use Rattle.pearl_check.specs.Views.{seen, subject_kind}
 use Rattle.pearl_resolve.specs.Resolve.{result_kind}
 use Rattle.pearl_sound.specs.SoundNames.{HasLiterals, SelectorsHaveLiterals, HaveLiterals}
@@ -71,6 +74,11 @@ IsSimple statement = Unit {0}
 abbrev pub NamesSome : ShownStmt → Type 0
 NamesSome (OfOnSemas word names place) = 0 < length names
 NamesSome statement = Unit {0}
+
+-- each REQUEST and RELEASE of a module names a semaphore
+abbrev pub NamesSemaphores : ShownTree → Type 0
+NamesSemaphores tree =
+    AllByRecursion (λ (routine : Routine). AllByRecursion (λ (place : Placed). NamesSome place.statement) (statements_of routine)) (routines_of tree)
 
 abbrev pub HasResult : List DefaultLength → Option Basic → Type 0
 HasResult lengths None = Unit {0}

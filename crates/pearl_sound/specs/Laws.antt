@@ -60,7 +60,7 @@ use Rattle.pearl_resolve.specs.Expressions.{Numbered, number_of, resolve_expr, r
 use Rattle.pearl_sound.specs.SoundNames.{IsLiteral, HasLiterals, HaveLiterals, SelectorsHaveLiterals, is_control, IsCallee, LeadValues, LeadNames, HasSemaphoresApart}
 use Rattle.pearl_sound.specs.ModuleNames.{IsModuleName, HasNamesOnce, AreProcedureNumbers, DevicesAreThere}
 use Rattle.pearl_sound.specs.KnownNames.{IsThereIn, IsComplete, IsNamed, HasNames, SelectorsHaveNames}
-use Rattle.pearl_sound.specs.KnownParts.{IsKnown, HasItsNames, AskedLiterals, IsSimple, NamesSome, Returns}
+use Rattle.pearl_sound.specs.KnownParts.{IsKnown, HasItsNames, AskedLiterals, IsSimple, NamesSemaphores, Returns}
 use Rattle.pearl_resolve.specs.Statements.{resolve_stmt, resolve_all}
 use Rattle.pearl_sound.specs.Ready.{AllStand, RoutineRenewsRight}
 use Rattle.pearl_sound.specs.Sights.{Sight, sights_of}
@@ -389,14 +389,13 @@ StatementsHaveLiterals = (tree : Tree) → IsLawful tree →
 
 -- in a tree that spells tokens each REQUEST and RELEASE names a semaphore
 abbrev pub SemaphoresAreNamed : Type 0
-SemaphoresAreNamed = (tree : Tree) (tokens : List Token) → Spells tree tokens →
-    AllByRecursion (λ (routine : Routine). AllByRecursion (λ (place : Placed). NamesSome place.statement) (statements_of routine))
-    (routines_of (shown_tree tree))
+SemaphoresAreNamed = (tree : Tree) (tokens : List Token) → Spells tree tokens → NamesSemaphores (shown_tree tree)
 
--- the procedures and tasks of a module that breaks no static rule are sound in its program, where procedures have numbers of
--- their own below their count, and what goes into variables of tasks and procedures as first values suits them
+-- the procedures and tasks of a module that breaks no static rule are sound in its program, where each REQUEST and RELEASE names
+-- a semaphore, procedures have numbers of their own below their count, and what goes into variables of tasks and procedures as
+-- first values suits them
 abbrev pub RoutinesAreSound : Type 0
-RoutinesAreSound = (tree : Tree) (tokens : List Token) → Spells tree tokens → IsLawful tree → all_broken (shown_tree tree) ≡ [] →
+RoutinesAreSound = (tree : Tree) → NamesSemaphores (shown_tree tree) → IsLawful tree → all_broken (shown_tree tree) ≡ [] →
     (devices : List SpecifiedDevice) (procedures : List ℕ) → Lists device_key (IsDevice (shown_tree tree)) devices →
     AreProcedureNumbers (shown_tree tree) devices procedures →
     AllByRecursion (RoutineRenewsRight (numbered_of (table_of (shown_tree tree)) devices procedures (shown_tree tree)))

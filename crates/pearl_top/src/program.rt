@@ -1,13 +1,12 @@
 // The program of a module that breaks no rule.
 
-ghost use Rattle.std.specs.Prelude.{◌≡◌, List, [], IfOk, IfErr};
+ghost use Rattle.std.specs.Prelude.{◌≡◌, [], IfOk, IfErr};
 ghost use Rattle.pearl_calls.specs.Numbers.{AreNumbers};
 ghost use Rattle.pearl_check.specs.Checks.{IsRefused};
 ghost use Rattle.pearl_check.specs.Rules.{all_broken};
 ghost use Rattle.pearl_program.specs.PlainPrograms.{plain_prog};
-ghost use Rattle.pearl_tree.specs.declared.token.Token.{Token};
+ghost use Rattle.pearl_sound.specs.KnownParts.{NamesSemaphores};
 ghost use Rattle.pearl_tree.specs.Lawful.{IsLawful};
-ghost use Rattle.pearl_tree.specs.Modules.{Spells};
 ghost use Rattle.pearl_tree.specs.ShownModules.{shown_tree};
 ghost use Rattle.pearl_top.specs.Programs.{IsProgramOf};
 
@@ -21,7 +20,7 @@ use std::alloc::{AllocError, Global};
 
 /// The program that a module means, or the first rule that it breaks.
 pub fn program_of(alloc: Global, tree: &Tree) -> Result<Prog, CheckFault>
-    requires spelled { (tokens : List Token) × Spells tree.now tokens }
+    requires named { NamesSemaphores (shown_tree tree.now) }
     requires lawful { IsLawful tree.now }
     ensures accepted { IfOk result (λ program. all_broken (shown_tree tree.now) ≡ []) }
     ensures program { IfOk result (λ program. IsProgramOf (shown_tree tree.now) (plain_prog program)) }

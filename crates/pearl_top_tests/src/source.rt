@@ -1,9 +1,9 @@
 // The object of a source.
 
-ghost use Rattle.std.specs.Prelude.{List, IfOk, IfSome};
-ghost use Rattle.pearl_tree.specs.declared.token.Token.{Token};
+ghost use Rattle.std.specs.Prelude.{IfOk, IfSome};
+ghost use Rattle.pearl_sound.specs.KnownParts.{NamesSemaphores};
 ghost use Rattle.pearl_tree.specs.Lawful.{IsLawful};
-ghost use Rattle.pearl_tree.specs.Modules.{Spells};
+ghost use Rattle.pearl_tree.specs.ShownModules.{shown_tree};
 
 use pearl_check::fault::CheckFault;
 use pearl_generate::generate;
@@ -27,7 +27,7 @@ pub enum Made {
 }
 
 fn tree_of(alloc: Global, source: &[u8]) -> Result<Option<Tree>, AllocError>
-    ensures spelled { IfOk result (λ read. IfSome read (λ tree. (tokens : List Token) × Spells tree tokens)) }
+    ensures named { IfOk result (λ read. IfSome read (λ tree. NamesSemaphores (shown_tree tree))) }
     ensures lawful { IfOk result (λ read. IfSome read (λ tree. IsLawful tree)) }
 {
     if source.len() > 1_048_576 {

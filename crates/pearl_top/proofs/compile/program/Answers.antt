@@ -4,9 +4,6 @@ use Rattle.pearl_top.specs.CheckDue.{IsUnaccepted}
 use Rattle.pearl_top.proofs.SourceEnds.{broken, unspelled}
 use Rattle.pearl_top.proofs.compile.program.Goals as goal
 
-pub program_of-requires-clause-spelled : goal.program_of-requires-clause-spelled
-program_of-requires-clause-spelled c = (c.in_ok-tree.ensures.tree.tokens, c.in_ok-tree.ensures.tree.spells)
-
 pub returns-in_err-tree-clause-err : goal.returns-in_err-tree-clause-err
 returns-in_err-tree-clause-err c =
     let source = c.args.source.now in

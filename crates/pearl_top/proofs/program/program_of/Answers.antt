@@ -24,8 +24,8 @@ new-requires c =
       are = c.in_ok-procedures.ensures;
     } in
     subst IsSound (sym is)
-    (program_sound c.args.tree.now c.requires.spelled.0 c.requires.spelled.1 c.requires.lawful c.in_ok-accepted.ensures.accepted
-    devices numbers c.in_ok-accepted.ensures.devices rule)
+    (program_sound c.args.tree.now c.requires.named c.requires.lawful c.in_ok-accepted.ensures.accepted devices numbers
+    c.in_ok-accepted.ensures.devices rule)
 
 pub returns-clause-program : goal.returns-clause-program
 returns-clause-program c =

@@ -3,6 +3,7 @@ use Rattle.std.proofs.lemmas.Result.{err_from_is_err_and}
 use Rattle.pearl_lex.specs.Lexes.{Lexes}
 use Rattle.pearl_tree.specs.Modules.{Spells}
 use Rattle.pearl_tree.specs.Tokens.{AreLawful}
+use Rattle.pearl_sound.proofs.Offered.{semaphores_named}
 use Rattle.pearl_top.proofs.SourceEnds.{stopped}
 use Rattle.pearl_top.proofs.source.tree_of.Goals as goal
 
@@ -23,3 +24,6 @@ returns-clause-tree c = record {
 
 pub returns-clause-lawful : goal.returns-clause-lawful
 returns-clause-lawful c = c.in_ok-tree.ensures.lawful (subst AreLawful (sym c.as_slice.ensures.value) c.in_ok-tokens.ensures.lawful)
+
+pub returns-clause-named : goal.returns-clause-named
+returns-clause-named c = semaphores_named c.in_ok-tree.tree c.as_slice.result.now c.in_ok-tree.ensures.spells
