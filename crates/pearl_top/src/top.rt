@@ -37,9 +37,9 @@ use std::alloc::Global;
 /// writes what is due to the sink. Tests hold that each line is one piece, and that a printed text, an object and a listing
 /// are one piece each.
 ///
-/// Memory may run out only before anything is written: while a source or an object is read, while the text, the object, the
-/// listing or the machine is made of it, and while the workload runs. Then the line `error memory` alone is due. What is
-/// due otherwise, and with which status, is `Due`.
+/// Memory may run out only before anything is written: while a source or an object is read or checked, while the text, the
+/// object, the listing or the machine is made of it, and while the workload runs. Then the line `error memory` alone is
+/// due. What is due otherwise, and with which status, is `Due`.
 pub fn pearl<S: Shelf, K: Sink>(
     alloc: Global,
     words: &[String],
