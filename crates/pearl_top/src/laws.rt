@@ -13,7 +13,8 @@ pub fn bodies_renew_right()
     ensures { BodiesRenewRight }
 {}
 
-/// The program of a lawful module that breaks no static rule is sound.
+/// The program of a lawful module that breaks no static rule, and whose REQUESTs and RELEASEs each name a semaphore, is
+/// sound. A tree that was read has such ones alone.
 pub fn programs_are_sound()
     ensures { ProgramsAreSound }
 {}
