@@ -2,7 +2,7 @@
 
 use crate::snapshots::PLANT;
 use pearl_snap::core_rules::{has_numbers, has_parts, has_plans};
-use pearl_snap::laws::slots_and_inputs_hold_values;
+use pearl_snap::laws::states_hold_values;
 use pearl_snap::reference_rule::references_lead;
 use pearl_snap::snapshot::read;
 use std::alloc::{AllocError as NoMemory, Global};
@@ -12,7 +12,7 @@ fn kept(alloc: Global, bytes: &[u8]) -> Result<Option<[bool; 4]>, NoMemory> {
     if bytes.len() > 1000 {
         return Ok(None);
     }
-    slots_and_inputs_hold_values();
+    states_hold_values();
     match read(alloc, bytes) {
         Ok(snapshot) => {
             let object = snapshot.object.parts();

@@ -10,3 +10,4 @@ mod Zips
 mod Values
 mod References
 mod Climbing
+mod Asking

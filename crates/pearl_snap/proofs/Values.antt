@@ -1,5 +1,5 @@
--- What a state that fits its spelling holds in its slots and inputs is values.
-use Rattle.std.proofs.Common.{◌≡◌, ℕ, ◌≤◌, ◌<◌, ◌-◌, ◌^◌, Bool, true, false, List, [], ◌∷◌, length, None, ℤ, ◌≤ℤ◌, T, refl, sym, subst, arith}
+-- What a state that fits its spelling holds in its slots, its inputs and its frames is values.
+use Rattle.std.proofs.Common.{◌≡◌, ℕ, ◌≤◌, ◌<◌, ◌-◌, ◌^◌, Bool, true, false, List, [], ◌∷◌, ◌++◌, length, None, ℤ, ◌≤ℤ◌, T, refl, sym, ap, subst, arith}
 use Rattle.std.specs.Prelude.{◌&&◌, nat_le, int_le}
 use Rattle.std.proofs.lemmas.Bool.{leb-true}
 use Rattle.std.proofs.lemmas.Nat.{pow_pos}
@@ -11,14 +11,23 @@ use Rattle.pearl_value.specs.declared.cell.Cell.{Cell}
 use Rattle.pearl_value.specs.declared.cell.Cell.TheVariants as cells
 use Rattle.pearl_value.specs.Kinds.{IsKind}
 use Rattle.pearl_value.specs.WellFormed.{IsLetter, IsValue}
-use Rattle.pearl_fields.specs.Codec.{Codec, byte_in, within, within_signed, rolled_fit}
+use Rattle.pearl_fields.specs.Codec.{Codec, byte_in, within, within_signed, rolled_fit, arm_at}
 use Rattle.pearl_object.specs.Kinds.{kind}
 use Rattle.pearl_object.specs.Literals.{literal, value_of}
 use Rattle.pearl_snap.specs.declared.states.Free.{Free}
+use Rattle.pearl_snap.specs.declared.states.CellRoom.{CellRoom}
+use Rattle.pearl_snap.specs.declared.states.SavedTask.{SavedTask}
+use Rattle.pearl_snap.specs.declared.record.Standing.{Standing}
+use Rattle.pearl_snap.specs.declared.record.Standing.TheVariants.{Dormant, Active}
+use Rattle.pearl_snap.specs.declared.saved.SavedCell.{SavedCell}
+use Rattle.pearl_snap.specs.declared.saved.SavedCell.TheVariants.{Value, Variable, Array}
+use Rattle.pearl_snap.specs.declared.saved.FrameRecord.{FrameRecord}
 use Rattle.pearl_snap.specs.declared.saved.Saved.{Saved}
 use Rattle.pearl_snap.specs.Lists.{free, each_in}
-use Rattle.pearl_snap.specs.States.{saved}
-use Rattle.pearl_snap.specs.Rules.{HoldsValues}
+use Rattle.pearl_snap.specs.Cells.{cell}
+use Rattle.pearl_snap.specs.Tasks.{frame, after_frame, all_cells, standing_tag, task_arms, acting, task}
+use Rattle.pearl_snap.specs.States.{stacks_of, tasks_of, saved}
+use Rattle.pearl_snap.specs.Rules.{HoldsValues, IsHeld, HoldsHeld, FramesHold}
 
 both_true : (a b : Bool) → (a && b) ≡ true → (a ≡ true) × (b ≡ true)
 both_true true b h = (refl, h)
@@ -73,3 +82,45 @@ values_held s h = record {
   slots = list_is (literal None) IsValue literal_is 0 65536 s.core.slots h.0.1.1.1.0;
   inputs = list_is (each_in 0 256 (literal None)) (AllByRecursion IsValue) (list_is (literal None) IsValue literal_is 0 256) 0 99 s.core.inputs h.0.1.1.1.1.1.1.1.0;
 }
+
+-- ---- frames
+
+held_is : (x : SavedCell) → cell.fits x → IsHeld x
+unfolding cell
+held_is (Value x) h = literal_is x h.1.0
+held_is (Variable reference) h = tt
+held_is (Array array) h = tt
+
+both_are : {X : Type 0} (P : X → Type 0) (xs ys : List X) → AllByRecursion P xs → AllByRecursion P ys → AllByRecursion P (xs ++ ys)
+both_are P [] ys h k = k
+both_are P (x ∷ xs) ys h k = (h.0, both_are P xs ys h.1 k)
+
+frame_is : (room : CellRoom) (f : FrameRecord) → (frame room).fits f → HoldsHeld f
+unfolding frame
+frame_is room f h =
+    both_are IsHeld f.cells f.operands (list_is cell IsHeld held_is _ _ f.cells h.0.1.1.0) (list_is cell IsHeld held_is _ _ f.operands h.0.1.1.1)
+
+frames_are : (room : CellRoom) (fs : List FrameRecord) → rolled_fit frame after_frame room fs → AllByRecursion HoldsHeld fs
+frames_are room [] h = tt
+frames_are room (f ∷ fs) h = (frame_is room f h.0, frames_are (after_frame room f) fs h.1)
+
+stack_is : (t : SavedTask) (s : Standing) → (arm_at task_arms (standing_tag s)).fits t → AllByRecursion HoldsHeld t.frames
+unfolding acting
+stack_is t Dormant h = subst (λ u. AllByRecursion HoldsHeld u.frames) h.1 tt
+stack_is t (Active priority false kept) h = frames_are all_cells t.frames h.0.1.1.1.1.0.1.1
+stack_is t (Active priority true kept) h = frames_are all_cells t.frames h.0.1.1.1.1.0.1.1
+
+task_is : (t : SavedTask) → task.fits t → AllByRecursion HoldsHeld t.frames
+unfolding task
+task_is t h = stack_is t t.row.standing h.1
+
+stacks_are : (tasks : List SavedTask) → AllByRecursion (λ t. AllByRecursion HoldsHeld t.frames) tasks → FramesHold (stacks_of tasks)
+stacks_are [] h = tt
+stacks_are (t ∷ tasks) h = (h.0, stacks_are tasks h.1)
+
+pub frames_held : (s : Saved) → saved.fits s → FramesHold s.stacks
+unfolding saved
+frames_held s h =
+    let tasks = tasks_of s.core.tasks s.stacks in
+    subst FramesHold (ap (λ t. t.stacks) h.1)
+    (stacks_are tasks (list_is task (λ t. AllByRecursion HoldsHeld t.frames) task_is 0 200 tasks h.0.1.1.1.1.1.1.1.1))

@@ -14,3 +14,7 @@ pub mod Snapshots
 pub mod Rules
 -- what references lead to, where a state keeps N2 and N5
 pub mod Leads
+-- what the frames of a state ask of the shapes before their places
+pub mod Asking
+-- the rules by their numbers
+pub mod Numbers

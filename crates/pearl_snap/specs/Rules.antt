@@ -142,11 +142,18 @@ abbrev pub IsHeld : SavedCell → Type 0
 IsHeld (Value x) = IsValue x
 IsHeld reference = Unit {0}
 
+abbrev pub HoldsHeld : FrameRecord → Type 0
+HoldsHeld f = AllByRecursion IsHeld (f.cells ++ f.operands)
+
+-- what frames hold is held well, as it is where a state fits its spelling
+abbrev pub FramesHold : List (List FrameRecord) → Type 0
+FramesHold stacks = AllByRecursion (AllByRecursion HoldsHeld) stacks
+
 -- a frame of some code, whose operands, the top one first, have these kinds
 pub record Stands (code : Code) (shape : List CellKind) (f : FrameRecord) : Type 0 where
   pub cells : AreOf code.cells f.cells
   pub operands : AreOf shape (reverse f.operands)
-  pub values : AllByRecursion IsHeld (f.cells ++ f.operands)
+  pub values : HoldsHeld f
 
 -- the top frame is at an instruction, with the operands before it
 pub record IsAtPlace (o : Object) (f : FrameRecord) : Type 0 where

@@ -282,7 +282,8 @@ fn waits_for(object: &Parts, when: Option<u64>) -> bool
     }
 }
 
-fn is_plan(object: &Parts, plan: PlanRecord) -> bool
+/// Whether a plan is lawful.
+pub fn is_plan(object: &Parts, plan: PlanRecord) -> bool
     ensures { IsTrue result ↔ IsPlan object.now plan }
 {
     waits_for(object, plan.when)

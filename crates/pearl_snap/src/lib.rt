@@ -13,5 +13,7 @@ pub mod record;
 pub mod reference_rule;
 pub mod saved;
 pub mod snapshot;
+pub mod stack_rule;
 pub mod state;
+pub mod state_rule;
 pub mod states;

@@ -92,8 +92,9 @@ fn series_at(reader: &mut Reader, tag: u8) -> Result<Option<SeriesRecord>, ReadF
     }
 }
 
+/// Appends the series of a plan, if it has one.
 #[tactic(auto, unfolding(crate::specs::Plans::series, crate::specs::Plans::maybe_series))]
-fn put_maybe_series(out: &mut Vec<u8>, value: Option<SeriesRecord>) -> Result<(), AllocError>
+pub fn put_maybe_series(out: &mut Vec<u8>, value: Option<SeriesRecord>) -> Result<(), AllocError>
     ensures { OnOk result (out.new.items ≡ out.old.items ++ maybe_series.bytes value) }
 {
     match value {

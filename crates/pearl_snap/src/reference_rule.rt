@@ -58,8 +58,8 @@ fn all_lead(slots: &[Cell], frames: &[FrameRecord], cells: &[SavedCell]) -> bool
     true
 }
 
-// Whether the references of a stack lead to values of their kinds, the lowest frame standing first.
-fn stack_leads(slots: &[Cell], frames: &[FrameRecord]) -> bool
+/// Whether the references of a stack lead to values of their kinds, the lowest frame standing first.
+pub fn stack_leads(slots: &[Cell], frames: &[FrameRecord]) -> bool
     ensures { IsTrue result ↔ AllLead slots.now [] frames.now }
 {
     for at in 0..frames.len() {

@@ -90,8 +90,8 @@ pub fn read_saved(reader: &mut Reader, alloc: Global) -> Result<Saved, ReadFault
     })
 }
 
-// What the module's variables, semaphores and devices hold.
-fn put_held(out: &mut Vec<u8>, core: &CoreRecord) -> Result<(), AllocError>
+/// Appends what the module's variables, semaphores and devices hold.
+pub fn put_held(out: &mut Vec<u8>, core: &CoreRecord) -> Result<(), AllocError>
     ensures { OnOk result (out.new.items ≡ out.old.items ++ (slots.bytes core.now.slots ++ (counts.bytes core.now.counts ++ (switches.bytes core.now.switches ++ (terminals.bytes core.now.terminals ++ inputs.bytes core.now.inputs))))) }
 {
     put_list::<Free, Cell>(core.slots.as_slice(), out)?;
