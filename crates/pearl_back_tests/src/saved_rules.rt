@@ -1,90 +1,304 @@
-// Which rules states keep that were read: the plant's, and those with one byte of its snapshot changed.
+// The least rule that states break which were read: the plant's, and those with parts of its snapshot changed.
 
 use crate::snapshots::PLANT;
-use pearl_snap::core_rules::{has_numbers, has_parts, has_plans};
 use pearl_snap::laws::states_hold_values;
-use pearl_snap::reference_rule::references_lead;
 use pearl_snap::snapshot::read;
+use pearl_snap::state_rule::{StateRule, least_broken};
+use pearl_verify::verify::verify;
 use std::alloc::{AllocError as NoMemory, Global};
+use std::process::Abort;
 
-// Whether the state keeps N2, N3, N4 and N6; none where the bytes, which are few, are no snapshot's.
-fn kept(alloc: Global, bytes: &[u8]) -> Result<Option<[bool; 4]>, NoMemory> {
+#[derive(Clone, Copy, PartialEq, Eq, Debug)]
+enum Verdict {
+    /// The bytes, which are few, are no snapshot's, or their object isn't valid.
+    NoState,
+    Lawful,
+    Breaks(StateRule),
+}
+
+fn judged(alloc: Global, bytes: &[u8]) -> Result<Verdict, NoMemory> {
     if bytes.len() > 1000 {
-        return Ok(None);
+        return Ok(Verdict::NoState);
     }
     states_hold_values();
-    match read(alloc, bytes) {
-        Ok(snapshot) => {
-            let object = snapshot.object.parts();
-            let saved = &snapshot.saved;
-            Ok(Some([
-                has_parts(object, &saved.core),
-                has_numbers(object, &saved.core),
-                has_plans(object, &saved.core),
-                references_lead(saved),
-            ]))
+    let Ok(snapshot) = read(alloc, bytes) else {
+        return Ok(Verdict::NoState);
+    };
+    let Ok(object) = verify(alloc, snapshot.object) else {
+        return Ok(Verdict::NoState);
+    };
+    Ok(match least_broken(alloc, &object, &snapshot.saved)? {
+        None => Verdict::Lawful,
+        Some(rule) => Verdict::Breaks(rule),
+    })
+}
+
+// So many bytes of the plant's snapshot, from one on, and what stands in their place.
+struct Edit {
+    from: usize,
+    count: usize,
+    bytes: &'static [u8],
+}
+
+const NO_EDIT: Edit = Edit {
+    from: 0,
+    count: 0,
+    bytes: &[],
+};
+
+impl Edit {
+    fn covers(&self, at: usize) -> bool {
+        at >= self.from && at - self.from < self.count
+    }
+
+    fn begin(&self, out: &mut Vec<u8>, at: usize) -> Result<(), NoMemory> {
+        if at == self.from {
+            out.extend_from_slice(self.bytes)?;
         }
-        Err(_) => Ok(None),
+        Ok(())
     }
 }
 
-const KEPT: [bool; 4] = [true, true, true, true];
-
-// A byte at a place of the plant's snapshot, and which of the rules the state then keeps.
-struct Change {
-    at: usize,
-    byte: u8,
-    kept: [bool; 4],
+struct Row {
+    first: Edit,
+    second: Edit,
+    verdict: Verdict,
 }
 
-/// Rows of changes.
-macro_rules! changes {
-    ($($at:literal: $byte:literal => $kept:expr;)*) => {
-        [$(Change { at: $at, byte: $byte, kept: $kept },)*]
+/// Rows of one edit.
+macro_rules! rows {
+    ($($from:literal, $count:literal: $bytes:tt => $verdict:expr;)*) => {
+        [$(Row {
+            first: Edit { from: $from, count: $count, bytes: &$bytes },
+            second: NO_EDIT,
+            verdict: $verdict,
+        },)*]
     };
 }
 
-const CHANGES: [Change; 13] = changes! {
-    157: 1 => KEPT;
-    161: 1 => [false, true, true, true];
-    162: 3 => [false, true, true, true];
-    170: 9 => [false, true, true, true];
-    159: 4 => [true, false, true, true];
-    179: 0 => [true, false, true, true];
-    217: 0 => [true, false, true, true];
-    248: 0 => [true, false, true, true];
-    205: 2 => [true, true, false, true];
-    222: 2 => [true, true, false, true];
-    233: 2 => [true, true, false, true];
-    199: 1 => [true, true, true, false];
-    200: 9 => [true, true, true, false];
+/// Rows of two edits.
+macro_rules! pairs {
+    ($($from:literal, $count:literal: $bytes:tt and $later:literal, $more:literal: $others:tt => $verdict:expr;)*) => {
+        [$(Row {
+            first: Edit { from: $from, count: $count, bytes: &$bytes },
+            second: Edit { from: $later, count: $more, bytes: &$others },
+            verdict: $verdict,
+        },)*]
+    };
+}
+
+const LAWFUL: Verdict = Verdict::Lawful;
+
+const N2: Verdict = Verdict::Breaks(StateRule::Parts);
+
+const N3: Verdict = Verdict::Breaks(StateRule::Numbers);
+
+const N4: Verdict = Verdict::Breaks(StateRule::Plans);
+
+const N5: Verdict = Verdict::Breaks(StateRule::Stacks);
+
+const N6: Verdict = Verdict::Breaks(StateRule::References);
+
+// Slots, counts, switches, terminals and inputs: how many there are, and what they hold.
+const PARTS: [Row; 22] = rows! {
+    160, 4: [0] => N2;
+    160, 4: [2, 0, 31, 14, 0, 31, 14] => N2;
+    161, 1: [1] => N2;
+    162, 1: [3] => N2;
+    164, 2: [0] => N2;
+    164, 2: [2, 0, 0] => N2;
+    165, 1: [128, 128, 128, 128, 8] => N2;
+    165, 1: [255, 255, 255, 255, 7] => LAWFUL;
+    166, 2: [0] => N2;
+    166, 2: [2, 1, 1] => N2;
+    168, 4: [0] => N2;
+    168, 4: [2, 2, 104, 105, 0] => N2;
+    170, 1: [9] => N2;
+    170, 1: [10] => LAWFUL;
+    170, 1: [31] => N2;
+    170, 1: [32] => LAWFUL;
+    170, 1: [126] => LAWFUL;
+    170, 1: [127] => N2;
+    172, 5: [0] => N2;
+    172, 5: [2, 1, 0, 31, 10, 0] => N2;
+    174, 1: [1] => N2;
+    175, 1: [30] => N2;
 };
 
-fn with_change(alloc: Global, change: &Change) -> Result<Vec<u8>, NoMemory> {
+// The moment, the clock, who acted last, priorities and kept starts.
+const NUMBERS: [Row; 12] = rows! {
+    156, 2: [129, 128, 128, 128, 128, 32] => N3;
+    156, 2: [128, 128, 128, 128, 128, 32] => LAWFUL;
+    158, 1: [128, 184, 153, 41] => N3;
+    158, 1: [255, 183, 153, 41] => LAWFUL;
+    159, 1: [4] => N3;
+    159, 1: [0] => LAWFUL;
+    179, 1: [0] => N3;
+    179, 1: [255] => LAWFUL;
+    217, 1: [0] => N3;
+    219, 1: [0] => N3;
+    218, 1: [3, 5] => LAWFUL;
+    248, 1: [0] => N3;
+};
+
+// What plans wait for, their lengths of time, their ends and their series.
+const PLANS: [Row; 17] = rows! {
+    203, 1: [1, 0, 5, 0, 0, 1, 7, 0, 0] => N4;
+    205, 1: [2] => N4;
+    205, 1: [9] => N4;
+    205, 1: [0] => LAWFUL;
+    206, 2: [129, 128, 128, 128, 128, 32] => N4;
+    206, 2: [128, 128, 128, 128, 128, 32] => LAWFUL;
+    208, 1: [129, 128, 128, 128, 128, 32] => N4;
+    209, 1: [1, 128, 184, 153, 41] => N4;
+    209, 1: [1, 255, 183, 153, 41] => LAWFUL;
+    210, 5: [0] => LAWFUL;
+    211, 2: [129, 128, 128, 128, 128, 128, 1] => N4;
+    211, 2: [128, 128, 128, 128, 128, 128, 1] => LAWFUL;
+    213, 1: [129, 128, 128, 128, 128, 32] => N4;
+    214, 1: [129, 128, 128, 128, 128, 32] => LAWFUL;
+    238, 3: [129, 128, 128, 128, 128, 32] => N4;
+    238, 3: [128, 128, 128, 128, 128, 32] => LAWFUL;
+    241, 7: [0] => N4;
+};
+
+// Frames at other places, of other routines, with other cells; exchanged, missing, and one too many.
+const FRAMES: [Row; 24] = rows! {
+    183, 19: [0] => N5;
+    183, 19: [1, 1, 12, 1, 0, 0, 31, 10, 0] => N5;
+    183, 19: [1, 1, 13, 1, 0, 0, 31, 10, 0] => LAWFUL;
+    183, 19: [1, 1, 12, 1, 0, 0, 31, 10, 1, 1, 0, 31, 1, 0, 0] => LAWFUL;
+    183, 19: [1, 0, 6, 1, 1, 0, 31, 1, 0, 0, 0] => N5;
+    184, 18: [0, 6, 1, 1, 0, 31, 1, 0, 0, 0, 1, 12, 1, 0, 0, 31, 10, 0] => N5;
+    184, 1: [2] => N5;
+    184, 1: [4] => N5;
+    185, 1: [11] => N5;
+    186, 5: [0] => N5;
+    187, 4: [1, 0, 31, 1, 0, 0] => N5;
+    189, 1: [30] => N5;
+    191, 1: [1, 1, 0, 31, 1, 0, 0] => N5;
+    192, 1: [1] => N5;
+    193, 1: [7] => LAWFUL;
+    193, 1: [8] => N5;
+    193, 1: [1] => N5;
+    194, 7: [0] => N5;
+    195, 6: [0, 0, 31, 10] => N5;
+    195, 6: [2, 0, 31, 1, 0, 0, 1, 2, 2] => N5;
+    201, 1: [1, 1, 0, 31, 1, 0, 0] => N5;
+    251, 1: [1] => N5;
+    251, 1: [3] => LAWFUL;
+    251, 1: [4] => N5;
+};
+
+// Operands: those of the place, one missing, one of another kind, in another order, one too many.
+const OPERANDS: [Row; 9] = pairs! {
+    193, 1: [1] and 201, 1: [1, 1, 0, 31, 1, 0, 0] => LAWFUL;
+    193, 1: [1] and 201, 1: [1, 0, 0, 31, 10] => N5;
+    193, 1: [1] and 201, 1: [1, 1, 0, 30, 1, 0, 0] => N5;
+    193, 1: [1] and 201, 1: [1, 2, 0, 31, 1, 0, 0, 1, 2, 2] => N5;
+    193, 1: [1] and 201, 1: [2, 1, 0, 31, 1, 0, 0, 1, 0, 31, 1, 0, 0] => N5;
+    193, 1: [3] and 201, 1: [2, 1, 0, 31, 1, 0, 0, 0, 0, 31, 10] => LAWFUL;
+    193, 1: [3] and 201, 1: [2, 0, 0, 31, 10, 1, 0, 31, 1, 0, 0] => N5;
+    193, 1: [3] and 201, 1: [1, 1, 0, 31, 1, 0, 0] => N5;
+    251, 1: [1] and 253, 1: [1, 0, 4, 20] => LAWFUL;
+};
+
+// References of cells and of operands.
+const REFERENCES: [Row; 8] = pairs! {
+    198, 3: [0, 0] and 0, 0: [] => LAWFUL;
+    198, 3: [0, 1] and 0, 0: [] => N6;
+    199, 1: [1] and 0, 0: [] => N6;
+    200, 1: [1] and 0, 0: [] => N6;
+    193, 1: [1] and 201, 1: [1, 1, 0, 31, 1, 1, 0] => N6;
+    193, 1: [1] and 201, 1: [1, 1, 0, 31, 1, 2, 0] => N6;
+    193, 1: [1] and 201, 1: [1, 1, 0, 31, 0, 0] => LAWFUL;
+    183, 19: [1, 1, 12, 1, 0, 0, 31, 10, 1, 1, 0, 31, 1, 1, 0] and 0, 0: [] => N6;
+};
+
+// Two rules that are broken.
+const BOTH: [Row; 10] = pairs! {
+    165, 1: [128, 128, 128, 128, 8] and 158, 1: [128, 184, 153, 41] => N2;
+    162, 1: [3] and 205, 1: [2] => N2;
+    165, 1: [128, 128, 128, 128, 8] and 193, 1: [1] => N2;
+    162, 1: [3] and 199, 1: [1] => N2;
+    158, 1: [128, 184, 153, 41] and 205, 1: [2] => N3;
+    219, 1: [0] and 193, 1: [1] => N3;
+    219, 1: [0] and 200, 1: [9] => N3;
+    205, 1: [2] and 193, 1: [1] => N4;
+    205, 1: [2] and 199, 1: [1] => N4;
+    193, 1: [1] and 199, 1: [1] => N5;
+};
+
+fn with_edits(alloc: Global, row: &Row) -> Result<Vec<u8>, NoMemory> {
     let mut bytes = Vec::new(alloc);
     for (at, byte) in PLANT.iter().enumerate() {
-        let is_changed = at == change.at;
-        bytes.push(if is_changed { change.byte } else { *byte })?;
+        row.first.begin(&mut bytes, at)?;
+        row.second.begin(&mut bytes, at)?;
+        if !row.first.covers(at) && !row.second.covers(at) {
+            bytes.push(*byte)?;
+        }
     }
     Ok(bytes)
 }
 
-#[test]
-fn a_plant_keeps_the_rules(rt: HostRuntime) -> Result<(), NoMemory> {
-    assert_eq!(rt; kept(rt.alloc(), &PLANT)?, Some(KEPT));
+fn tell(rt: &impl Abort, alloc: Global, rows: &[Row]) -> Result<(), NoMemory> {
+    for row in rows {
+        let bytes = with_edits(alloc, row)?;
+        let first = row.first.from;
+        let second = row.second.from;
+        assert_eq!(rt;
+            judged(alloc, bytes.as_slice())?,
+            row.verdict,
+            "at {first} and {second}"
+        );
+    }
     Ok(())
 }
 
 #[test]
-fn changed_states_break_rules(rt: HostRuntime) -> Result<(), NoMemory> {
-    for change in &CHANGES {
-        let bytes = with_change(rt.alloc(), change)?;
-        let at = change.at;
-        assert_eq!(rt;
-            kept(rt.alloc(), bytes.as_slice())?,
-            Some(change.kept),
-            "at {at}"
-        );
-    }
+fn a_plant_breaks_no_rule(rt: HostRuntime) -> Result<(), NoMemory> {
+    assert_eq!(rt; judged(rt.alloc(), &PLANT)?, LAWFUL);
+    Ok(())
+}
+
+#[test]
+fn all_parts_are_there(rt: HostRuntime) -> Result<(), NoMemory> {
+    tell(&rt, rt.alloc(), &PARTS)
+}
+
+#[test]
+fn moments_and_priorities_have_their_ranges(rt: HostRuntime) -> Result<(), NoMemory> {
+    tell(&rt, rt.alloc(), &NUMBERS)
+}
+
+#[test]
+fn plans_are_lawful(rt: HostRuntime) -> Result<(), NoMemory> {
+    tell(&rt, rt.alloc(), &PLANS)
+}
+
+#[test]
+fn frames_stand_where_their_code_says(rt: HostRuntime) -> Result<(), NoMemory> {
+    tell(&rt, rt.alloc(), &FRAMES)
+}
+
+#[test]
+fn operands_are_those_of_the_place(rt: HostRuntime) -> Result<(), NoMemory> {
+    tell(&rt, rt.alloc(), &OPERANDS)
+}
+
+#[test]
+fn references_name_what_is_there(rt: HostRuntime) -> Result<(), NoMemory> {
+    tell(&rt, rt.alloc(), &REFERENCES)
+}
+
+#[test]
+fn the_least_broken_rule_is_told(rt: HostRuntime) -> Result<(), NoMemory> {
+    tell(&rt, rt.alloc(), &BOTH)
+}
+
+#[test]
+fn rules_have_their_numbers(rt: HostRuntime) -> Result<(), NoMemory> {
+    assert_eq!(rt; StateRule::Parts.number(), 2);
+    assert_eq!(rt; StateRule::References.number(), 6);
     Ok(())
 }
