@@ -128,7 +128,7 @@ pub struct Elements {
 
 /// The fields of a STRUCT by their names, the bounds of all of them, its counts, which kinds are among its last fields
 /// (of none, of one, and so on up to all), and of a STRUCT with one field what it comes to: TYPEs with one field each
-/// may be thousands deep, and a walk goes past them in one step.
+/// may be thousands deep, and a walk that asks for no names goes past them in one step.
 #[derive(Drop)]
 pub struct StructForm {
     pub fields: FieldTable,
