@@ -20,7 +20,7 @@ use Rattle.pearl_rules.specs.Entries.{AreFitting, EntryFits, moment_after}
 use Rattle.pearl_rules.specs.Literals.{clock_literal}
 use Rattle.pearl_value.specs.Names.{is_id}
 use Rattle.pearl_rules.specs.Tables.{input_kind, IsInterrupt, IsReadable, Reads}
-use Rattle.pearl_scan.proofs.Offered.{clock_below}
+use Rattle.pearl_rules.proofs.Offered.{clock_below}
 use Rattle.pearl_journal.specs.declared.limits.TheConstants.{LAST_MOMENT, LINE_LIMIT, NO_FIT, NO_FORM, NOT_DECLARED, TOO_LATE}
 use Rattle.pearl_journal.specs.declared.reading.Line.{Line}
 use Rattle.pearl_journal.specs.declared.reading.Line.TheVariants.{Blank, Item, Wrong}

@@ -11,14 +11,14 @@ use Rattle.pearl_value.specs.declared.kind.Kind.{Kind}
 use Rattle.pearl_value.specs.declared.kind.Kind.TheVariants as kind
 use Rattle.pearl_value.specs.declared.cell.Cell.{Cell}
 use Rattle.pearl_value.specs.declared.cell.Cell.TheVariants.{Fixed, Bits, Chars, Clock, Span}
+use Rattle.pearl_value.specs.Arithmetic.{fits_span}
 use Rattle.pearl_value.specs.Blanks.{filled_to, widened}
 use Rattle.pearl_value.specs.Cells.{FitsFixed}
 use Rattle.pearl_value.specs.Conversions.{fits_fixed}
 use Rattle.pearl_value.specs.WellFormed.{IsLetter, IsValue}
 use Rattle.pearl_rules.specs.Entries.{Becomes, ComesInAt}
 use Rattle.pearl_rules.specs.Literals.{bits_number, clock_literal, fixed_literal, number_literal, span_literal, decimal_number, at_most, behind_blanks, minus}
-use Rattle.pearl_rules.specs.Scan.{fits_span}
-use Rattle.pearl_scan.proofs.Offered.{bits_number-below, clock_below}
+use Rattle.pearl_rules.proofs.Offered.{bits_number-below, clock_below}
 use Rattle.pearl_journal.specs.declared.literals.Literal.{Literal}
 use Rattle.pearl_journal.specs.declared.literals.Literal.TheVariants.{Value, TooLong}
 use Rattle.pearl_journal.specs.Words.{is_blank}

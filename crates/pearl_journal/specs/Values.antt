@@ -6,9 +6,9 @@ use Rattle.pearl_value.specs.declared.kind.Kind.{Kind}
 use Rattle.pearl_value.specs.declared.kind.Kind.TheVariants as kind
 use Rattle.pearl_value.specs.declared.cell.Cell.{Cell}
 use Rattle.pearl_value.specs.declared.cell.Cell.TheVariants.{Fixed, Bits, Chars, Clock, Span}
+use Rattle.pearl_value.specs.Arithmetic.{fits_span}
 use Rattle.pearl_value.specs.Conversions.{fits_fixed}
 use Rattle.pearl_rules.specs.Literals.{bits_number, clock_literal, fixed_literal, span_literal}
-use Rattle.pearl_rules.specs.Scan.{fits_span}
 use Rattle.pearl_journal.specs.declared.literals.Literal.{Literal}
 use Rattle.pearl_journal.specs.declared.literals.Literal.TheVariants.{Value, TooLong}
 use Rattle.pearl_journal.specs.Texts.{is_apostrophe, text_literal}

@@ -9,10 +9,10 @@ use Rattle.pearl_value.specs.declared.kind.Kind.{Kind}
 use Rattle.pearl_value.specs.declared.kind.Kind.TheVariants as kind
 use Rattle.pearl_value.specs.declared.cell.Cell.{Cell}
 use Rattle.pearl_value.specs.declared.cell.Cell.TheVariants.{Fixed, Bits, Chars, Clock, Span, Ref}
+use Rattle.pearl_value.specs.Arithmetic.{fits_span}
 use Rattle.pearl_value.specs.Conversions.{fits_fixed}
 use Rattle.pearl_value.specs.WellFormed.{FitsSpan, IsValue}
 use Rattle.pearl_rules.specs.Literals.{clock_literal, fixed_literal, span_literal}
-use Rattle.pearl_rules.specs.Scan.{fits_span}
 use Rattle.pearl_rules.specs.declared.entry.Entry.{Entry}
 use Rattle.pearl_rules.specs.declared.entry.Entry.TheVariants as entry
 use Rattle.pearl_journal.specs.Laws.{doubled}

@@ -527,7 +527,7 @@ answer_of Ends = None
 same_answer : (a b : Answer) → Hears a ≡ Hears b → b ≡ a
 same_answer a b e = sym (same_Some a b (ap answer_of e))
 
-ends_unheard : (answer : Answer) → Ends ≡ Hears answer → ⊥
+pub ends_unheard : (answer : Answer) → Ends ≡ Hears answer → ⊥
 ends_unheard answer e = cc
 
 -- a task that ends another hears that it did, and nothing more where it ends itself

@@ -26,7 +26,7 @@ use Rattle.pearl_rules.specs.Laws.{mode_behind, kept_behind, IsOver, TellsEnds, 
 use Rattle.pearl_rules.proofs.Behind.{ended-mode, ended-kept, ended-other, oldest-is}
 use Rattle.pearl_rules.proofs.Places.{no_member, alone, only_member, set-same, set-other}
 use Rattle.pearl_rules.proofs.Serving.{Stays, Closed, OnlyValues, mark-kept, millisecond-kept, interrupted-kept, activated-kept, continues-kept, resuming-kept, arrived-kept}
-use Rattle.pearl_rules.proofs.EffectLaws.{AnyPriority, AnyPlan, any_continuation, any_activation, any_kept}
+use Rattle.pearl_rules.proofs.EffectLaws.{AnyPriority, AnyPlan, any_continuation, any_activation, any_kept, ends_unheard}
 
 -- HOW ONE TASK STANDS
 
@@ -101,9 +101,6 @@ arrived-lasts core come = arrived-kept AnyPriority AnyPlan (AllLast core) (lasts
 -- an end is no answer
 pub no_end : (answer : Answer) → Hears answer ≡ Ends → ⊥
 no_end answer e = cc
-
-pub ends_unheard : (answer : Answer) → Ends ≡ Hears answer → ⊥
-ends_unheard answer e = cc
 
 -- of an effect all at once: what it tells of ends, and how those that ended stand
 record Tells (core : Core) (own : ℕ) (done : Effect) : Type 0 where

@@ -109,13 +109,13 @@ refreshed_is fresh t (row ∷ rows) (x ∷ xs) (suc i) less =
     refreshed_is fresh (t + 1) rows xs i (omega arith) ∙ ap (λ u. kept (is_active_row (slice_get rows i)) (fresh u) (kept_at xs i)) e
 
 -- a place that was emptied
-emptied : {X : Type 0} (xs : List (Option X)) (i : ℕ) → kept_at (slice_set xs i None) i ≡ None
+pub emptied : {X : Type 0} (xs : List (Option X)) (i : ℕ) → kept_at (slice_set xs i None) i ≡ None
 emptied [] i = refl
 emptied (x ∷ xs) zero = refl
 emptied (x ∷ xs) (suc i) = emptied xs i
 
 -- a place that is empty stays so
-stays_empty : {X : Type 0} (ts : List ℕ) (xs : List (Option X)) (i : ℕ) → kept_at xs i ≡ None → kept_at (dropped ts xs) i ≡ None
+pub stays_empty : {X : Type 0} (ts : List ℕ) (xs : List (Option X)) (i : ℕ) → kept_at xs i ≡ None → kept_at (dropped ts xs) i ≡ None
 stays_empty [] xs i e = e
 stays_empty (t ∷ ts) xs i e = stays_empty ts (slice_set xs t None) i (by_test (nat_eq i t) refl)
   where

@@ -10,8 +10,12 @@ pub use Rattle.pearl_rules.proofs.PickLaws.{eligible_within, picked, pick-same, 
 pub use Rattle.pearl_rules.proofs.Serving.{Stays, Starts, Closed, ClosedAtEnds, IsFree, Brings, mark-kept}
 pub use Rattle.pearl_rules.proofs.Serving.{millisecond-kept, interrupted-kept, activated-kept, continues-kept}
 pub use Rattle.pearl_rules.proofs.Serving.{resuming-kept, arrived-kept, effect-free}
+-- what GET gets is of its targets' kinds: digits of so many bits each, times of day, what an item leaves for those behind it
+pub use Rattle.pearl_rules.proofs.ScanLaws.{bit_digits, pow_pow, bits_number-below, thousandths-below, clock_below}
+pub use Rattle.pearl_rules.proofs.ScanLaws.{rest_suits, reads_values}
 -- what actions, milliseconds and whatever comes in keep: tasks, what was told, and the kinds of all values
-pub use Rattle.pearl_rules.proofs.EffectLaws.{any_kept, effect-told, arrived-told, effect-length, millisecond-length, arrived-length, opening-kinds}
+pub use Rattle.pearl_rules.proofs.EffectLaws.{AnyPriority, AnyPlan, any_continuation, any_activation, any_kept, any_brings}
+pub use Rattle.pearl_rules.proofs.EffectLaws.{effect-told, arrived-told, effect-length, millisecond-length, arrived-length, opening-kinds}
 pub use Rattle.pearl_rules.proofs.EffectLaws.{effect-kinds, millisecond-kinds, arrived-kinds, effect-answers}
 -- what was told before changes nothing
 pub use Rattle.pearl_rules.proofs.ToldLaws.{millisecond-told_before, arrived-told_before, effect-told_before}
@@ -29,7 +33,7 @@ pub use Rattle.pearl_rules.proofs.CountLaws.{effect-counts, millisecond-counts, 
 pub use Rattle.pearl_rules.proofs.UrgencyLaws.{effect-urgencies, millisecond-urgencies, arrived-urgencies}
 pub use Rattle.pearl_rules.proofs.UrgencyLaws.{opening-urgencies, effect-plans, millisecond-plans, arrived-plans}
 -- what is kept for each task, on the two sides of a run: the lists stand side by side, place by place
-pub use Rattle.pearl_rules.proofs.KeptLaws.{dropped_inside, dropped_outside, begins_afresh}
+pub use Rattle.pearl_rules.proofs.KeptLaws.{emptied, stays_empty, dropped_inside, dropped_outside, begins_afresh}
 -- the machine goes the way of the source: step by step the same core, the same entries, and each task at the same place
 pub use Rattle.pearl_rules.proofs.Simulation.{step_source}
 -- what holds of one task at a time is enough for a whole run

@@ -19,6 +19,7 @@ use Rattle.pearl_value.specs.declared.cell.Cell.{Cell}
 use Rattle.pearl_value.specs.declared.cell.Cell.TheVariants.{Fixed, Bits, Chars, Clock, Span}
 use Rattle.pearl_value.specs.Kinds.{IsKind}
 use Rattle.pearl_value.specs.WellFormed.{IsLetter, IsValueOf, FitsSpan}
+use Rattle.pearl_value.specs.Arithmetic.{fits_span}
 use Rattle.pearl_value.specs.Conversions.{fits_fixed}
 use Rattle.pearl_format.specs.declared.item.ItemCode.{ItemCode}
 use Rattle.pearl_format.specs.declared.item.ItemCode.TheVariants.{A, B1, B2, B3, B4, F, T, D, X, Skip}
@@ -27,7 +28,7 @@ use Rattle.pearl_format.specs.Bytes.{IsTextByte}
 use Rattle.pearl_format.specs.Fields.{cut_field}
 use Rattle.pearl_format.specs.Items.{data_here, SuitsItem, Suits, width_over, skip_count}
 use Rattle.pearl_rules.specs.Literals.{at_most, decimal_number, number_up_to, thousandths, clock_value, clock_of, with_point, with_colons, clock_literal, span_literal, bits_number, bits_within, bits_literal, is_bit_digit, bare, signed_number}
-use Rattle.pearl_rules.specs.Scan.{Scanned, Short, Bad, Got, is_line_end, is_blank, field, lines_length, if_fits, fits_span, field_value, good_or_bad, if_complete, if_skipped, scan_item, behind, followed_by, scan}
+use Rattle.pearl_rules.specs.Scan.{Scanned, Short, Bad, Got, is_line_end, is_blank, field, lines_length, if_fits, field_value, good_or_bad, if_complete, if_skipped, scan_item, behind, followed_by, scan}
 
 -- BYTES
 
@@ -122,7 +123,7 @@ pow_pow group (suc count) =
     let e : group * suc count ≡ group * count + group = omega (arith, mul-suc group count) in
     pow-suc (2 ^ group) count ∙ ap (λ n. n * 2 ^ group) (pow_pow group count) ∙ sym (pow-add 2 (group * count) group) ∙ ap (λ n. 2 ^ n) (sym e)
 
-bits_number-below : (group : ℕ) (digits : List ℕ) → IfSome (bits_number group digits) (λ n. n < 2 ^ (group * length digits))
+pub bits_number-below : (group : ℕ) (digits : List ℕ) → IfSome (bits_number group digits) (λ n. n < 2 ^ (group * length digits))
 bits_number-below group [] = tt
 bits_number-below group (byte ∷ bytes) = by (list_all (is_bit_digit group) (byte ∷ bytes)) refl
   where
@@ -175,7 +176,7 @@ decimal_number-below (byte ∷ bytes) = by (all_ascii_digits (byte ∷ bytes)) r
     by true e = digits_value-lt 10 (byte ∷ bytes) (decimal_digits (byte ∷ bytes) e)
     by false e = tt
 
-thousandths-below : (digits : List ℕ) → IfSome (thousandths digits) (λ n. n < 1000)
+pub thousandths-below : (digits : List ℕ) → IfSome (thousandths digits) (λ n. n < 1000)
 thousandths-below [] = tt
 thousandths-below (byte ∷ bytes) = by (nat_le (length (byte ∷ bytes)) 3) refl
   where
@@ -219,7 +220,7 @@ with_colons-below (hours ∷ minutes ∷ []) = tt
 with_colons-below (hours ∷ minutes ∷ seconds ∷ []) = with_point-below hours minutes (slice_split (λ byte. byte == 46) seconds)
 with_colons-below (hours ∷ minutes ∷ seconds ∷ more ∷ parts) = tt
 
-clock_below : (text : List ℕ) → IfSome (clock_literal text) (λ n. n < 86400000)
+pub clock_below : (text : List ℕ) → IfSome (clock_literal text) (λ n. n < 86400000)
 unfolding clock_literal
 clock_below text = with_colons-below (slice_split (λ byte. byte == 58) text)
 
@@ -300,7 +301,8 @@ module _ (width : ℕ) (bytes : List ℕ) (rest : List Kind → Type 0) (typed :
   item_fine D [] suits are = absurd suits
   item_fine D (own ∷ kinds) suits are = one_fine D own (width_over D width (own ∷ kinds)) bytes are.0 typed
 
-rest_suits : (code : ItemCode) (width : ℕ) (kinds : List Kind) (rest : List Kind → Type 0) → SuitsItem code width kinds rest → rest (drop (data_here code) kinds)
+-- what an item leaves suits the items behind it
+pub rest_suits : (code : ItemCode) (width : ℕ) (kinds : List Kind) (rest : List Kind → Type 0) → SuitsItem code width kinds rest → rest (drop (data_here code) kinds)
 rest_suits X width kinds rest suits = suits
 rest_suits Skip width kinds rest suits = suits
 rest_suits A width [] rest suits = absurd suits

@@ -23,7 +23,7 @@ use Rattle.pearl_rules.specs.declared.setup.Setup.{Setup}
 use Rattle.pearl_rules.specs.declared.setup.TaskEntry.{TaskEntry}
 use Rattle.pearl_rules.specs.Tables.{IsTaskEntry, IsInterrupt}
 use Rattle.pearl_rules.specs.Core.{Core, row_of, with_row, first_mode, first_row, declared_of, opening}
-use Rattle.pearl_rules.specs.Plans.{priorities, milliseconds, interrupt_of, after_of, period_of, end_of, written, first_series, begun, planned, millisecond}
+use Rattle.pearl_rules.specs.Plans.{priorities, milliseconds, interrupt_of, after_of, period_of, end_of, written, first_series, begun, planned, day, millisecond}
 use Rattle.pearl_rules.specs.Devices.{arrived}
 use Rattle.pearl_rules.specs.Effect.{declared_or_zero, priority_or_declared, effect}
 use Rattle.pearl_rules.specs.Pick.{Offered, turned}
@@ -220,7 +220,7 @@ module _ (setup : Setup) where
       HasPlans setup other
   plans_moved core other tasks clock has = record {
     plans = subst (λ rows. AllByRecursion (IsPlannedRow setup) rows) (sym tasks) has.plans;
-    clock = subst (λ time. time < 86400000) (sym clock) has.clock;
+    clock = subst (λ time. time < day) (sym clock) has.clock;
   }
 
   -- a series is no part of that
@@ -293,7 +293,7 @@ millisecond-plans setup core has =
 
 -- the time of day that an entry sets is one
 pub clock_fits : (setup : Setup) (come : Entry) → IsFitting setup come → (time : ℕ) → come ≡ entry.Clock time →
-    time < 86400000
+    time < day
 clock_fits setup come fits time same = (subst (IsFitting setup) same fits).1
 
 pub arrived-plans : (setup : Setup) (core : Core) (come : Entry) → HasPlans setup core → IsFitting setup come → HasPlans setup (arrived core come)

@@ -9,6 +9,7 @@ use Rattle.pearl_value.specs.WellFormed.{IsValue}
 use Rattle.pearl_rules.specs.declared.entry.Entry.{Entry}
 use Rattle.pearl_rules.specs.declared.entry.Entry.TheVariants.{Clock, Run, Tick, Pass, Irpt, Chars, Line, Value, Turn, State}
 use Rattle.pearl_rules.specs.declared.setup.Setup.{Setup}
+use Rattle.pearl_rules.specs.Plans.{day}
 use Rattle.pearl_rules.specs.Tables.{IsInterrupt, IsReadable, input_kind}
 
 -- the last moment that there is
@@ -32,7 +33,7 @@ ComesInAt (Some kind) x = Becomes kind x
 
 -- What an entry names is there, its numbers are below 2^63, what comes in suits the device, and it leads past no moment but the last.
 abbrev pub EntryFits : Setup → (moment : ℕ) → Entry → Type 0
-EntryFits setup moment (Clock time) = time < 86400000
+EntryFits setup moment (Clock time) = time < day
 EntryFits setup moment (Run picks) = picks < 2 ^ 63
 EntryFits setup moment (Tick milliseconds) = moment + milliseconds ≤ last_moment_of_all
 EntryFits setup moment (Pass times picks) = (moment + times ≤ last_moment_of_all) × (picks < 2 ^ 63)

@@ -1,10 +1,11 @@
 -- How GET reads values from the pending bytes of a terminal.
-use Rattle.std.specs.Prelude.{ℕ, zero, suc, ◌+◌, ◌^◌, ℤ, Bool, ◌||◌, ◌==◌, nat_le, nat_lt, if◌then◌else◌, List, [], ◌∷◌, ◌++◌, length, take, drop, unsigned_abs, position, Option, Some, None, option_map}
+use Rattle.std.specs.Prelude.{ℕ, zero, suc, ◌+◌, Bool, ◌||◌, ◌==◌, nat_lt, if◌then◌else◌, List, [], ◌∷◌, ◌++◌, length, take, drop, position, Option, Some, None, option_map}
 use Rattle.std.specs.List.{before_first}
 use Rattle.pearl_value.specs.declared.kind.Kind.{Kind}
 use Rattle.pearl_value.specs.declared.kind.Kind.TheVariants as kind
 use Rattle.pearl_value.specs.declared.cell.Cell.{Cell}
 use Rattle.pearl_value.specs.declared.cell.Cell.TheVariants.{Fixed, Bits, Chars, Clock, Span}
+use Rattle.pearl_value.specs.Arithmetic.{fits_span}
 use Rattle.pearl_value.specs.Conversions.{fits_fixed}
 use Rattle.pearl_format.specs.declared.item.ItemCode.{ItemCode}
 use Rattle.pearl_format.specs.declared.item.ItemCode.TheVariants.{A, B1, B2, B3, B4, F, T, D, X, Skip}
@@ -49,10 +50,6 @@ lines_length (suc count) bytes = behind_line (position is_line_end bytes) (λ us
 abbrev pub if_fits : {X : Type 0} → (X → Bool) → Option X → Option X
 if_fits fits None = None
 if_fits fits (Some x) = if fits x then Some x else None
-
--- a DURATION has a size of at most 2^40
-abbrev pub fits_span : ℤ → Bool
-fits_span value = nat_le (unsigned_abs value) (2 ^ 40)
 
 -- the value of a complete field for a target of a kind; none where the field is bad. A field of A is cut, or filled
 -- with blanks, to the target's length; the others lose the blanks at both ends

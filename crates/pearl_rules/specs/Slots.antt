@@ -30,7 +30,7 @@ use Rattle.pearl_value.specs.declared.device.Device.{Device}
 use Rattle.pearl_value.specs.declared.device.Device.TheVariants as device
 use Rattle.pearl_rules.specs.declared.setup.Setup.{Setup}
 use Rattle.pearl_rules.specs.Core.{Core, Channel, Switch, Bytes, Values, Outward, cell_or_zero, value_at}
-use Rattle.pearl_rules.specs.Plans.{priorities}
+use Rattle.pearl_rules.specs.Plans.{priorities, day}
 use Rattle.pearl_rules.specs.Devices.{terminal_room, input_room}
 use Rattle.pearl_value.specs.Counts.{IsPreset}
 use Rattle.pearl_rules.specs.Tables.{TakesTexts, IsInterrupt, IsReadable, input_kind, output_kind, format_of}
@@ -81,7 +81,7 @@ Lasts least time = (least ≤ℤ time) × FitsSpan time
 -- a start of a plan: its time of day is one, its length of time isn't below 0, and its interrupt is there
 abbrev pub IsStart : Setup → Start → Type 0
 IsStart setup start.Free = Unit {0}
-IsStart setup (start.At time) = time < 86400000
+IsStart setup (start.At time) = time < day
 IsStart setup (start.After time) = Lasts (pos 0) time
 IsStart setup (start.When interrupt) = IsInterrupt (slice_get setup.devices interrupt)
 IsStart setup (start.WhenAfter interrupt time) = IsInterrupt (slice_get setup.devices interrupt) × Lasts (pos 0) time
@@ -100,7 +100,7 @@ IsLater setup when = IsOnce setup when
 abbrev pub IsRepeat : Repeat → Type 0
 IsRepeat repeat.Once = Unit {0}
 IsRepeat (repeat.All period) = Lasts (pos 1) period
-IsRepeat (repeat.Until period time) = Lasts (pos 1) period × (time < 86400000)
+IsRepeat (repeat.Until period time) = Lasts (pos 1) period × (time < day)
 IsRepeat (repeat.During period time) = Lasts (pos 1) period × Lasts (pos 0) time
 
 -- a terminal that gives texts, and a format that suits these kinds
@@ -185,7 +185,7 @@ HasUrgencies core = AllByRecursion IsUrgentRow core.tasks
 -- where a plan's series end: at a time of day, or after a length of time of at most 2^40 milliseconds
 abbrev pub IsEnd : End → Type 0
 IsEnd end.Never = Unit {0}
-IsEnd (end.Until time) = time < 86400000
+IsEnd (end.Until time) = time < day
 IsEnd (end.During time) = time ≤ 2 ^ 40
 
 -- the interrupt of a plan is there, its lengths of time are at most 2^40 milliseconds, and its end is one
@@ -201,7 +201,7 @@ IsPlannedRow setup row = IfSome row.continuation (IsPlan setup) × IfSome row.ac
 -- each task has lawful plans, and the clock a time of day
 pub record HasPlans (setup : Setup) (core : Core) : Type 0 where
   pub plans : AllByRecursion (IsPlannedRow setup) core.tasks
-  pub clock : core.clock < 86400000
+  pub clock : core.clock < day
 
 -- periods alone have an end: a plan without a period has none
 abbrev pub EndsPeriods : Plan → Type 0

@@ -1,6 +1,6 @@
 -- What tasks have heard: what a mark keeps of it, and that exactly the active ones have heard something.
-use Rattle.std.proofs.Common.{◌≡◌, ◌≢◌, ℕ, zero, suc, ◌+◌, List, [], ◌∷◌, ◌++◌, Bool, true, false, IsTrue, Option, Some, None, nat_eq, slice_get, slice_set, option_map, refl, sym, ap, subst, ◌∙◌, eqb-true}
-use Rattle.std.proofs.lemmas.Bool.{true≢false, eqb-false}
+use Rattle.std.proofs.Common.{◌≡◌, ◌≢◌, ℕ, zero, suc, ◌+◌, List, [], ◌∷◌, ◌++◌, Bool, true, false, IsTrue, Option, Some, None, slice_get, slice_set, option_map, refl, sym, ap, subst, ◌∙◌}
+use Rattle.std.proofs.lemmas.Bool.{true≢false}
 use Rattle.std.proofs.lemmas.Option.{slice_get-map}
 use Rattle.pearl_rules.specs.declared.action.Answer.{Answer}
 use Rattle.pearl_rules.specs.declared.entry.Entry.{Entry}
@@ -14,7 +14,7 @@ use Rattle.pearl_rules.specs.Pick.{turned, showing, last_if, can_turn}
 use Rattle.pearl_rules.specs.Plans.{millisecond}
 use Rattle.pearl_rules.specs.Devices.{arrived}
 use Rattle.pearl_rules.specs.Runs.{Mark, Acts, Turns, Tells, Passes, Arrives, Coming, kept, refreshed, dropped, flattened, kept_at, Supplier, Source, source_offers, source_next, heard_more, source_settled, source_acts, source_mark, source_step_by, source_step, source_start, source_after, source_run}
-use Rattle.pearl_rules.proofs.Offered.{no_member, set-same, set-other, millisecond-lasts, arrived-lasts, begins_afresh}
+use Rattle.pearl_rules.proofs.Offered.{no_member, set-same, set-other, millisecond-lasts, arrived-lasts, stays_empty, begins_afresh}
 use Rattle.pearl_rules.proofs.Offered.{step_source}
 use Rattle.pearl_rules_laws.specs.Runs.{HearsWhereActive, KeepsHeard}
 use Rattle.pearl_rules_laws.proofs.Marks.{turn_marks, state_marks}
@@ -75,27 +75,12 @@ kept_none t (row ∷ rows) (x ∷ xs) zero not = ap (λ b. kept b [] x) not
 kept_none t (row ∷ rows) [] (suc i) not = kept_none (t + 1) rows [] i not
 kept_none t (row ∷ rows) (x ∷ xs) (suc i) not = kept_none (t + 1) rows xs i not
 
--- a place of which nothing is kept stays so where others are emptied
-pub emptied : (xs : List (Option (List Answer))) (i : ℕ) → kept_at (slice_set xs i None) i ≡ None
-emptied [] i = refl
-emptied (x ∷ xs) zero = refl
-emptied (x ∷ xs) (suc i) = emptied xs i
-
-empty_stays : (ts : List ℕ) (xs : List (Option (List Answer))) (i : ℕ) → kept_at xs i ≡ None →
-    kept_at (dropped ts xs) i ≡ None
-empty_stays [] xs i is = is
-empty_stays (t ∷ ts) xs i is = empty_stays ts (slice_set xs t None) i (by_test (nat_eq i t) refl)
-  where
-    by_test : (b : Bool) → nat_eq i t ≡ b → kept_at (slice_set xs t None) i ≡ None
-    by_test true same = subst (λ j. kept_at (slice_set xs t None) j ≡ None) (sym (eqb-true i t same)) (emptied xs t)
-    by_test false differ = ap flattened (set-other xs t i None (eqb-false i t differ)) ∙ is
-
--- and where the task that acts hears its answer
+-- a place of which nothing is kept stays so where others are emptied, and where the task that acts hears its answer
 pub heard_none : (heard : List (Option (List Answer))) (ended : List ℕ) (t u : ℕ) (before : List Answer) →
     (reply : Reply) → kept_at heard t ≡ Some before → kept_at heard u ≡ None →
     kept_at (heard_more (dropped ended heard) t before reply) u ≡ None
 heard_none heard ended t u before reply here is =
-    heard_other (dropped ended heard) t u before reply differ ∙ empty_stays ended heard u is
+    heard_other (dropped ended heard) t u before reply differ ∙ stays_empty ended heard u is
   where
     differ : u ≢ t
     differ same = let no : ⊥ = cc in no

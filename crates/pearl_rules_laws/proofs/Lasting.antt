@@ -1,19 +1,16 @@
 -- Over a run no dormant task keeps a start, and the starts that a task keeps leave in their order.
-use Rattle.std.proofs.Common.{◌≡◌, ◌⊎◌, inl, inr, ℕ, zero, suc, ◌<◌, List, ◌++◌, Bool, true, false, nat_eq, IfSome, Option, Some, None, option_map, map, length, slice_get, refl, sym, ap, subst, ◌∙◌, eqb-true, append-nil, append_assoc}
+use Rattle.std.proofs.Common.{◌≡◌, ◌⊎◌, inl, inr, ℕ, zero, suc, ◌<◌, List, ◌++◌, Bool, true, false, nat_eq, Option, Some, None, option_map, map, length, slice_get, refl, sym, ap, subst, ◌∙◌, eqb-true, append-nil, append_assoc}
 use Rattle.std.specs.List.{AllByRecursion}
 use Rattle.std.proofs.lemmas.Bool.{eqb-false, true≢false}
 use Rattle.std.proofs.lemmas.List.{length-map, map-append}
 use Rattle.std.proofs.lemmas.Option.{slice_get-map}
 use Rattle.pearl_rules.specs.declared.action.Action.{Action}
-use Rattle.pearl_rules.specs.declared.action.Action.TheVariants as action
 use Rattle.pearl_rules.specs.declared.action.Answer.{Answer}
 use Rattle.pearl_rules.specs.declared.entry.Entry.{Entry}
 use Rattle.pearl_rules.specs.declared.row.Kept.{Kept}
 use Rattle.pearl_rules.specs.declared.row.Kept.TheVariants as kept
 use Rattle.pearl_rules.specs.declared.row.Mode.{Mode}
 use Rattle.pearl_rules.specs.declared.row.Mode.TheVariants.{Dormant, Active}
-use Rattle.pearl_rules.specs.declared.row.Plan.{Plan}
-use Rattle.pearl_rules.specs.declared.row.Activation.{Activation}
 use Rattle.pearl_rules.specs.declared.row.TaskRow.{TaskRow}
 use Rattle.pearl_rules.specs.declared.setup.Setup.{Setup}
 use Rattle.pearl_rules.specs.declared.setup.TaskEntry.{TaskEntry}
@@ -23,7 +20,8 @@ use Rattle.pearl_rules.specs.Devices.{arrived}
 use Rattle.pearl_rules.specs.Effect.{effect}
 use Rattle.pearl_rules.specs.Pick.{Offered, turned, showing}
 use Rattle.pearl_rules.specs.Runs.{Mark, Acts, Turns, Tells, Passes, Arrives, Coming, kept_at, Supplier, Source, source_offers, source_next, source_acts, source_mark, source_step_by, source_step, source_start, source_after, source_run}
-use Rattle.pearl_rules.proofs.Offered.{set-same, set-other, there_at, any_kept, turned-is, Stays, Starts, Closed, ClosedAtEnds, IsFree, Brings}
+use Rattle.pearl_rules.proofs.Offered.{AnyPriority, AnyPlan, any_continuation, any_activation, any_kept, any_brings}
+use Rattle.pearl_rules.proofs.Offered.{set-same, set-other, there_at, turned-is, Stays, Closed, ClosedAtEnds, IsFree}
 use Rattle.pearl_rules.proofs.Offered.{millisecond-kept, arrived-kept, effect-free, effect-length, millisecond-length, arrived-length}
 use Rattle.pearl_rules_laws.specs.Kept.{DormantKeepNone, kept_list}
 use Rattle.pearl_rules_laws.specs.Queue.{AnswersStart, ServesOldest, start_of, kept_next, gone_next, kept_over, gone_over}
@@ -65,26 +63,6 @@ module _ (P : Core → Type 0) (lasts : Lasts P) (offer : Supplier) where
 
 -- NO DORMANT TASK KEEPS A START
 
-abbrev AnyPriority : ℕ → Type 0
-AnyPriority priority = Unit {0}
-
-abbrev AnyPlan : Plan → Type 0
-AnyPlan plan = Unit {0}
-
-any_plan : (plan : Option Plan) → IfSome plan AnyPlan
-any_plan None = tt
-any_plan (Some plan) = tt
-
-any_activation : (plan : Option Activation) → IfSome plan (Starts AnyPriority AnyPlan)
-any_activation None = tt
-any_activation (Some plan) = (tt, tt)
-
-any_brings : (core : Core) (act : Action) → Brings AnyPriority AnyPlan core act
-any_brings core (action.Activate t start repeat priority) = (λ row at. tt, λ now. tt)
-any_brings core (action.Continue t start) = λ now. tt
-any_brings core (action.Resume start) = λ now. tt
-any_brings core other = tt
-
 -- one row changes, and is no such one
 row_keeps_none : (core : Core) (t : ℕ) (row changed : TaskRow) → row_of core t ≡ Some row →
     (changed.mode ≡ Dormant → changed.kept ≡ kept.Nothing) → DormantKeepNone core → DormantKeepNone (with_row core t changed)
@@ -123,7 +101,7 @@ none_closed = record {
       (stays_none row.mode mode row.kept held stays keeps (row_none core t row at none)) none;
   goes_on = λ core t row plan at lawful none. row_keeps_none core t row (record row { continuation = plan }) at (row_none core t row at none) none;
   starts = λ core t row plan at lawful none. row_keeps_none core t row (record row { activation = Some plan }) at (row_none core t row at none) none;
-  going = λ core t row at none. any_plan row.continuation;
+  going = λ core t row at none. any_continuation row.continuation;
   starting = λ core t row at none. any_activation row.activation;
   keeping = λ core t row at none. any_kept row.kept;
   begins = λ core plan lawful. tt;

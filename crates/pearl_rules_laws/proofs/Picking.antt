@@ -12,11 +12,11 @@ use Rattle.pearl_rules.specs.Core.{Core, row_of, mode_of_row, mode_of, is_active
 use Rattle.pearl_rules.specs.Effect.{Reply, Hears, Ends, Effect, effect}
 use Rattle.pearl_rules.specs.Pick.{pick, turned, states}
 use Rattle.pearl_rules.specs.Runs.{Acts, Turns, Tells, dropped, kept_at, mapped, Supplier, Source, source_offers, heard_more, source_settled, source_acts, source_step, source_after}
-use Rattle.pearl_rules.proofs.Offered.{picked, effect-ends, dropped_inside, dropped_outside, step-entries, step_source}
+use Rattle.pearl_rules.proofs.Offered.{picked, effect-ends, emptied, dropped_inside, dropped_outside, step-entries, step_source}
 use Rattle.pearl_rules_laws.specs.Runs.{DoesOneAction}
 use Rattle.pearl_rules_laws.proofs.Standing.{can_act}
 use Rattle.pearl_rules_laws.proofs.Marks.{run_acts, turn_marks, state_marks}
-use Rattle.pearl_rules_laws.proofs.Hearing.{kept_none, kept_stays, kept_anew, kept_set, emptied, heard_other, heard_none}
+use Rattle.pearl_rules_laws.proofs.Hearing.{kept_none, kept_stays, kept_anew, kept_set, heard_other, heard_none}
 
 -- a task that stands so is active
 stands_active : (core : Core) (t priority : ℕ) → mode_of core t ≡ Active priority false → IsTrue (is_active core t)

@@ -9,21 +9,22 @@ use Rattle.std.proofs.Math.Pow.{pow_mono}
 use Rattle.std.specs.Prelude.{Option, Some, None, if◌then◌else◌, option_map, unsigned_abs}
 use Rattle.std.specs.Fmt.{signed_decimal}
 use Rattle.std.specs.List.{AllByRecursion}
-use Rattle.pearl_value.specs.declared.kind.Kind.{Kind}
 use Rattle.pearl_value.specs.declared.cell.Cell.{Cell}
 use Rattle.pearl_value.specs.declared.cell.Cell.TheVariants.{Fixed, Bits, Clock, Span}
 use Rattle.pearl_value.specs.Cells.{kind_of, FitsFixed}
+use Rattle.pearl_value.specs.Arithmetic.{fits_span}
 use Rattle.pearl_value.specs.Conversions.{fits_fixed}
 use Rattle.pearl_value.specs.WellFormed.{IsValue, FitsSpan}
 use Rattle.pearl_format.specs.declared.item.ItemCode.{ItemCode}
 use Rattle.pearl_format.specs.declared.item.ItemCode.TheVariants.{A, B1, B2, B3, B4, F, T, D, X, Skip}
 use Rattle.pearl_format.specs.Fields.{width_or, right_field, left_field, bits_text, clock_text, span_text, digit_count}
-use Rattle.pearl_format.specs.Items.{data_here, skip_count, SuitsItem, Suits}
+use Rattle.pearl_format.specs.Items.{data_here, skip_count, Suits}
 use Rattle.pearl_format.specs.Parts.{own_text, bits_item}
 use Rattle.pearl_format.specs.Texts.{joined_text, text_of}
 use Rattle.pearl_format.proofs.Offered.{counted, length-last_digits}
 use Rattle.pearl_rules.specs.Literals.{bare, signed_number, bits_literal, clock_literal, span_literal}
-use Rattle.pearl_rules.specs.Scan.{Got, is_blank, field, lines_length, behind_line, if_fits, fits_span, good_or_bad, if_complete, if_skipped, scan_item, behind, followed_by, scan}
+use Rattle.pearl_rules.specs.Scan.{Got, is_blank, field, lines_length, behind_line, if_fits, good_or_bad, if_complete, if_skipped, scan_item, behind, followed_by, scan}
+use Rattle.pearl_rules.proofs.Offered.{rest_suits}
 use Rattle.pearl_scan.specs.Laws.{WritesAll, ReadsWhatIsWritten}
 use Rattle.pearl_scan.proofs.Written.{IsSolid, bare-right, bare-left, solid_bytes, bits_solid, number_solid, clock_solid, span_solid, FitsInSize, reads_number, reads_clock, reads_span, reads_bits, field_of, Unbroken, unbroken-append, unbroken-blanks, unbroken-number, unbroken-clock, unbroken-span, unbroken-bits, some_digits}
 
@@ -191,27 +192,6 @@ drop-values : (n : ℕ) (values : List Cell) → AllByRecursion IsValue values �
 drop-values zero values are = are
 drop-values (suc n) [] are = tt
 drop-values (suc n) (value ∷ values) are = drop-values n values are.1
-
--- what an item leaves suits the items behind it
-rest_suits : (code : ItemCode) (width : ℕ) (kinds : List Kind) (rest : List Kind → Type 0) → SuitsItem code width kinds rest → rest (drop (data_here code) kinds)
-rest_suits X width kinds rest suits = suits
-rest_suits Skip width kinds rest suits = suits
-rest_suits A width [] rest suits = absurd suits
-rest_suits A width (own ∷ kinds) rest suits = suits.1
-rest_suits B1 width [] rest suits = absurd suits
-rest_suits B1 width (own ∷ kinds) rest suits = suits.1
-rest_suits B2 width [] rest suits = absurd suits
-rest_suits B2 width (own ∷ kinds) rest suits = suits.1
-rest_suits B3 width [] rest suits = absurd suits
-rest_suits B3 width (own ∷ kinds) rest suits = suits.1
-rest_suits B4 width [] rest suits = absurd suits
-rest_suits B4 width (own ∷ kinds) rest suits = suits.1
-rest_suits F width [] rest suits = absurd suits
-rest_suits F width (own ∷ kinds) rest suits = suits.1
-rest_suits T width [] rest suits = absurd suits
-rest_suits T width (own ∷ kinds) rest suits = suits.1
-rest_suits D width [] rest suits = absurd suits
-rest_suits D width (own ∷ kinds) rest suits = suits.1
 
 nothing_left : (values : List Cell) → Suits [] (map kind_of values) → values ≡ []
 nothing_left [] suits = refl

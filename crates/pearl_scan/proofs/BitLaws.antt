@@ -1,7 +1,7 @@
 -- What digits of some bits each spell.
-use Rattle.std.proofs.Common.{◌≡◌, ◌<◌, ◌≤◌, ℕ, zero, suc, ◌+◌, ◌-◌, ◌*◌, ◌/◌, ◌%◌, ◌^◌, List, [], ◌∷◌, ◌++◌, Bool, true, false, not, cond, ◌&&◌, ◌==◌, length, refl, arith, nat_le, nat_lt, sym, ◌∙◌, ap, subst, length-append, take, drop}
+use Rattle.std.proofs.Common.{◌≡◌, ◌<◌, ◌≤◌, ℕ, zero, suc, ◌+◌, ◌-◌, ◌*◌, ◌/◌, ◌%◌, ◌^◌, List, [], ◌∷◌, ◌++◌, Bool, true, false, not, ◌&&◌, ◌==◌, length, refl, arith, nat_le, nat_lt, sym, ◌∙◌, ap, subst, length-append, take, drop}
 use Rattle.std.proofs.lemmas.List.{length-take-le, length-drop, take-append-drop}
-use Rattle.std.proofs.lemmas.Bool.{false≢true, leb-true, leb-false, lt-leb, le-leb, ne_eqb, lt-ltb, eqb-true, eqb-false, eq-eqb, ltb-true}
+use Rattle.std.proofs.lemmas.Bool.{false≢true, leb-true, lt-leb, le-leb, ne_eqb, lt-ltb, eqb-true, eqb-false}
 use Rattle.std.proofs.lemmas.Bool.Decides.{nat_tests}
 use Rattle.std.proofs.lemmas.Nat.{shl-shr, shr-shr, mod-pow-add, mod_low, pow_pos, shl_whole, mul-add-lt, pow-add, shr_high, shr_below, mul-le}
 use Rattle.std.proofs.Math.Pow.{pow_mono}
@@ -13,9 +13,9 @@ use Rattle.std.specs.Char.{digit_value, is_ascii_lowercase}
 use Rattle.std.specs.List.{list_all}
 use Rattle.std.specs.Str.Parse.{digits_value, digits_value_after}
 use Rattle.pearl_rules.specs.Literals.{is_bit_digit, bits_number, bits_within, bits_literal}
+use Rattle.pearl_rules.proofs.Offered.{bit_digits, pow_pow}
 use Rattle.pearl_scan.specs.Digits.{bits_followed}
 use Rattle.pearl_scan.proofs.Numbers.{and_then}
-use Rattle.pearl_scan.proofs.Kept.{bit_digits, pow_pow}
 
 -- ONE DIGIT AFTER ANOTHER
 

@@ -1,4 +1,3 @@
-mod Kept
 mod Numbers
 mod BitLaws
 mod Pieces

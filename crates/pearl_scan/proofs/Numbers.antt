@@ -1,11 +1,11 @@
 -- What digits are that are read one after another.
-use Rattle.std.proofs.Common.{◌≡◌, ◌<◌, ◌≤◌, ℕ, ◌+◌, ◌*◌, List, [], ◌∷◌, Bool, true, false, cond, ◌&&◌, length, refl, arith, nat_le, lit<, sym, ◌∙◌, ap}
+use Rattle.std.proofs.Common.{◌≡◌, ◌<◌, ◌≤◌, ℕ, ◌+◌, ◌*◌, List, [], ◌∷◌, Bool, true, false, ◌&&◌, length, refl, arith, nat_le, sym, ◌∙◌}
 use Rattle.std.proofs.lemmas.Bool.{leb-true, leb-false, le-leb, lt-leb}
 use Rattle.std.specs.Prelude.{Option, Some, None, if◌then◌else◌}
 use Rattle.std.specs.Char.{digit_value, is_ascii_digit}
 use Rattle.std.specs.Str.{all_ascii_digits}
 use Rattle.std.specs.Str.Parse.{digits_value, digits_value_after}
-use Rattle.pearl_rules.specs.Literals.{at_most, decimal_number, number_up_to}
+use Rattle.pearl_rules.specs.Literals.{at_most, number_up_to}
 use Rattle.pearl_scan.specs.Digits.{followed}
 
 abbrev pub and_then : Option ℕ → (ℕ → Option ℕ) → Option ℕ

@@ -1,6 +1,6 @@
 -- What texts are that are read piece by piece.
-use Rattle.std.proofs.Common.{◌≡◌, ◌<◌, ◌≤◌, ℕ, zero, suc, ◌+◌, ◌-◌, ◌*◌, ◌^◌, ℤ, pos, List, [], ◌∷◌, ◌++◌, Bool, true, false, not, cond, ◌&&◌, ◌==◌, length, drop, take, replicate, refl, arith, nat_le, nat_lt, sym, ◌∙◌, ap, subst}
-use Rattle.std.proofs.lemmas.Bool.{false≢true, leb-true, leb-false, le-leb, lt-leb, lt-ltb, le-ltb}
+use Rattle.std.proofs.Common.{◌≡◌, ◌<◌, ◌≤◌, ℕ, zero, suc, ◌+◌, ◌-◌, ◌*◌, ◌^◌, ℤ, List, [], ◌∷◌, Bool, true, false, not, cond, ◌&&◌, length, drop, take, refl, arith, nat_le, nat_lt, sym, ◌∙◌, ap, subst}
+use Rattle.std.proofs.lemmas.Bool.{leb-false, le-leb, lt-leb, lt-ltb, le-ltb}
 use Rattle.std.proofs.lemmas.Bool.Decides.{nat_tests}
 use Rattle.std.proofs.lemmas.Int.{ints, to_z-of_z, fits_signed_from_abs}
 use mir.Syntax.{w128}
@@ -10,16 +10,12 @@ use Rattle.std.proofs.lemmas.List.{take_rest, drop-drop}
 use Rattle.std.proofs.Math.Pow.{pow_mono}
 use Rattle.std.specs.Prelude.{Option, Some, None, IfSome, if◌then◌else◌, option_map, position, unsigned_abs}
 use Rattle.std.specs.Char.{digit_value, is_ascii_digit}
-use Rattle.std.specs.List.{slice_split, onto_first, position_or_len, before_first, after_first, count_by}
-use Rattle.std.specs.Str.{all_ascii_digits}
-use Rattle.std.specs.Str.Parse.{digits_value}
-use Rattle.pearl_value.specs.declared.kind.Kind.TheVariants as kind
-use Rattle.pearl_value.specs.Kinds.{IsKind}
+use Rattle.std.specs.List.{slice_split, onto_first, position_or_len}
 use Rattle.pearl_value.specs.Conversions.{fits_fixed}
-use Rattle.pearl_rules.specs.Literals.{at_most, decimal_number, number_up_to, thousandths, with_point, with_colons, minus}
+use Rattle.pearl_rules.specs.Literals.{at_most, decimal_number, number_up_to, thousandths, with_point, with_colons}
 use Rattle.pearl_rules.specs.Scan.{is_line_end, lines_length, behind_line, if_fits}
+use Rattle.pearl_rules.proofs.Offered.{thousandths-below}
 use Rattle.pearl_scan.specs.Digits.{signed}
-use Rattle.pearl_scan.proofs.Kept.{thousandths-below}
 
 -- DIGITS BEHIND A POINT
 

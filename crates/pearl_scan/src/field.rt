@@ -3,6 +3,7 @@
 ghost use Rattle.std.specs.Prelude.{◌≡◌, ◌≤◌, ◌<◌, Option, Some, None, IfSome, IfNone, option_map, ◌^◌, pos, length, take, drop};
 ghost use Rattle.std.specs.List.{position_or_len};
 ghost use Rattle.pearl_value.specs.Kinds.{IsKind};
+ghost use Rattle.pearl_value.specs.Arithmetic.{fits_span};
 ghost use Rattle.pearl_value.specs.Conversions.{fits_fixed};
 ghost use Rattle.pearl_value.specs.declared.kind.Kind.TheVariants as kind;
 ghost use Rattle.pearl_format.specs.Fields as fields;
@@ -115,7 +116,7 @@ fn fixed_number(len: u8, text: &[u8]) -> Option<i64>
 
 // A length of time of a size of at most 2^40 milliseconds.
 fn span_number(text: &[u8]) -> Option<i64>
-    ensures { result ≡ spec.if_fits spec.fits_span (literals.span_literal spec.is_blank text.now) }
+    ensures { result ≡ spec.if_fits fits_span (literals.span_literal spec.is_blank text.now) }
 {
     let value = span_literal(Gap::Blanks, text)?;
     if -(1i128 << 40) <= value && value <= 1i128 << 40 {

@@ -1,4 +1,4 @@
-use Rattle.std.proofs.Common.{◌*◌, sym, ◌∙◌, arith}
+use Rattle.std.proofs.Common.{◌*◌, sym, ◌∙◌}
 use Rattle.pearl_scan.proofs.Pieces.{no_digits, two_read, below_thousand}
 use Rattle.pearl_scan.proofs.number.thousandths.Goals as goal
 

@@ -1,4 +1,4 @@
-use Rattle.std.proofs.Common.{◌≡◌, ◌-◌, ◌∷◌, [], ◌++◌, arith, ap, ◌∙◌, length, take, drop, length-append}
+use Rattle.std.proofs.Common.{◌≡◌, ◌-◌, ◌∷◌, [], ◌++◌, arith, ap, ◌∙◌, length, drop, length-append}
 use Rattle.std.proofs.lemmas.List.{length-take, length-drop}
 use Rattle.arrayvec.specs.ArrayVec.{ArrayVec}
 use Rattle.pearl_value.specs.declared.cell.Cell.{Cell}
