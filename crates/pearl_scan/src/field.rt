@@ -1,6 +1,6 @@
 // Fields, and what a field is for a target.
 
-ghost use Rattle.std.specs.Prelude.{◌≡◌, ◌≤◌, ◌<◌, Option, Some, None, IfSome, IfNone, option_map, ◌^◌, pos, length, take, drop};
+ghost use Rattle.std.specs.Prelude.{◌≡◌, ◌≤◌, ◌<◌, Option, Some, None, IfSome, IfNone, option_map, length, take, drop};
 ghost use Rattle.std.specs.List.{position_or_len};
 ghost use Rattle.pearl_value.specs.Kinds.{IsKind};
 ghost use Rattle.pearl_value.specs.Arithmetic.{fits_span};
@@ -20,6 +20,7 @@ use crate::span::span_literal;
 use arrayvec::ArrayVec;
 use pearl_format::item::ItemCode;
 use pearl_value::cell::Cell;
+use pearl_value::conversion::is_in_range;
 use pearl_value::kind::Kind;
 
 /// The field at the front: so many bytes, or those before a line end that comes first; none where it isn't complete.
@@ -49,23 +50,6 @@ fn letters(len: u8, text: &[u8]) -> ArrayVec<u8, 255>
         all.push(b' ');
     }
     all
-}
-
-// 2^len, for a length of at most 63.
-fn power_of_two(len: u8) -> i128
-    requires { len ≤ 63 }
-    ensures { result ≡ pos (2 ^ len) }
-{
-    (1u64 << len) as i128
-}
-
-// Whether a number lies from -2^len to 2^len - 1.
-fn is_in_range(value: i128, len: u8) -> bool
-    requires { len ≤ 63 }
-    ensures { result ≡ fits_fixed len value }
-{
-    let end = power_of_two(len);
-    -end <= value && value <= end - 1
 }
 
 // Whether `-` stands in front of the digits, and the digits behind a sign.
