@@ -21,6 +21,7 @@ use Rattle.pearl_instructions.specs.Lawful.{IsCode, IsObject}
 use Rattle.pearl_instructions.specs.Rows.{row, after}
 use Rattle.pearl_instructions.specs.Valid.{unsound, IsValid}
 use Rattle.pearl_instructions.specs.Stacks.{Answers}
+use Rattle.pearl_instructions.proofs.Letters.{letter_is_id}
 use Rattle.pearl_instructions.proofs.Examples.{fixed, code, item}
 use Rattle.pearl_instructions.proofs.ExampleRows.{number, offered, frame}
 use Rattle.pearl_instructions.proofs.ExampleObject.{nowhere, small}
@@ -72,8 +73,8 @@ it_is_lawful = record {
   formats = (((omega arith, omega arith), tt), tt);
   procedures = tt;
   tasks = (
-    record { code = is_leading; named = refl; urgent = (omega arith, omega arith) },
-    (record { code = is_following; named = refl; urgent = (omega arith, omega arith) }, tt),
+    record { code = is_leading; named = letter_is_id 65 (inl (omega arith, omega arith)); urgent = (omega arith, omega arith) },
+    (record { code = is_following; named = letter_is_id 66 (inl (omega arith, omega arith)); urgent = (omega arith, omega arith) }, tt),
   );
   semaphores = (omega arith, (omega arith, tt));
   few_formats = omega arith;

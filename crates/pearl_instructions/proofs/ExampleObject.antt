@@ -1,5 +1,5 @@
 -- A whole object that is lawful and valid: FOR I FROM 1 TO 3 REPEAT GET V; CALL P(V); PUT V; END, where P adds 1 to its parameter.
-use Rattle.std.proofs.Common.{◌≡◌, ℕ, zero, suc, ◌<◌, ◌^◌, pos, List, [], ◌∷◌, Option, Some, None, length, slice_get, refl, ap, ◌∙◌, arith, Bool, true, false, ne_eqb, ltb-true, ltb-false}
+use Rattle.std.proofs.Common.{◌≡◌, ℕ, zero, suc, ◌<◌, ◌^◌, pos, List, [], ◌∷◌, Option, Some, None, length, slice_get, inl, refl, ap, ◌∙◌, arith, Bool, true, false, ne_eqb, ltb-true, ltb-false}
 use Rattle.std.specs.Prelude.{◌&&◌, ◌==◌, nat_lt, is_none, if◌then◌else◌}
 use Rattle.std.proofs.lemmas.Int.{ints}
 use Rattle.pearl_value.specs.declared.kind.Kind.TheVariants as kind
@@ -19,6 +19,7 @@ use Rattle.pearl_instructions.specs.Objects.{routine_at}
 use Rattle.pearl_instructions.specs.Lawful.{IsCode, IsObject}
 use Rattle.pearl_instructions.specs.Valid.{judged_at, judged_whole, unsound_in, unsound, IsValid}
 use Rattle.pearl_instructions.proofs.Tests.{and_true}
+use Rattle.pearl_instructions.proofs.Letters.{letter_is_id}
 use Rattle.pearl_instructions.proofs.Examples.{fixed, code, item}
 
 abbrev pub number : ℕ → Instr
@@ -101,7 +102,7 @@ it_is_lawful = record {
   leaves = tt;
   formats = (((omega arith, omega arith), ((tt, omega arith), tt)), tt);
   procedures = (record { code = is_adding; result = tt }, tt);
-  tasks = (record { code = is_looping; named = refl; urgent = (omega arith, omega arith) }, tt);
+  tasks = (record { code = is_looping; named = letter_is_id 84 (inl (omega arith, omega arith)); urgent = (omega arith, omega arith) }, tt);
   semaphores = tt;
   few_formats = omega arith;
   few_slots = omega arith;

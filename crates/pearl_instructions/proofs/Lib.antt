@@ -17,6 +17,7 @@ mod Sound
 mod Begun
 mod Moved
 mod Owned
+mod Letters
 mod Examples
 mod ExampleRows
 mod ExampleValues

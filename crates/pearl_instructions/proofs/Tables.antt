@@ -2,6 +2,7 @@
 use Rattle.std.proofs.Common.{◌≡◌, List, [], ◌∷◌, length, map, arith}
 use Rattle.std.specs.List.{AllByRecursion}
 use Rattle.std.proofs.lemmas.List.{length-map}
+use Rattle.pearl_tree.proofs.Offered.{ids_are_names}
 use Rattle.pearl_rules.specs.Tables.{IsTaskEntry}
 use Rattle.pearl_instructions.specs.declared.object.Task.{Task}
 use Rattle.pearl_instructions.specs.Lawful.{IsTask}
@@ -11,7 +12,7 @@ use Rattle.pearl_instructions.proofs.Slots.{all_long, all_values, slot_known}
 
 entries : (tasks : List Task) → AllByRecursion IsTask tasks → AllByRecursion IsTaskEntry (map entry_of tasks)
 entries [] all = tt
-entries (task ∷ tasks) all = (record { urgent = all.0.urgent; named = all.0.named }, entries tasks all.1)
+entries (task ∷ tasks) all = (record { urgent = all.0.urgent; named = ids_are_names task.name.items all.0.named }, entries tasks all.1)
 
 pub are_tables : AreTables
 are_tables o is =

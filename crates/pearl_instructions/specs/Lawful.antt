@@ -1,14 +1,14 @@
 -- What is asked of each object, before any rule of the validator: lengths, counts, kinds, names and numbers.
-use Rattle.std.specs.Prelude.{ℕ, ◌^◌, ◌<◌, ◌≤◌, List, [], ◌∷◌, IfSome, IsTrue, length, drop, sum_by}
+use Rattle.std.specs.Prelude.{ℕ, ◌^◌, ◌<◌, ◌≤◌, List, [], ◌∷◌, IfSome, length, drop, sum_by}
 use Rattle.std.specs.List.{AllByRecursion}
 use Rattle.pearl_value.specs.declared.kind.CellKind.{CellKind}
 use Rattle.pearl_value.specs.declared.kind.CellKind.TheVariants.{Plain, RefTo}
 use Rattle.pearl_value.specs.Kinds.{IsKind}
 use Rattle.pearl_value.specs.WellFormed.{IsValue, IsValueOf, IsLetter}
-use Rattle.pearl_value.specs.Names.{is_id}
 use Rattle.pearl_format.specs.Items.{IsFormat}
 use Rattle.pearl_value.specs.Devices.{IsDevice}
 use Rattle.pearl_value.specs.Devices as device_list
+use Rattle.pearl_tree.specs.Tokens.{IsId}
 use Rattle.pearl_instructions.specs.declared.instr.Instr.{Instr}
 use Rattle.pearl_instructions.specs.declared.object.Leaf.{Leaf}
 use Rattle.pearl_instructions.specs.declared.object.Shape.{Shape as Stated}
@@ -62,9 +62,10 @@ pub record IsProcedure (p : Procedure) : Type 0 where
   pub code : IsCode p.params p.code
   pub result : IfSome p.result IsKind
 
+-- its name is an identifier, so none of the language's words
 pub record IsTask (t : Task) : Type 0 where
   pub code : IsCode 0 t.code
-  pub named : IsTrue (is_id t.name.items)
+  pub named : IsId t.name.items
   pub urgent : (0 < t.priority) × (t.priority ≤ 255)
 
 -- at most 200 procedures and tasks each, 1,000 semaphores, 396 devices and 65,536 slots; a format has a number of 32 bits, and the

@@ -1,9 +1,11 @@
 -- A whole program that is sound:
 -- SPC tty DATION INOUT ALPHIC;DCL a(3) FIXED INIT(1);p:PROC(x FIXED IDENT);x:=x+a(1);END;
 -- t:TASK MAIN;DCL n FIXED;FOR i TO 3 REPEAT a(i):=i;CALL p(n);GET n FROM tty BY F(3);END;END;
-use Rattle.std.specs.Prelude.{◌≡◌, ℕ, ◌<◌, ◌≤◌, ◌^◌, nat_eq, pos, true, [], ◌∷◌, Some, None, slice_get, codes}
-use Rattle.std.specs.List.{IsDistinct}
-use Rattle.std.proofs.Common.{inl, inr, refl, sym, subst, arith}
+use Rattle.std.specs.Prelude.{◌≡◌, ℕ, ◌<◌, ◌≤◌, ◌^◌, nat_eq, nat_lt, pos, true, List, [], ◌∷◌, Some, None, length, slice_get, slice_index_or, codes}
+use Rattle.std.specs.List.{IsDistinct, list_all}
+use Rattle.std.proofs.Common.{inl, inr, refl, sym, ap, subst, ltb-true, arith}
+use Rattle.std.proofs.lemmas.List.Elements.{All-nil, All-cons}
+use Rattle.std.proofs.lemmas.List.Sums.{AllPass-from_list_all}
 use Rattle.std.proofs.lemmas.Int.{ints}
 use Rattle.pearl_value.specs.declared.kind.Kind.{Kind}
 use Rattle.pearl_value.specs.declared.kind.Kind.TheVariants.{Fixed}
@@ -12,6 +14,8 @@ use Rattle.pearl_value.specs.declared.cell.Cell.TheVariants as cell
 use Rattle.pearl_value.specs.declared.operator.Dyad.TheVariants.{Add}
 use Rattle.pearl_value.specs.WellFormed.{IsValueOf}
 use Rattle.pearl_format.specs.declared.item.ItemCode.TheVariants.{F}
+use Rattle.pearl_tree.specs.Words.{meanings, words}
+use Rattle.pearl_tree.specs.Tokens.{IsIdByte, IsId}
 use Rattle.pearl_program.specs.declared.expression.Target.TheVariants.{Leaf, Own, Param}
 use Rattle.pearl_value.specs.declared.device.Direction.TheVariants.{InOut}
 use Rattle.pearl_value.specs.declared.device.Device.TheVariants.{Terminal}
@@ -144,9 +148,25 @@ distinct : IsDistinct nat_eq (1 ∷ 2 ∷ 3 ∷ 4 ∷ 5 ∷ [])
 unfolding IsDistinct
 distinct = ((refl, (refl, (refl, (refl, tt)))), ((refl, (refl, (refl, tt))), ((refl, (refl, tt)), ((refl, tt), (tt, tt)))))
 
+-- no word is as short as t
+all_long : list_all (λ (row : List ℕ × ℕ). nat_lt 1 (length row.0)) words ≡ true
+unfolding words meanings
+all_long = refl
+
+name_is : IsId (codes "t")
+name_is = record {
+  begins = inr (omega arith, omega arith);
+  bytes = All-cons IsIdByte 116 [] (inl (inr (omega arith, omega arith))) (All-nil IsIdByte);
+  length = omega arith;
+  no_word = λ k row within same.
+      let long = ltb-true 1 (length (slice_index_or words k row).0) (AllPass-from_list_all (λ (row : List ℕ × ℕ). nat_lt 1 (length row.0)) words all_long k row within) in
+      let one = ap length same in
+      omega (arith, long, one);
+}
+
 task_sound : IsTask program task
 task_sound = record {
-  named = refl;
+  named = name_is;
   urgent = (omega arith, omega arith);
   routine = record {
     params = tt;

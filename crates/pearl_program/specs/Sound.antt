@@ -1,16 +1,16 @@
 -- Which programs are sound: every number names a thing of the needed sort, every value suits, hidden cells serve nothing
 -- else, no procedure calls its own or a greater number, and every size is in its range.
-use Rattle.std.specs.Prelude.{ℕ, ◌+◌, ◌<◌, ◌≤◌, false, nat_eq, IsTrue, List, [], ◌∷◌, length, map, take, drop, Option, Some, None}
+use Rattle.std.specs.Prelude.{ℕ, ◌+◌, ◌<◌, ◌≤◌, false, nat_eq, List, [], ◌∷◌, length, map, take, drop, Option, Some, None}
 use Rattle.std.specs.List.{AllByRecursion, IsDistinct, sum_by}
 use Rattle.pearl_value.specs.declared.kind.Kind.{Kind}
 use Rattle.pearl_value.specs.declared.kind.CellKind.{CellKind}
 use Rattle.pearl_value.specs.declared.kind.CellKind.TheVariants.{Plain, RefTo}
 use Rattle.pearl_value.specs.Kinds.{IsKind}
 use Rattle.pearl_value.specs.WellFormed.{IsLetter}
-use Rattle.pearl_value.specs.Names.{is_id}
 use Rattle.pearl_value.specs.Counts.{IsPreset}
 use Rattle.pearl_value.specs.Devices.{IsDevice, AreRising}
 use Rattle.pearl_format.specs.Items.{IsFormat}
+use Rattle.pearl_tree.specs.Tokens.{IsId}
 use Rattle.pearl_program.specs.PlainPrograms.{PlainLeaf, PlainRoutine, PlainProcedure, PlainTask, PlainProg}
 use Rattle.pearl_program.specs.Typing.{Signature, Around}
 use Rattle.pearl_program.specs.SoundStatements.{IsIf, AreFirst, AreStmts}
@@ -71,8 +71,9 @@ CallSmaller number [] = Unit {0}
 CallSmaller number (procedure ∷ rest) =
     (greatest_of_all calls procedure.routine.body ≤ number) × CallSmaller (number + 1) rest
 
+-- its name is an identifier of the source
 pub record IsTask (p : PlainProg) (task : PlainTask) : Type 0 where
-  pub named : IsTrue (is_id task.name)
+  pub named : IsId task.name
   pub urgent : (0 < task.priority) × (task.priority ≤ 255)
   pub routine : IsRoutine p 0 None task.routine
 
