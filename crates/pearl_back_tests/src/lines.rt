@@ -125,7 +125,7 @@ fn is_refusal_line(refusal: &Refusal, want: &[u8]) -> bool {
 
 #[test]
 fn refusals(rt: HostRuntime) {
-    let table: [(Refusal, &[u8]); 7] = [
+    let table: [(Refusal, &[u8]); 10] = [
         (Refusal::Usage, b"error usage\n"),
         (Refusal::Syntax(0), b"error syntax 0\n"),
         (
@@ -142,6 +142,9 @@ fn refusals(rt: HostRuntime) {
         (Refusal::Read, b"error read\n"),
         (Refusal::Memory, b"error memory\n"),
         (Refusal::TooLong(1_048_577), b"error too long 1048577\n"),
+        (Refusal::Snapshot(23), b"error snapshot 23\n"),
+        (Refusal::State(5), b"error snapshot state N5\n"),
+        (Refusal::Name(2), b"error name 2\n"),
     ];
     for (number, (refusal, want)) in table.iter().enumerate() {
         assert!(rt; is_refusal_line(refusal, want), "row {number}");

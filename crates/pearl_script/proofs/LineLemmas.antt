@@ -9,7 +9,7 @@ use Rattle.pearl_rules.specs.declared.event.Shown.TheVariants.{Dormant, Suspende
 use Rattle.pearl_rules.specs.declared.setup.Setup.{Setup}
 use Rattle.pearl_rules.specs.Core.{Report, Happened, Shows}
 use Rattle.pearl_script.specs.declared.refusal.Refusal.{Refusal}
-use Rattle.pearl_script.specs.declared.refusal.Refusal.TheVariants.{Usage, Syntax, Source, Object, Unsound, Journal, Read, Memory, TooLong}
+use Rattle.pearl_script.specs.declared.refusal.Refusal.TheVariants.{Usage, Syntax, Source, Object, Unsound, Snapshot, State, Journal, Read, Memory, TooLong, Name}
 use Rattle.pearl_script.specs.Words.{task_name}
 use Rattle.pearl_script.specs.Lines.{event_line, state_line, close_line, report_line, lines_of}
 use Rattle.pearl_script.specs.Refusals.{refusal_line}
@@ -58,7 +58,10 @@ refusal_line_nonempty (Syntax place) = omega arith
 refusal_line_nonempty (Source place rule) = omega arith
 refusal_line_nonempty (Object place) = omega arith
 refusal_line_nonempty (Unsound routine instruction rule) = omega arith
+refusal_line_nonempty (Snapshot place) = omega arith
+refusal_line_nonempty (State rule) = omega arith
 refusal_line_nonempty (Journal line code) = omega arith
 refusal_line_nonempty Read = omega arith
 refusal_line_nonempty Memory = omega arith
 refusal_line_nonempty (TooLong count) = omega arith
+refusal_line_nonempty (Name number) = omega arith

@@ -27,6 +27,10 @@ pub enum Refusal {
         instruction: u64,
         rule: u8,
     },
+    /// At this byte the bytes are no saved run.
+    Snapshot(u32),
+    /// In a saved run the rule of this number fails.
+    State(u8),
     /// A journal's line, the first being 1, is refused for the reason with this number.
     Journal {
         line: u64,
@@ -38,6 +42,8 @@ pub enum Refusal {
     Memory,
     /// A file has at least so many bytes, which is too many.
     TooLong(u64),
+    /// The name of this number, the first being 1, can't be watched.
+    Name(u32),
 }
 
 /// Makes `into` the line of a refusal, whatever it held before.
@@ -61,6 +67,8 @@ pub fn refusal_line(refusal: &Refusal, into: &mut ArrayVec<u8, 2304>)
             push_instruction(routine, instruction, into);
             push_told(b" V", u64::from(rule), into);
         }
+        Refusal::Snapshot(place) => push_told(b"error snapshot ", u64::from(place), into),
+        Refusal::State(rule) => push_told(b"error snapshot state N", u64::from(rule), into),
         Refusal::Journal { line, code } => {
             push_named(b"error journal ", line, into);
             push_told(b" ", u64::from(code), into);
@@ -68,6 +76,7 @@ pub fn refusal_line(refusal: &Refusal, into: &mut ArrayVec<u8, 2304>)
         Refusal::Read => push_bytes(b"error read\n", into),
         Refusal::Memory => push_bytes(b"error memory\n", into),
         Refusal::TooLong(count) => push_told(b"error too long ", count, into),
+        Refusal::Name(number) => push_told(b"error name ", u64::from(number), into),
     }
 }
 

@@ -7,7 +7,7 @@ use Rattle.pearl_faithful.specs.Faithful.{IsFaithfulTo}
 use Rattle.pearl_journal.specs.Entries.{Ending}
 use Rattle.pearl_top.specs.declared.limits.TheConstants.{OBJECT_LIMIT}
 use Rattle.pearl_top.specs.declared.status.Status.{Status}
-use Rattle.pearl_top.specs.declared.status.Status.TheVariants.{Done, Usage, Refused, BadObject, BadJournal, ReadFault, WriteFault, NoMemory, TooLong}
+use Rattle.pearl_top.specs.declared.status.Status.TheVariants.{Done, Usage, Refused, BadObject, BadJournal, ReadFault, WriteFault, NoMemory, TooLong, BadName}
 use Rattle.pearl_top.specs.CheckDue.{IsUnaccepted}
 use Rattle.pearl_top.specs.CompileDue.{IsCompiled}
 use Rattle.pearl_top.specs.JournalDue.{IsRun, JournalDue}
@@ -52,6 +52,7 @@ journal_back p o faithful rules journal rose ReadFault bytes due =
 journal_back p o faithful rules journal rose WriteFault bytes due = due
 journal_back p o faithful rules journal rose NoMemory bytes due = due
 journal_back p o faithful rules journal rose TooLong bytes due = (due.0, run_back p o faithful rules _ _ _ bytes due.1)
+journal_back p o faithful rules journal rose BadName bytes due = due
 
 module _ (run : ValidObjectsRun) (source file journal : List ℕ) (p : PlainProg) (o : Object) (is_source : IsSource source p) (code : IsCodeOf file o) (faithful : IsFaithfulTo p o) where
   to_run : (status : Status) (bytes : List ℕ) → status ≢ NoMemory → ExecDue file journal ⊥ ⊥ status bytes → RunDue source journal ⊥ ⊥ status bytes

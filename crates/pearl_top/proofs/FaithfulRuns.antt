@@ -15,7 +15,7 @@ use Rattle.pearl_journal.specs.Entries.{Ending}
 use Rattle.pearl_journal.specs.Readings as readings
 use Rattle.pearl_journal.proofs.Offered.{entries-fit}
 use Rattle.pearl_top.specs.declared.status.Status.{Status}
-use Rattle.pearl_top.specs.declared.status.Status.TheVariants.{Done, Usage, Refused, BadObject, BadJournal, ReadFault, WriteFault, NoMemory, TooLong}
+use Rattle.pearl_top.specs.declared.status.Status.TheVariants.{Done, Usage, Refused, BadObject, BadJournal, ReadFault, WriteFault, NoMemory, TooLong, BadName}
 use Rattle.pearl_top.specs.JournalDue.{IsRun, JournalDue}
 use Rattle.pearl_top.specs.Laws.{ObjectsWriteAlike}
 use Rattle.pearl_top.specs.Runners.{Ended, by_code, by_rules}
@@ -70,3 +70,4 @@ journals_alike p o faithful journal rose ReadFault bytes due =
 journals_alike p o faithful journal rose WriteFault bytes due = due
 journals_alike p o faithful journal rose NoMemory bytes due = due
 journals_alike p o faithful journal rose TooLong bytes due = (due.0, run_alike p o _ _ _ bytes faithful due.1)
+journals_alike p o faithful journal rose BadName bytes due = due

@@ -3,7 +3,7 @@ use Rattle.std.proofs.Common.{◌≡◌, ◌≢◌, ◌<◌, ◌≤◌, ◌⊎�
 use Rattle.pearl_script.specs.declared.refusal.Refusal.TheVariants as refusal
 use Rattle.pearl_script.specs.Refusals.{refusal_line}
 use Rattle.pearl_top.specs.declared.status.Status.{Status}
-use Rattle.pearl_top.specs.declared.status.Status.TheVariants.{Done, Usage, Refused, BadObject, BadJournal, ReadFault, WriteFault, NoMemory, TooLong}
+use Rattle.pearl_top.specs.declared.status.Status.TheVariants.{Done, Usage, Refused, BadObject, BadJournal, ReadFault, WriteFault, NoMemory, TooLong, BadName}
 use Rattle.pearl_top.specs.Reading.{Sort, ASource, AnObject, DueAt, UnreadDue, limit_of}
 
 -- what is due at a file, told otherwise
@@ -21,6 +21,7 @@ at_file_as sort file done refused finer coarser rose risen ReadFault bytes ends 
 at_file_as sort file done refused finer coarser rose risen WriteFault bytes ends breaks on due = due
 at_file_as sort file done refused finer coarser rose risen NoMemory bytes ends breaks on due = due
 at_file_as sort file done refused finer coarser rose risen TooLong bytes ends breaks on due = due
+at_file_as sort file done refused finer coarser rose risen BadName bytes ends breaks on due = due
 
 -- what comes without a fault of reading comes where no count rose
 pub at_file_unrisen : (sort : Sort) (file : List ℕ) (done refused : List ℕ → Type 0) (rose : Type 0) (status : Status) (bytes : List ℕ) → status ≢ ReadFault →
@@ -36,6 +37,7 @@ at_file_unrisen sort file done refused rose ReadFault bytes free due = absurd (f
 at_file_unrisen sort file done refused rose WriteFault bytes free due = due
 at_file_unrisen sort file done refused rose NoMemory bytes free due = due
 at_file_unrisen sort file done refused rose TooLong bytes free due = due
+at_file_unrisen sort file done refused rose BadName bytes free due = due
 
 -- what is due where the file is not read whole
 pub at_file_unread : (sort : Sort) (file : List ℕ) (done refused : List ℕ → Type 0) (rose : Type 0) (status : Status) (bytes : List ℕ) →
@@ -51,6 +53,7 @@ at_file_unread sort file done refused rose ReadFault bytes due = due
 at_file_unread sort file done refused rose WriteFault bytes due = due
 at_file_unread sort file done refused rose NoMemory bytes due = due
 at_file_unread sort file done refused rose TooLong bytes due = due
+at_file_unread sort file done refused rose BadName bytes due = due
 
 -- a file that is within the limit and not refused comes to its end
 pub at_file_completes : (sort : Sort) (file : List ℕ) (done refused : List ℕ → Type 0) (rose : Type 0) (status : Status) (bytes : List ℕ) →
@@ -67,6 +70,7 @@ at_file_completes sort file done refused rose ReadFault bytes within never due n
 at_file_completes sort file done refused rose WriteFault bytes within never due no_memory no_read = absurd due
 at_file_completes sort file done refused rose NoMemory bytes within never due no_memory no_read = absurd (no_memory refl)
 at_file_completes sort file done refused rose TooLong bytes within never due no_memory no_read = absurd (omega (arith, within, due.0))
+at_file_completes sort file done refused rose BadName bytes within never due no_memory no_read = absurd due
 
 -- ONE OUTCOME
 
@@ -104,6 +108,7 @@ ended sort file done refused ReadFault bytes known due = absurd due.0
 ended sort file done refused WriteFault bytes known due = absurd due
 ended sort file done refused NoMemory bytes known due = absurd (known refl)
 ended sort file done refused TooLong bytes known due = inr (inr (refl, due))
+ended sort file done refused BadName bytes known due = absurd due
 
 pub within_or_long : (sort : Sort) (file bytes : List ℕ) → length file ≤ limit_of sort → IsLong sort file bytes → ⊥
 within_or_long sort file bytes within long = omega (arith, within, long.0)

@@ -5,7 +5,7 @@ use Rattle.pearl_script.specs.declared.refusal.Refusal.TheVariants as refusal
 use Rattle.pearl_journal.specs.Entries.{Ending, Entries, All, Bad, entries_from}
 use Rattle.pearl_top.specs.declared.limits.TheConstants.{JOURNAL_LIMIT}
 use Rattle.pearl_top.specs.declared.status.Status.{Status}
-use Rattle.pearl_top.specs.declared.status.Status.TheVariants.{Done, Usage, Refused, BadObject, BadJournal, ReadFault, WriteFault, NoMemory, TooLong}
+use Rattle.pearl_top.specs.declared.status.Status.TheVariants.{Done, Usage, Refused, BadObject, BadJournal, ReadFault, WriteFault, NoMemory, TooLong, BadName}
 use Rattle.pearl_top.specs.JournalDue.{IsBadJournal, IsRun, JournalDue, handled}
 use Rattle.pearl_top.specs.Runners.{Runner}
 use Rattle.pearl_top.specs.Transcript.{Close, Closed, Cut, IsTranscript}
@@ -23,6 +23,7 @@ journal_rises runner journal rose risen ReadFault bytes on due = (on due.0, due.
 journal_rises runner journal rose risen WriteFault bytes on due = due
 journal_rises runner journal rose risen NoMemory bytes on due = due
 journal_rises runner journal rose risen TooLong bytes on due = due
+journal_rises runner journal rose risen BadName bytes on due = due
 
 -- what comes without a fault of reading comes where no count rose
 pub journal_unrisen : (runner : Runner) (journal : List ℕ) (rose : Type 0) (status : Status) (bytes : List ℕ) → status ≢ ReadFault → JournalDue runner journal rose status bytes →
@@ -36,6 +37,7 @@ journal_unrisen runner journal rose ReadFault bytes free due = absurd (free refl
 journal_unrisen runner journal rose WriteFault bytes free due = due
 journal_unrisen runner journal rose NoMemory bytes free due = due
 journal_unrisen runner journal rose TooLong bytes free due = due
+journal_unrisen runner journal rose BadName bytes free due = due
 
 -- a journal that is within the limit, and of which no line is refused, comes to its end
 pub journal_completes : (runner : Runner) (journal : List ℕ) (rose : Type 0) (status : Status) (bytes : List ℕ) → length journal ≤ JOURNAL_LIMIT →
@@ -49,6 +51,7 @@ journal_completes runner journal rose ReadFault bytes within never due no_read =
 journal_completes runner journal rose WriteFault bytes within never due no_read = absurd due
 journal_completes runner journal rose NoMemory bytes within never due no_read = absurd due
 journal_completes runner journal rose TooLong bytes within never due no_read = absurd (omega (arith, within, due.0))
+journal_completes runner journal rose BadName bytes within never due no_read = absurd due
 
 -- all lines of these are accepted, and one is refused
 all_and_bad : (line code : ℕ) → All ≡ Bad line code → ⊥
@@ -109,6 +112,7 @@ comes runner journal ReadFault bytes due = absurd due.0
 comes runner journal WriteFault bytes due = absurd due
 comes runner journal NoMemory bytes due = absurd due
 comes runner journal TooLong bytes due = comes_all runner journal bytes false (le_false (length journal) JOURNAL_LIMIT due.0) due.1
+comes runner journal BadName bytes due = absurd due
 
 comes_once : (runner : Runner) (journal : List ℕ) (status other : Status) (bytes others : List ℕ) → WritesOnce runner → Comes runner journal status bytes →
     Comes runner journal other others → (status ≡ other) × (bytes ≡ others)

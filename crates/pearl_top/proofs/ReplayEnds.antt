@@ -230,6 +230,8 @@ leaves_failed o journal rose failed wider opened after old mid new (failure.Refu
 leaves_failed o journal rose failed wider opened after old mid new (failure.Refused (refusal.Source place rule)) widen start ends = absurd ends
 leaves_failed o journal rose failed wider opened after old mid new (failure.Refused (refusal.Object place)) widen start ends = absurd ends
 leaves_failed o journal rose failed wider opened after old mid new (failure.Refused (refusal.Unsound routine instruction rule)) widen start ends = absurd ends
+leaves_failed o journal rose failed wider opened after old mid new (failure.Refused (refusal.Snapshot place)) widen start ends = absurd ends
+leaves_failed o journal rose failed wider opened after old mid new (failure.Refused (refusal.State rule)) widen start ends = absurd ends
 leaves_failed o journal rose failed wider opened after old mid new (failure.Refused (refusal.Journal line code)) widen start ends =
     leaves_cut o (handled journal) (Bad line code) after old new (refusal.Journal line code) (JournalDue (by_code o) journal rose)
     (reached o (handled journal) (Bad line code) opened after old mid new start ends) (λ bytes run. record { line = line; code = code; run = run })
@@ -242,5 +244,6 @@ leaves_failed o journal rose failed wider opened after old mid new (failure.Refu
     subst (λ n. Leaves old new wider (JournalDue (by_code o) journal rose) (Err (failure.Refused (refusal.TooLong n)))) (sym ends.0)
     (leaves_cut o (handled journal) All after old new (refusal.TooLong (JOURNAL_LIMIT + 1)) (JournalDue (by_code o) journal rose)
     (reached o (handled journal) All opened after old mid new start ends.2) (λ bytes run. (ends.1, run)))
+leaves_failed o journal rose failed wider opened after old mid new (failure.Refused (refusal.Name number)) widen start ends = absurd ends
 leaves_failed o journal rose failed wider opened after old mid new failure.WriteFault widen start ends =
     (widen ends.0, leaves_broken o journal rose opened old mid new start ends.1)

@@ -7,7 +7,7 @@ use Rattle.pearl_script.specs.Refusals.{refusal_line}
 use Rattle.pearl_top.specs.declared.failure.Failure.{Failure}
 use Rattle.pearl_top.specs.declared.failure.Failure.TheVariants as failure
 use Rattle.pearl_top.specs.declared.status.Status.{Status}
-use Rattle.pearl_top.specs.declared.status.Status.TheVariants.{Done, Usage, Refused, BadObject, BadJournal, ReadFault, WriteFault, NoMemory, TooLong}
+use Rattle.pearl_top.specs.declared.status.Status.TheVariants.{Done, Usage, Refused, BadObject, BadJournal, ReadFault, WriteFault, NoMemory, TooLong, BadName}
 use Rattle.pearl_top.specs.Failures.{IsDue}
 use Rattle.pearl_top.specs.Status.{status_of}
 use Rattle.pearl_top.specs.Taken.{Finishes, Stops, Ends, OnlyDue, Leaves, Concludes}
@@ -90,6 +90,7 @@ finishes_with old new due ReadFault free done = done
 finishes_with old new due WriteFault free done = absurd (free refl)
 finishes_with old new due NoMemory free done = done
 finishes_with old new due TooLong free done = done
+finishes_with old new due BadName free done = done
 
 -- and the other way round
 pub finishes_of : (old new : Option (List ℕ)) (due : Status → List ℕ → Type 0) (status : Status) → status ≢ WriteFault → Ends old new due status →
@@ -103,6 +104,7 @@ finishes_of old new due ReadFault free ends = ends
 finishes_of old new due WriteFault free ends = absurd (free refl)
 finishes_of old new due NoMemory free ends = ends
 finishes_of old new due TooLong free ends = ends
+finishes_of old new due BadName free ends = ends
 
 is_write_fault : (status : Status) → (status ≡ WriteFault) ⊎ (status ≢ WriteFault)
 is_write_fault Done = inr (λ e. cc)
@@ -114,6 +116,7 @@ is_write_fault ReadFault = inr (λ e. cc)
 is_write_fault WriteFault = inl refl
 is_write_fault NoMemory = inr (λ e. cc)
 is_write_fault TooLong = inr (λ e. cc)
+is_write_fault BadName = inr (λ e. cc)
 
 pub ends_as : (old new : Option (List ℕ)) (due told : Status → List ℕ → Type 0) (status : Status) → ((s : Status) (bytes : List ℕ) → due s bytes → told s bytes) →
     Ends old new due status → Ends old new told status

@@ -13,7 +13,7 @@ use Rattle.pearl_top.specs.declared.failure.Failure.{Failure}
 use Rattle.pearl_top.specs.declared.failure.Failure.TheVariants as failure
 use Rattle.pearl_top.specs.declared.limits.TheConstants.{SOURCE_LIMIT, OBJECT_LIMIT}
 use Rattle.pearl_top.specs.declared.status.Status.{Status}
-use Rattle.pearl_top.specs.declared.status.Status.TheVariants.{Done, Usage, Refused, BadObject, BadJournal, ReadFault, WriteFault, NoMemory, TooLong}
+use Rattle.pearl_top.specs.declared.status.Status.TheVariants.{Done, Usage, Refused, BadObject, BadJournal, ReadFault, WriteFault, NoMemory, TooLong, BadName}
 use Rattle.pearl_top.specs.BenchDue.{BenchDue}
 use Rattle.pearl_top.specs.CheckDue.{CheckDue, IsAccepted, IsUnaccepted}
 use Rattle.pearl_top.specs.Commands.{Command, Run, Check, Print, Compile, Exec, Listed, Bench, NoCommand, ReadsObject, names_of}
@@ -282,6 +282,7 @@ just_usage old new line ReadFault ends = inl ends.is_due.0
 just_usage old new line WriteFault ends = inr refl
 just_usage old new line NoMemory ends = inl ends.is_due.0
 just_usage old new line TooLong ends = inl ends.is_due.0
+just_usage old new line BadName ends = inl ends.is_due.0
 
 -- an object is refused only where one is read
 pub bad_object : (command : Command) (contents : List (List ℕ)) (rose : List ℕ → Type 0) (old new : Option (List ℕ)) (status : Status) → status ≡ BadObject →

@@ -26,10 +26,12 @@ pub enum Status {
     NoMemory,
     /// A file has more bytes than its limit.
     TooLong,
+    /// A name can't be watched.
+    BadName,
 }
 
 impl Status {
-    /// The exit status of the process, from 0 to 8 in the order of the variants.
+    /// The exit status of the process, from 0 to 9 in the order of the variants.
     pub fn code(&self) -> u8
         ensures { result ≡ code_of self.now }
     {
@@ -43,6 +45,7 @@ impl Status {
             Status::WriteFault => 6,
             Status::NoMemory => 7,
             Status::TooLong => 8,
+            Status::BadName => 9,
         }
     }
 }
@@ -54,10 +57,12 @@ pub fn status_of(refusal: &Refusal) -> Status
     match refusal {
         Refusal::Usage => Status::Usage,
         Refusal::Syntax(_) | Refusal::Source { .. } => Status::Refused,
-        Refusal::Object(_) | Refusal::Unsound { .. } => Status::BadObject,
+        Refusal::Object(_) | Refusal::Unsound { .. } | Refusal::Snapshot(_) | Refusal::State(_) =>
+            Status::BadObject,
         Refusal::Journal { .. } => Status::BadJournal,
         Refusal::Read => Status::ReadFault,
         Refusal::Memory => Status::NoMemory,
         Refusal::TooLong(_) => Status::TooLong,
+        Refusal::Name(_) => Status::BadName,
     }
 }

@@ -300,6 +300,7 @@ fn statuses_have_their_codes(rt: HostRuntime) {
         Status::WriteFault,
         Status::NoMemory,
         Status::TooLong,
+        Status::BadName,
     ]
     .into_iter()
     .enumerate()

@@ -1,6 +1,5 @@
-use Rattle.std.proofs.Common.{◌∙◌, refl, ap, sym, arith, ◌++◌}
-use Rattle.std.proofs.lemmas.List.{append-nil}
-use Rattle.pearl_script.proofs.Bits.{bit_more, bits_by_one}
+use Rattle.std.proofs.Common.{arith}
+use Rattle.pearl_script.proofs.Bits.{bit_more}
 use Rattle.pearl_script.proofs.literal.push_bits.Goals as goal
 
 pub overflow_shr-bit : goal.overflow_shr-bit

@@ -1,5 +1,4 @@
-use Rattle.std.proofs.Common.{◌++◌, ◌∷◌, [], ap, sym, ◌∙◌, append_assoc}
-use Rattle.pearl_format.specs.Fields.{seconds_text, three_digits}
+use Rattle.std.proofs.Common.{append_assoc}
 use Rattle.pearl_script.proofs.Clocks.{clock_with_milliseconds}
 use Rattle.pearl_script.proofs.literal.push_clock.Goals as goal
 
