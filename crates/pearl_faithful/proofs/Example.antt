@@ -1,7 +1,7 @@
 -- A program, the object that it becomes, and their runs: REPEAT; CALL P; EXIT; END; and P returns.
 use Rattle.std.specs.Prelude.{◌≡◌, ℕ, zero, suc, ◌+◌, ◌==◌, Bool, true, false, if◌then◌else◌, List, [], ◌∷◌, length, map, Option, Some, None, slice_get, nat_eq, bytes_eq}
 use Rattle.std.specs.List.{IsDistinct}
-use Rattle.std.proofs.Common.{refl, sym, ap, ◌∙◌, subst, arith}
+use Rattle.std.proofs.Common.{inl, refl, sym, ap, ◌∙◌, subst, arith}
 use Rattle.std.proofs.lemmas.Bool.{true≢false}
 use Rattle.std.proofs.lemmas.Option.{same_Some}
 use Rattle.pearl_value.specs.declared.kind.Kind.TheVariants.{Clock}
@@ -20,6 +20,7 @@ use Rattle.pearl_instructions.specs.declared.object.Code.{Code}
 use Rattle.pearl_instructions.specs.declared.object.Parts.{Parts as Object}
 use Rattle.pearl_instructions.specs.Lawful.{IsObject}
 use Rattle.pearl_instructions.specs.Valid.{unsound, IsValid}
+use Rattle.pearl_instructions.proofs.Offered.{letter_is_id}
 use Rattle.pearl_meaning.specs.Programs.{offer}
 use Rattle.pearl_meaning.specs.ProgramRuns.{source_run}
 use Rattle.pearl_instructions.specs.Engines.{machine_run, marked}
@@ -93,7 +94,7 @@ procedure_sound = record {
 
 task_sound : IsTask program calling
 task_sound = record {
-  named = refl;
+  named = letter_is_id 84 (inl (omega arith, omega arith));
   urgent = (omega arith, omega arith);
   routine = record {
     params = tt;
@@ -135,7 +136,7 @@ object_lawful = record {
   tasks = (
     record {
       code = record { kinds = tt; plain = tt; few = omega arith; instructions = (tt, (tt, (tt, (tt, (tt, tt))))); shapes = tt; rising = tt };
-      named = refl;
+      named = letter_is_id 84 (inl (omega arith, omega arith));
       urgent = (omega arith, omega arith);
     },
     tt,

@@ -1,6 +1,6 @@
 -- What a sound program becomes is as each object is to be.
 use Rattle.std.proofs.Common.{◌≡◌, ℕ, ◌<◌, ◌≤◌, ◌^◌, inl, inr, List, [], ◌∷◌, Some, slice_get, length, map, refl, sym, ap, ◌∙◌, subst, arith}
-use Rattle.std.specs.Prelude.{IsTrue, IfSome, drop, sum_by}
+use Rattle.std.specs.Prelude.{IfSome, drop, sum_by}
 use Rattle.std.specs.List.{AllByRecursion}
 use Rattle.std.proofs.lemmas.List.{length-map}
 use Rattle.std.proofs.lemmas.List.Sums.{sum_by-cons}
@@ -10,8 +10,8 @@ use Rattle.pearl_value.specs.Kinds.{IsKind}
 use Rattle.pearl_value.specs.Devices as device_list
 use Rattle.pearl_value.specs.Devices.{IsDevice}
 use Rattle.pearl_rules.specs.declared.setup.TaskEntry.{TaskEntry}
-use Rattle.pearl_value.specs.Names.{is_id}
 use Rattle.pearl_format.specs.Items.{IsFormat}
+use Rattle.pearl_tree.specs.Tokens.{IsId}
 use Rattle.pearl_program.specs.PlainPrograms.{PlainLeaf, PlainProg}
 use Rattle.pearl_program.specs.Sound as sound
 use Rattle.pearl_program.specs.Sound.{IsSound, IsProcedure as IsSoundProcedure, IsTask as IsSoundTask}
@@ -96,7 +96,7 @@ module _ (p : PlainProg) (o : Object) (is_sound : IsSound p) (generated : IsGene
       record {
         code = code_lawful 0 found.code task.routine.cells (its_cells p o is_sound generated t found task here matching.1)
             (all_lawful 0 task.routine.cells is.routine.params is.routine.others) is.routine.others (omega arith) valid.lawful valid.none_stated;
-        named = subst (λ (entry : TaskEntry). IsTrue (is_id entry.name.items)) matching.2 is.named;
+        named = subst (λ (entry : TaskEntry). IsId entry.name.items) matching.2 is.named;
         urgent = subst (λ (entry : TaskEntry). (0 < entry.priority) × (entry.priority ≤ 255)) matching.2 is.urgent;
       }
 

@@ -6,11 +6,9 @@ use Rattle.std.proofs.Common.{refl, ap, ◌∙◌, sym, subst, arith}
 use Rattle.std.proofs.lemmas.List.{append-nil}
 use Rattle.pearl_value.specs.declared.kind.Kind.{Kind}
 use Rattle.pearl_value.specs.Kinds.{IsKind}
-use Rattle.pearl_tree.proofs.Offered.{ids_are_names}
 use Rattle.pearl_tree.specs.declared.typing.Basic.{Basic}
 use Rattle.pearl_tree.specs.declared.tree.Tree.{Tree}
 use Rattle.pearl_tree.specs.Lawful.{IsLawful}
-use Rattle.pearl_tree.specs.Names.{name_text}
 use Rattle.pearl_tree.specs.ShownDeclarations.{ShownParam}
 use Rattle.pearl_tree.specs.ShownModules.{ShownBody, ShownDecl, OfTask, OfProc, ShownTree, shown_tree}
 use Rattle.pearl_names.specs.Found.{names_in}
@@ -200,7 +198,7 @@ module _ (tree : ShownTree) (devices : List SpecifiedDevice) (procedures : List 
       let own = well.0 in (
         (
           record {
-            named = ids_are_names (name_text name) own.named;
+            named = own.named;
             urgent = head_fits head own.urgent;
             routine = routine_sound types at [] body (routine.Task head) None refl lies scoped written sighted own.statements own.first;
           },

@@ -1,11 +1,12 @@
 -- The laws of numbers, sizes and tasks.
-use Rattle.std.specs.Prelude.{◌≡◌, ℕ, ◌≤◌, ◌<◌, IsTrue, List, [], ◌∷◌, length, filter, None}
+use Rattle.std.specs.Prelude.{◌≡◌, ℕ, ◌≤◌, ◌<◌, List, [], ◌∷◌, length, filter, None}
 use Rattle.std.specs.List.{AllByRecursion, AllZip}
 use Rattle.std.proofs.Common.{◌∙◌, sym, arith}
 use Rattle.std.proofs.lemmas.List.{length-map}
 use Rattle.pearl_tree.specs.declared.tree.Tree.{Tree}
 use Rattle.pearl_tree.specs.Lawful.{IsLawful}
 use Rattle.pearl_tree.specs.ShownModules.{ShownTree, shown_tree}
+use Rattle.pearl_tree.specs.Tokens.{IsId}
 use Rattle.pearl_names.specs.Known.{known_of}
 use Rattle.pearl_names.specs.Tables.{table_of}
 use Rattle.pearl_scope.specs.Rules as names
@@ -16,7 +17,6 @@ use Rattle.pearl_check.specs.Rules.{all_broken}
 use Rattle.pearl_check.specs.Routines.{Routine, is_procedure, is_task, routines_of}
 use Rattle.pearl_check.specs.Sizes.{task_count, procedure_count, semaphore_count, slot_count, cells_of}
 use Rattle.pearl_program.specs.PlainPrograms.{PlainProcedure, PlainTask, PlainProg}
-use Rattle.pearl_value.specs.Names.{is_id}
 use Rattle.pearl_program.specs.Sound.{IsRoutine, CallSmaller, IsTask, HasSizes, IsSound}
 use Rattle.pearl_resolve.specs.Numbers.{first}
 use Rattle.pearl_resolve.specs.Expressions.{Numbered}
@@ -71,7 +71,7 @@ pub urgent : (tree : ShownTree) (devices : List SpecifiedDevice) (numbers : List
 urgent tree devices numbers none = tasks_urgent tree devices numbers (all_kept tree none)
 
 pub ids : (tree : Tree) (devices : List SpecifiedDevice) (numbers : List ℕ) → IsLawful tree →
-    AllByRecursion (λ (task : PlainTask). IsTrue (is_id task.name)) (resolve (table_of (shown_tree tree)) devices numbers (shown_tree tree)).tasks
+    AllByRecursion (λ (task : PlainTask). IsId task.name) (resolve (table_of (shown_tree tree)) devices numbers (shown_tree tree)).tasks
 ids tree devices numbers lawful =
     tasks_named (numbered_of (table_of (shown_tree tree)) devices numbers (shown_tree tree)) first tree.declarations.items.items lawful.declarations
 
@@ -110,7 +110,7 @@ weigh_no_more tree devices numbers none by_rule =
       tasks = tasks_weigh_no_more tree devices numbers by_rule kept limits;
     }
 
-tasks_sound : (p : PlainProg) (tasks : List PlainTask) → AllByRecursion (λ (task : PlainTask). IsTrue (is_id task.name)) tasks →
+tasks_sound : (p : PlainProg) (tasks : List PlainTask) → AllByRecursion (λ (task : PlainTask). IsId task.name) tasks →
     AllByRecursion (λ (task : PlainTask). (0 < task.priority) × (task.priority ≤ 255)) tasks →
     AllByRecursion (λ (task : PlainTask). IsRoutine p 0 None task.routine) tasks → AllByRecursion (IsTask p) tasks
 tasks_sound p [] names priorities routines = tt

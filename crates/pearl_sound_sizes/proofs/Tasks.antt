@@ -1,5 +1,5 @@
 -- The tasks of a module: their priorities, and their names.
-use Rattle.std.specs.Prelude.{◌≡◌, ℕ, ◌≤◌, ◌<◌, nat_le, not, IsTrue, List, [], ◌∷◌, map, filter, Some, None, All}
+use Rattle.std.specs.Prelude.{◌≡◌, ℕ, ◌≤◌, ◌<◌, nat_le, not, List, [], ◌∷◌, map, filter, Some, None, All}
 use Rattle.std.specs.List.{AllByRecursion, AllZip}
 use Rattle.std.proofs.Common.{ap, ◌∙◌, sym, arith}
 use Rattle.std.proofs.lemmas.Bool.{leb-true}
@@ -12,13 +12,12 @@ use Rattle.pearl_tree.specs.declared.tree.TaskHead.{TaskHead}
 use Rattle.pearl_tree.specs.declared.tree.TaskHead.TheVariants.{PrioFirst, MainFirst}
 use Rattle.pearl_tree.specs.Lawful.{IsLawfulDecl}
 use Rattle.pearl_tree.specs.ShownModules.{ShownTree, shown_decl}
-use Rattle.pearl_tree.proofs.Offered.{ids_are_names}
+use Rattle.pearl_tree.specs.Tokens.{IsId}
 use Rattle.pearl_names.specs.Tables.{table_of}
 use Rattle.pearl_system.specs.declared.device.SpecifiedDevice.{SpecifiedDevice}
 use Rattle.pearl_check.specs.Routines.{Routine, is_task, routines_of}
 use Rattle.pearl_check.specs.Rules.{is_priority, unfit_priority, head_faults, s30}
 use Rattle.pearl_program.specs.PlainPrograms.{PlainTask}
-use Rattle.pearl_value.specs.Names.{is_id}
 use Rattle.pearl_resolve.specs.Numbers.{At, after_decl, first}
 use Rattle.pearl_resolve.specs.Expressions.{Numbered}
 use Rattle.pearl_resolve.specs.Resolve.{priority_of, decl_tasks, tasks_in, numbered_of, resolve}
@@ -68,14 +67,14 @@ tasks_urgent tree devices numbers kept =
 
 -- names
 abbrev IsNamedTask : PlainTask → Type 0
-IsNamedTask task = IsTrue (is_id task.name)
+IsNamedTask task = IsId task.name
 
 decl_named : (numbered : Numbered) (at : At) (one : Decl) → IsLawfulDecl one → AllByRecursion IsNamedTask (decl_tasks numbered at (shown_decl one))
-decl_named numbered at (decl.Task name head body place) lawful = (ids_are_names name.text.items lawful.0, tt)
+decl_named numbered at (decl.Task name head body place) lawful = (lawful.0, tt)
 decl_named numbered at part lawful = tt
 
 pub tasks_named : (numbered : Numbered) (at : At) (decls : List Decl) → All IsLawfulDecl decls →
-    AllByRecursion (λ (task : PlainTask). IsTrue (is_id task.name)) (tasks_in numbered at (map shown_decl decls))
+    AllByRecursion (λ (task : PlainTask). IsId task.name) (tasks_in numbered at (map shown_decl decls))
 tasks_named numbered at [] lawful = tt
 tasks_named numbered at (one ∷ rest) lawful =
     let past = after_decl numbered.table at (shown_decl one) in

@@ -1,9 +1,10 @@
 -- What holds of the numbers of procedures, of sizes and of tasks in the program of a module.
-use Rattle.std.specs.Prelude.{◌≡◌, ℕ, ◌≤◌, ◌<◌, IsTrue, List, [], length, filter, Some, None, unwrap_or, slice_get}
+use Rattle.std.specs.Prelude.{◌≡◌, ℕ, ◌≤◌, ◌<◌, List, [], length, filter, Some, None, unwrap_or, slice_get}
 use Rattle.std.specs.List.{AllByRecursion, AllZip, sum_by}
 use Rattle.pearl_tree.specs.declared.tree.Tree.{Tree}
 use Rattle.pearl_tree.specs.Lawful.{IsLawful}
 use Rattle.pearl_tree.specs.ShownModules.{ShownTree, shown_tree}
+use Rattle.pearl_tree.specs.Tokens.{IsId}
 use Rattle.pearl_names.specs.Tables.{table_of}
 use Rattle.pearl_scope.specs.Rules as names
 use Rattle.pearl_system.specs.declared.device.SpecifiedDevice.{SpecifiedDevice}
@@ -23,7 +24,6 @@ use Rattle.pearl_check.specs.Weighing.{HoldsWeighed}
 use Rattle.pearl_program.specs.PlainPrograms.{PlainLeaf, PlainRoutine, PlainProcedure, PlainTask, PlainProg}
 use Rattle.pearl_value.specs.Devices as device_list
 use Rattle.pearl_value.specs.Counts.{IsPreset}
-use Rattle.pearl_value.specs.Names.{is_id}
 use Rattle.pearl_format.specs.Items.{IsFormat}
 use Rattle.pearl_value.specs.Devices.{AreRising}
 use Rattle.pearl_program.specs.Sound.{IsLeaf, IsRoutine, IsProcedure, CallSmaller, HasSizes, IsSound}
@@ -111,7 +111,7 @@ TasksAreUrgent = (tree : ShownTree) (devices : List SpecifiedDevice) (numbers : 
 -- the tasks of a lawful tree have ids as names
 abbrev pub TasksAreNamed : Type 0
 TasksAreNamed = (tree : Tree) (devices : List SpecifiedDevice) (numbers : List ℕ) → IsLawful tree →
-    AllByRecursion (λ (task : PlainTask). IsTrue (is_id task.name))
+    AllByRecursion (λ (task : PlainTask). IsId task.name)
     (program (shown_tree tree) devices numbers).tasks
 
 -- what else is asked of a sound program
