@@ -1,6 +1,6 @@
 -- What a wheel keeps of a timer's series, when one changes and when the wheel moves on.
 use Rattle.std.proofs.Common.{◌≡◌, ◌≢◌, ℕ, zero, suc, ◌+◌, ◌-◌, ◌^◌, ◌<◌, ◌≤◌, ◌⊎◌, inl, inr, Bool, true, false, ◌||◌, nat_lt, cond, List, Option, Some, None, length, get_or, set, replicate, refl, sym, ap, subst, ◌∙◌, arith, ltb-false, length-set, get_or-set_same, get_or-set_other}
-use Rattle.std.specs.Prelude.{IsTrue}
+use Rattle.std.specs.Prelude.{IsTrue, IfSome}
 use Rattle.std.specs.List.{count_by}
 use Rattle.std.proofs.lemmas.Bool.{cases_eq, cases_lt, lt-ltb, le-ltb, lt-leb, le-leb, false≢true}
 use Rattle.std.proofs.lemmas.List.{get_or_past, get_or-replicate, length-replicate, set-set}
@@ -12,7 +12,7 @@ use Rattle.pearl_rules.specs.Series.{fires_if}
 use Rattle.pearl_timer.specs.Next.{IsNext, NoneIsNext}
 use Rattle.pearl_timer.specs.Timetable.{Timetable, IsDue, of_kind, kept, changed, due}
 use Rattle.pearl_timer.specs.Wheel.{Moments, moment_of, EachMoment, IsLeastMoment, IsDueBy}
-use Rattle.pearl_timer.specs.Kept.{both, key_of, series_of, FiresOf, near, is_far, IsRight, IsRightOrDue, IsKept, IsMoving, is_due}
+use Rattle.pearl_timer.specs.Kept.{both, key_of, series_of, FiresOf, near, is_far, IsRight, IsRightOrDue, IsKept, IsKeptIf, Notes, IsMoving, is_due}
 use Rattle.pearl_timer.proofs.TimetableLaws.{NextOf}
 use Rattle.pearl_timer.proofs.WheelLaws.{moment_within}
 
@@ -148,6 +148,24 @@ kept_changed timetable wheel far is which task series next within its = record {
         (sym (get_or-set_other wheel.moments (key_of which task) key (near next) None differs))
         (subst (λ s. IsRight (λ t. IsTrue (fires_if s t)) wheel.elapsed (is_far next || far) (moment_of wheel key)) (sym (other_series timetable which task series key differs))
         (more_far (FiresOf timetable key) wheel.elapsed (is_far next) far (moment_of wheel key) (is.right key small)))
+
+-- WHERE THERE IS A WHEEL
+
+pub few_where : (timetable : Timetable) (wheel : Option Moments) (far : Bool) (which : Which) (task : ℕ) → IsKeptIf timetable wheel far →
+    task < length (of_kind which timetable) → IfSome wheel (λ (w : Moments). (task < 200) × (length w.moments ≡ 400))
+few_where timetable None far which task is there = tt
+few_where timetable (Some wheel) far which task is there = let few = is.few which in (omega (arith, few, there), is.keys)
+
+pub kept_if_changed : (timetable : Timetable) (old : Option Moments) (was_far : Bool) (new : Option Moments) (far : Bool) (which : Which) (task : ℕ) (series : Option Series) →
+    IsKeptIf timetable old was_far → task < length (of_kind which timetable) → Notes task which series old was_far new far →
+    IsKeptIf (changed timetable task which series) new far
+kept_if_changed timetable None was_far None far which task series is there notes = tt
+kept_if_changed timetable None was_far (Some new) far which task series is there notes = absurd notes
+kept_if_changed timetable (Some old) was_far None far which task series is there notes = absurd notes
+kept_if_changed timetable (Some old) was_far (Some new) far which task series is there notes =
+    let kept = kept_changed timetable old was_far is which task series notes.next there notes.its in
+    subst (λ (far : Bool). IsKept (changed timetable task which series) new far) (sym notes.noted)
+    (subst (λ (w : Moments). IsKept (changed timetable task which series) w (is_far notes.next || was_far)) (sym notes.kept) kept)
 
 pub moving_at_first : (timetable : Timetable) (wheel : Moments) (far : Bool) (after : ℕ) → IsKept timetable wheel far → wheel.elapsed ≤ after → IsMoving timetable wheel far after
 moving_at_first timetable wheel far after is forward = record {

@@ -1,10 +1,10 @@
 -- What a timer's wheel keeps of its series: the next moment of each, below 2 ^ 42. No public clause cites this module.
-use Rattle.std.specs.Prelude.{◌≡◌, ℕ, ◌+◌, ◌-◌, ◌^◌, ◌<◌, ◌≤◌, ◌⊎◌, Bool, true, false, List, Option, Some, None, IsTrue, MatchOption, length, cond, nat_lt, nat_le, slice_index_or}
+use Rattle.std.specs.Prelude.{◌≡◌, ℕ, ◌+◌, ◌-◌, ◌^◌, ◌<◌, ◌≤◌, ◌⊎◌, ◌||◌, Bool, true, false, List, Option, Some, None, IsTrue, MatchOption, length, cond, nat_lt, nat_le, slice_index_or, slice_set}
 use Rattle.pearl_rules.specs.declared.series.Series.{Series}
 use Rattle.pearl_timer.specs.declared.timer.Which.{Which}
 use Rattle.pearl_timer.specs.declared.timer.Which.TheVariants.{Continuation, Activation}
 use Rattle.pearl_rules.specs.Series.{fires_if}
-use Rattle.pearl_timer.specs.Next.{IsNext}
+use Rattle.pearl_timer.specs.Next.{IsNext, NoneIsNext}
 use Rattle.pearl_timer.specs.Timetable.{Timetable, of_kind}
 use Rattle.pearl_timer.specs.Wheel.{Moments, moment_of}
 
@@ -53,6 +53,25 @@ pub record IsKept (timetable : Timetable) (wheel : Moments) (far : Bool) : Type 
   pub few : (which : Which) → length (of_kind which timetable) ≤ 200
   pub keys : length wheel.moments ≡ 400
   pub right : (key : ℕ) → key < 400 → IsRight (FiresOf timetable key) wheel.elapsed far (moment_of wheel key)
+
+-- the wheel has the next moment of this series of a task, or none
+pub record NotesNext (task : ℕ) (which : Which) (series : Option Series) (old : Moments) (was_far : Bool) (new : Moments) (far : Bool) : Type 0 where
+  pub next : Option ℕ
+  pub its : MatchOption next (NoneIsNext (λ t. IsTrue (fires_if series t)) old.elapsed) (IsNext (λ t. IsTrue (fires_if series t)) old.elapsed)
+  pub kept : new ≡ record old { moments = slice_set old.moments (key_of which task) (near next) }
+  pub noted : far ≡ (is_far next || was_far)
+
+-- the same where there is a wheel; without one nothing is kept beside the series
+abbrev pub IsKeptIf : Timetable → Option Moments → Bool → Type 0
+IsKeptIf timetable None far = Unit {0}
+IsKeptIf timetable (Some wheel) far = IsKept timetable wheel far
+
+-- the wheel, where there is one, has the next moment of this series of a task, or none
+abbrev pub Notes : ℕ → Which → Option Series → (old : Option Moments) → (was_far : Bool) → (new : Option Moments) → (far : Bool) → Type 0
+Notes task which series None was_far None far = Unit {0}
+Notes task which series None was_far (Some new) far = ⊥
+Notes task which series (Some old) was_far None far = ⊥
+Notes task which series (Some old) was_far (Some new) far = NotesNext task which series old was_far new far
 
 -- the same on the way to a moment
 pub record IsMoving (timetable : Timetable) (wheel : Moments) (far : Bool) (after : ℕ) : Type 0 where

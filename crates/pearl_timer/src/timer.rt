@@ -1,10 +1,10 @@
 // The series that are kept of tasks, and when one of them fires.
 
-ghost use Rattle.std.specs.Prelude.{◌≡◌, ◌<◌, ◌≤◌, ◌^◌, ◌↔◌, ◌||◌, List, Option, Some, None, IsTrue, IfOk, MatchOption, length, replicate, slice_index_or, slice_set};
+ghost use Rattle.std.specs.Prelude.{◌≡◌, ◌<◌, ◌≤◌, ◌^◌, ◌↔◌, ◌||◌, false, List, Option, Some, None, IsTrue, IfOk, IfSome, MatchOption, length, replicate, slice_index_or, slice_set};
 ghost use Rattle.pearl_rules.specs.Series.{fires_if};
 ghost use Rattle.pearl_timer.specs.Next.{IsNext, NoneIsNext, IsFirstFrom, NoneFrom, earlier};
 ghost use Rattle.pearl_timer.specs.Timetable.{Timetable, FiresIn, IsTaskDue, IsDue, changed, due, of_kind};
-ghost use Rattle.pearl_timer.specs.Kept.{both, FiresOf, HasKeyAt, IsKept, near, is_far};
+ghost use Rattle.pearl_timer.specs.Kept.{both, FiresOf, HasKeyAt, IsKept, IsKeptIf, Notes, near, is_far};
 ghost use Rattle.pearl_timer.specs.Wheel.{Moments, EachMoment};
 
 use crate::next::next_after;
@@ -30,32 +30,32 @@ pub struct Timer {
     continuations: Vec<Option<Series>>,
     activations: Vec<Option<Series>>,
     // The next moment of each series, below 2^42: of a continuation under its task's number, of an activation 200 above.
-    wheel: Wheel,
+    // For more than 200 tasks there is no wheel, and each series is looked at.
+    wheel: Option<Wheel>,
     // Whether some series may fire at 2^42 or later.
     far: bool,
 }
 
 impl Model for Timer {
     ghost use Rattle.pearl_timer.specs.Timetable.{Timetable};
-    ghost use Rattle.pearl_timer.specs.Kept.{both, IsKept};
+    ghost use Rattle.pearl_timer.specs.Kept.{both, IsKeptIf};
 
     ghost Value = { Timetable };
 
     ghost view = { λ t. record { continuations = t.continuations.items; activations = t.activations.items } };
 
-    ghost invariant = { λ t. IsKept (both t.continuations.items t.activations.items) t.wheel t.far };
+    ghost invariant = { λ t. IsKeptIf (both t.continuations.items t.activations.items) t.wheel t.far };
 }
 
 impl Timer {
     /// A timer for so many tasks, of which no series is kept. It takes all the memory that it will ever need.
     pub fn new(alloc: Global, tasks: usize) -> Result<Timer, NoMemory>
-        requires { tasks ≤ 200 }
         ensures { IfOk result (λ t.
             t ≡ record { continuations = replicate tasks None; activations = replicate tasks None }) }
     {
         let continuations = none_kept(alloc, tasks)?;
         let activations = none_kept(alloc, tasks)?;
-        let wheel = Wheel::new(alloc, 400)?;
+        let wheel = first_wheel(alloc, tasks)?;
         Ok(Timer {
             continuations,
             activations,
@@ -69,15 +69,26 @@ impl Timer {
         requires { task < length (of_kind which self.old) }
         ensures { self.new ≡ changed self.old task which (Some series) }
     {
-        let next = next_after(series, self.wheel.elapsed());
         match which {
             Which::Continuation => {
                 self.continuations[task] = Some(series);
-                keep(&mut self.wheel, &mut self.far, task, next);
+                note(
+                    &mut self.wheel,
+                    &mut self.far,
+                    task,
+                    Which::Continuation,
+                    Some(series),
+                );
             }
             Which::Activation => {
                 self.activations[task] = Some(series);
-                keep(&mut self.wheel, &mut self.far, task + 200, next);
+                note(
+                    &mut self.wheel,
+                    &mut self.far,
+                    task,
+                    Which::Activation,
+                    Some(series),
+                );
             }
         }
     }
@@ -90,11 +101,23 @@ impl Timer {
         match which {
             Which::Continuation => {
                 self.continuations[task] = None;
-                self.wheel.clear(task);
+                note(
+                    &mut self.wheel,
+                    &mut self.far,
+                    task,
+                    Which::Continuation,
+                    None,
+                );
             }
             Which::Activation => {
                 self.activations[task] = None;
-                self.wheel.clear(task + 200);
+                note(
+                    &mut self.wheel,
+                    &mut self.far,
+                    task,
+                    Which::Activation,
+                    None,
+                );
             }
         }
     }
@@ -122,17 +145,10 @@ impl Timer {
     {
         let continuations = self.continuations.as_slice();
         let activations = self.activations.as_slice();
-        if after < self.wheel.elapsed() {
-            return scan(continuations, activations, after);
+        match &mut self.wheel {
+            None => scan(continuations, activations, after),
+            Some(wheel) => next_by(wheel, &mut self.far, continuations, activations, after),
         }
-        move_on(
-            &mut self.wheel,
-            &mut self.far,
-            continuations,
-            activations,
-            after,
-        );
-        soonest(&self.wheel, self.far, continuations, activations, after)
     }
 
     /// The first task from one on of which a kept series fires at a moment. Right behind the moment up to which
@@ -141,17 +157,97 @@ impl Timer {
         ensures { MatchOption result (NoneFrom (IsTaskDue self.now moment) from)
             (IsFirstFrom (IsTaskDue self.now moment) from) }
     {
-        let elapsed = self.wheel.elapsed();
-        if from < 200 && moment < FAR && elapsed < moment && moment - elapsed == 1 {
-            return next_kept(&self.wheel, from, moment);
+        let continuations = self.continuations.as_slice();
+        let activations = self.activations.as_slice();
+        match &self.wheel {
+            None => first_due(continuations, activations, from, moment),
+            Some(wheel) => first_by(wheel, self.far, continuations, activations, from, moment),
         }
-        first_due(
-            self.continuations.as_slice(),
-            self.activations.as_slice(),
-            from,
-            moment,
-        )
     }
+}
+
+// A wheel for so many tasks; none where they are more than its keys are for.
+fn first_wheel(alloc: Global, tasks: usize) -> Result<Option<Wheel>, NoMemory>
+    ensures { IfOk result (λ wheel. IsKeptIf (both (replicate tasks None) (replicate tasks None)) wheel false) }
+{
+    if tasks > 200 {
+        return Ok(None);
+    }
+    let wheel = Wheel::new(alloc, 400)?;
+    Ok(Some(wheel))
+}
+
+// The wheel, where there is one, keeps the next moment of a task's series, which is this one or none from now on.
+fn note(
+    wheel: &mut Option<Wheel>,
+    far: &mut bool,
+    task: usize,
+    which: Which,
+    series: Option<Series>,
+)
+    requires few { IfSome wheel.old (λ wheel. (task < 200) × (length wheel.moments ≡ 400)) }
+    ensures { Notes task which series wheel.old far.old wheel.new far.new }
+{
+    if let Some(wheel) = wheel {
+        let key = match which {
+            Which::Continuation => task,
+            Which::Activation => task + 200,
+        };
+        let next = next_if(series, wheel.elapsed());
+        keep(wheel, far, key, next);
+    }
+}
+
+// The next moment of a series, where there is one.
+fn next_if(series: Option<Series>, after: u64) -> Option<u64>
+    ensures { MatchOption result (NoneIsNext (λ t. IsTrue (fires_if series t)) after) (IsNext (λ t. IsTrue (fires_if series t)) after) }
+{
+    match series {
+        None => None,
+        Some(series) => next_after(series, after),
+    }
+}
+
+// The next moment of all by a wheel, or, where it has come further, by a look at each series.
+fn next_by(
+    wheel: &mut Wheel,
+    far: &mut bool,
+    continuations: &[Option<Series>],
+    activations: &[Option<Series>],
+    after: u64,
+) -> Option<u64>
+    requires { IsKept (both continuations.now activations.now) wheel.old far.old }
+    ensures kept { IsKept (both continuations.now activations.now) wheel.new far.new }
+    ensures next { let timetable : Timetable = both continuations.now activations.now in
+        MatchOption result (NoneIsNext (IsDue timetable) after) (IsNext (IsDue timetable) after) }
+{
+    if after < wheel.elapsed() {
+        return scan(continuations, activations, after);
+    }
+    move_on(wheel, far, continuations, activations, after);
+    soonest(wheel, *far, continuations, activations, after)
+}
+
+// The first task from one on of which a series fires, by a wheel that stands right before the moment, or by a look at
+// each series.
+fn first_by(
+    wheel: &Wheel,
+    far: bool,
+    continuations: &[Option<Series>],
+    activations: &[Option<Series>],
+    from: usize,
+    moment: u64,
+) -> Option<usize>
+    requires { IsKept (both continuations.now activations.now) wheel.now far }
+    ensures { let timetable : Timetable = both continuations.now activations.now in
+        MatchOption result (NoneFrom (IsTaskDue timetable moment) from)
+        (IsFirstFrom (IsTaskDue timetable moment) from) }
+{
+    let elapsed = wheel.elapsed();
+    if from < 200 && moment < FAR && elapsed < moment && moment - elapsed == 1 {
+        return next_kept(wheel, from, moment);
+    }
+    first_due(continuations, activations, from, moment)
 }
 
 // Keeps the next moment of a series, or notes that it is far.
