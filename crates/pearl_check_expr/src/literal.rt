@@ -11,13 +11,15 @@ use pearl_tree::literal::{Duration, Literal};
 use pearl_tree::typing::Sort;
 use pearl_value::kind::Kind;
 
-fn fits_fixed(len: u8, value: u64) -> bool
+/// Whether a number lies below 2^len.
+pub fn fits_fixed(len: u8, value: u64) -> bool
     ensures { result ≡ conversions.fits_fixed len (pos value) }
 {
     if len < 64 { value < 1 << len } else { true }
 }
 
-fn fixed_length(len: u8, value: u64) -> u8
+/// The length of a number: the default one where the number fits, and else 63.
+pub fn fixed_length(len: u8, value: u64) -> u8
     ensures { result ≡ spec.fixed_length len value }
 {
     if fits_fixed(len, value) { len } else { 63 }

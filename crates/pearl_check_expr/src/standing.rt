@@ -313,7 +313,8 @@ pub(crate) fn value_of(
     }
 }
 
-fn dimension_of(dimension: Option<Number>) -> u64
+/// The dimension that LWB or UPB asks for: the first one where none is written.
+pub fn dimension_of(dimension: Option<Number>) -> u64
     ensures { result ≡ judged.dimension_of dimension }
 {
     match dimension {
