@@ -6,6 +6,8 @@ mod Spellings
 mod Wholes
 mod Ranges
 mod CellKinds
+mod Identifiers
+mod WordTable
 mod Spelled
 mod Fitting
 mod Standing

@@ -1,9 +1,9 @@
 -- What is spelled is as each object is to be.
-use Rattle.std.proofs.Common.{◌≡◌, ℕ, zero, suc, ◌≤◌, ◌<◌, ◌-◌, ◌^◌, ◌++◌, Bool, true, false, List, [], ◌∷◌, length, drop, Option, Some, None, refl, subst, arith, length-append, inl, inr}
-use Rattle.std.specs.Prelude.{◌&&◌, ◌||◌, nat_eq, nat_lt, IsTrue, sum_by, IfSome}
+use Rattle.std.proofs.Common.{◌≡◌, ℕ, zero, suc, ◌≤◌, ◌<◌, ◌-◌, ◌^◌, ◌++◌, Bool, true, false, List, [], ◌∷◌, length, drop, Option, Some, None, refl, sym, ap, ◌∙◌, subst, arith, length-append, append_assoc, ne_eqb, inl, inr}
+use Rattle.std.specs.Prelude.{◌+◌, ◌&&◌, ◌||◌, ◌==◌, nat_eq, nat_lt, sum_by, IfSome}
 use Rattle.std.specs.List.{AllByRecursion, list_all}
 use Rattle.std.specs.Char.{is_ascii_alphabetic}
-use Rattle.std.proofs.lemmas.Bool.{le-leb, ltb-true, eqb-true}
+use Rattle.std.proofs.lemmas.Bool.{le-leb, le-ltb, ltb-true, eqb-true}
 use Rattle.std.proofs.lemmas.List.Sums.{sum_by-cons}
 use Rattle.pearl_value.specs.declared.kind.Kind.{Kind}
 use Rattle.pearl_value.specs.declared.kind.CellKind.{CellKind}
@@ -18,6 +18,7 @@ use Rattle.pearl_format.specs.declared.item.Item.{Item}
 use Rattle.pearl_format.specs.declared.item.ItemCode.{ItemCode}
 use Rattle.pearl_format.specs.declared.item.ItemCode.TheVariants as items
 use Rattle.pearl_format.specs.Items.{HasWidth, IsItem, IsFormat}
+use Rattle.pearl_tree.specs.Tokens.{IsId}
 use Rattle.pearl_instructions.specs.declared.instr.Instr.{Instr}
 use Rattle.pearl_instructions.specs.declared.instr.Instr.TheVariants.{Const, Fill, Conv}
 use Rattle.pearl_instructions.specs.declared.object.Shape.{Shape}
@@ -39,9 +40,10 @@ use Rattle.pearl_object.specs.Literals.{literal}
 use Rattle.pearl_object.specs.Instructions.{instr, operands_at}
 use Rattle.pearl_object.specs.Codes.{above, shape, first_shape, after_shape, code}
 use Rattle.pearl_object.specs.Tables.{is_behind, device, first_device, after_device, devices, semaphores, letters, constants, leaf, all_slots, after_leaf, leaves, least_width, item, format, formats}
-use Rattle.pearl_object.specs.Objects.{result_of, procedure, letter, after_letter, name, task, front, parts, object, object_bytes}
+use Rattle.pearl_object.specs.Objects.{result_of, procedure, is_no_word, is_next_letter, letter, first_letter, after_letter, name, task, front, parts, object, object_bytes}
 use Rattle.pearl_object.proofs.Ranges.{within_is, both_true, kind_is, literal_is, constant_is}
 use Rattle.pearl_object.proofs.CellKinds.{cell_kind_is, plain_where_bound}
+use Rattle.pearl_object.proofs.Identifiers.{id_is}
 use Rattle.pearl_fields.proofs.Offered.{number_some}
 
 -- ---- lists
@@ -184,17 +186,35 @@ procedure_is : (p : Procedure) → procedure.fits p → IsProcedure p
 unfolding procedure
 procedure_is p h = record { code = code_is p.params p.code h.0.1.1; result = result_is p.result h.0.1.0 }
 
-letters_named : (xs : List ℕ) → rolled_fit letter after_letter (record { first = false }) xs → list_all is_name_byte xs ≡ true
-letters_named [] h = refl
-letters_named (b ∷ xs) h = rw (h.0.1, letters_named xs h.1) refl
+-- behind the first letter each is a letter, a digit or `_`
+letters_named : (before xs : List ℕ) (count : ℕ) → 0 < length before → rolled_fit letter after_letter (record { before = before; count = count }) xs → list_all is_name_byte xs ≡ true
+letters_named before [] count some h = refl
+letters_named before (b ∷ xs) count some h =
+    let behind : (length before == 0) ≡ false = ne_eqb (length before) 0 (λ none. omega (arith, some, none)) in
+    let this : is_name_byte b ≡ true = sym (ap (λ first. is_next_letter first b) behind) ∙ (both_true (is_next_letter (length before == 0) b) _ h.0.1).0 in
+    let more = length-append before (b ∷ []) in
+    rw (this, letters_named (before ++ b ∷ []) xs count (omega (arith, more)) h.1) refl
 
-name_is : (xs : List ℕ) → name.fits xs → IsTrue (is_id xs)
+-- with the last letter the name is no word
+whole_named : (before xs : List ℕ) (count : ℕ) → 0 < length xs → length before + length xs ≡ count → rolled_fit letter after_letter (record { before = before; count = count }) xs →
+    is_no_word (before ++ xs) ≡ true
+whole_named before [] count some all h = absurd (omega (arith, some))
+whole_named before (b ∷ []) count some all h =
+    let last : nat_lt (length before + 1) count ≡ false = le-ltb (length before + 1) count (omega (arith, all)) in
+    sym (ap (λ more. more || is_no_word (before ++ b ∷ [])) last) ∙ (both_true (is_next_letter (length before == 0) b) _ h.0.1).1
+whole_named before (b ∷ c ∷ xs) count some all h =
+    let more = length-append before (b ∷ []) in
+    subst (λ text. is_no_word text ≡ true) (append_assoc before (b ∷ []) (c ∷ xs)) (whole_named (before ++ b ∷ []) (c ∷ xs) count (omega arith) (omega (arith, all, more)) h.1)
+
+name_is : (xs : List ℕ) → name.fits xs → IsId xs
 unfolding name
 name_is [] h = absurd (let some = within_is 1 63 0 h.0.0.1 in omega (arith, some.0))
 name_is (b ∷ xs) h =
     let few = within_is 1 63 (length (b ∷ xs)) h.0.0.1 in
-    let begins : is_ascii_alphabetic b ≡ true = h.0.1.1.0.1 in
-    rw (begins, letters_named xs h.0.1.1.1, le-leb (length (b ∷ xs)) 63 few.1) refl
+    let letters : rolled_fit letter after_letter (first_letter (length (b ∷ xs))) (b ∷ xs) = h.0.1.1 in
+    let begins : is_ascii_alphabetic b ≡ true = (both_true (is_ascii_alphabetic b) _ letters.0.1).0 in
+    let named : is_id (b ∷ xs) ≡ true = rw (begins, letters_named (b ∷ []) xs (length (b ∷ xs)) (omega arith) letters.1, le-leb (length (b ∷ xs)) 63 few.1) refl in
+    id_is (b ∷ xs) named (whole_named [] (b ∷ xs) (length (b ∷ xs)) (omega arith) (omega arith) letters)
 
 task_is : (t : Task) → task.fits t → IsTask t
 unfolding task

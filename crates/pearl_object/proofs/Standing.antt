@@ -1,9 +1,9 @@
 -- Code, tables, routines and objects that are as each object is to be, and that have bytes, are spelled.
-use Rattle.std.proofs.Common.{◌≡◌, ℕ, zero, suc, ◌≤◌, ◌<◌, ◌-◌, ◌^◌, ◌++◌, Bool, true, false, List, [], ◌∷◌, length, drop, Option, Some, None, refl, sym, ap, subst, ◌∙◌, arith, inl, inr}
-use Rattle.std.specs.Prelude.{◌&&◌, ◌||◌, nat_eq, nat_le, nat_lt, sum_by, IfSome}
+use Rattle.std.proofs.Common.{◌≡◌, ℕ, zero, suc, ◌≤◌, ◌<◌, ◌-◌, ◌^◌, ◌++◌, Bool, true, false, List, [], ◌∷◌, length, drop, Option, Some, None, refl, sym, ap, subst, ◌∙◌, arith, length-append, append_assoc, ne_eqb, inl, inr}
+use Rattle.std.specs.Prelude.{◌+◌, ◌&&◌, ◌||◌, ◌==◌, nat_eq, nat_le, nat_lt, sum_by, IfSome}
 use Rattle.std.specs.List.{AllByRecursion, list_all}
 use Rattle.std.specs.Char.{is_ascii_alphabetic}
-use Rattle.std.proofs.lemmas.Bool.{leb-true, lt-ltb}
+use Rattle.std.proofs.lemmas.Bool.{lt-ltb}
 use Rattle.std.proofs.lemmas.List.Sums.{sum_by-cons}
 use Rattle.pearl_value.specs.declared.kind.Kind.{Kind}
 use Rattle.pearl_value.specs.declared.kind.CellKind.{CellKind}
@@ -14,12 +14,14 @@ use Rattle.pearl_value.specs.declared.device.Direction.{Direction}
 use Rattle.pearl_value.specs.declared.device.Direction.TheVariants.{In, Out, InOut}
 use Rattle.pearl_value.specs.Kinds.{IsKind}
 use Rattle.pearl_value.specs.WellFormed.{IsLetter, IsValueOf}
-use Rattle.pearl_value.specs.Names.{is_name_byte, is_id}
+use Rattle.pearl_value.specs.Names.{is_name_byte}
 use Rattle.pearl_value.specs.Devices.{sort_rank, own_number, IsDevice, IsBefore, AreRising as DevicesRise}
 use Rattle.pearl_format.specs.declared.item.Item.{Item}
 use Rattle.pearl_format.specs.declared.item.ItemCode.{ItemCode}
 use Rattle.pearl_format.specs.declared.item.ItemCode.TheVariants as items
 use Rattle.pearl_format.specs.Items.{HasWidth, IsItem, IsFormat}
+use Rattle.pearl_tree.specs.Tokens.{IsId}
+use Rattle.pearl_tree.proofs.Offered.{ids_are_names}
 use Rattle.pearl_instructions.specs.declared.instr.Instr.{Instr}
 use Rattle.pearl_instructions.specs.declared.object.Shape.{Shape}
 use Rattle.pearl_instructions.specs.declared.object.Leaf.{Leaf}
@@ -42,9 +44,10 @@ use Rattle.pearl_object.specs.Operands.{flag}
 use Rattle.pearl_object.specs.Instructions.{instr}
 use Rattle.pearl_object.specs.Codes.{above, shape, first_shape, after_shape, cells, shapes, code}
 use Rattle.pearl_object.specs.Tables.{direction, is_behind, device_keys, device, first_device, after_device, devices, semaphores, letters, leaf, all_slots, after_leaf, leaves, least_width, item_code, item, format, formats}
-use Rattle.pearl_object.specs.Objects.{result_of, procedure, letter, after_letter, name, task, front, parts, object, object_bytes}
+use Rattle.pearl_object.specs.Objects.{result_of, procedure, is_no_word, may_follow, letter, first_letter, after_letter, name, task, front, parts, object, object_bytes}
 use Rattle.pearl_object.proofs.Ranges.{both_true, eqb_same, is_within, plain_kind_fits, constant_fits}
 use Rattle.pearl_object.proofs.CellKinds.{free_kind_fits, bound_kind_fits}
+use Rattle.pearl_object.proofs.Identifiers.{no_word_is}
 use Rattle.pearl_object.proofs.Fitting.{counted_fits, any_length, each_fits, each_fits_in, first_of_more, instr_fits, flag_fits}
 use Rattle.pearl_object.proofs.Spellings.{instr_bytes, code_bytes}
 
@@ -231,23 +234,40 @@ procedure_fits p h b =
     let below = bytes_behind (result_of.bytes p.result) ((code p.params).bytes p.code) first.1 in
     ((first.0, (result_fits p.result h.result, code_fits p.params p.code h.code (subst IsBytes (code_bytes p.params p.code) below))), refl)
 
-name_letters_fit : (xs : List ℕ) → list_all is_name_byte xs ≡ true → IsBytes (all_bytes (λ (b : ℕ). b ∷ []) xs) → rolled_fit letter after_letter (record { first = false }) xs
-name_letters_fit [] h b = tt
-name_letters_fit (x ∷ xs) h b =
-    let both = both_true (is_name_byte x) (list_all is_name_byte xs) h in
-    ((b 0, both.0), name_letters_fit xs both.1 (λ i. b (suc i)))
+either_true : (b : Bool) → (b || true) ≡ true
+either_true true = refl
+either_true false = refl
 
-name_fits : (xs : List ℕ) → is_id xs ≡ true → IsBytes (name.bytes xs) → name.fits xs
+-- a letter that others follow makes no word of the name, nor does the last one
+word_or_more : (before xs : List ℕ) (x count : ℕ) → length before + suc (length xs) ≡ count → is_no_word (before ++ x ∷ xs) ≡ true →
+    (nat_lt (length before + 1) count || is_no_word (before ++ x ∷ [])) ≡ true
+word_or_more before [] x count all other = rw other (either_true (nat_lt (length before + 1) count))
+word_or_more before (y ∷ xs) x count all other = rw (lt-ltb (length before + 1) count (omega (arith, all))) refl
+
+name_letters_fit : (before xs : List ℕ) (count : ℕ) → 0 < length before → length before + length xs ≡ count → list_all is_name_byte xs ≡ true → is_no_word (before ++ xs) ≡ true →
+    IsBytes (all_bytes (λ (b : ℕ). b ∷ []) xs) → rolled_fit letter after_letter (record { before = before; count = count }) xs
+name_letters_fit before [] count some all h other b = tt
+name_letters_fit before (x ∷ xs) count some all h other b =
+    let both = both_true (is_name_byte x) (list_all is_name_byte xs) h in
+    let behind : (length before == 0) ≡ false = ne_eqb (length before) 0 (λ none. omega (arith, some, none)) in
+    let more = length-append before (x ∷ []) in
+    let next : is_no_word ((before ++ x ∷ []) ++ xs) ≡ true = subst (λ text. is_no_word text ≡ true) (sym (append_assoc before (x ∷ []) xs)) other in (
+      (b 0, rw (behind, both.0, word_or_more before xs x count (omega (arith, all)) other) refl),
+      name_letters_fit (before ++ x ∷ []) xs count (omega (arith, more)) (omega (arith, all, more)) both.1 next (λ i. b (suc i)),
+    )
+
+name_fits : (xs : List ℕ) → IsId xs → IsBytes (name.bytes xs) → name.fits xs
 unfolding name
-name_fits [] h b =
-    absurd (let named = both_true (is_ascii_alphabetic 0 && true) (nat_le 0 63) h in let none : is_ascii_alphabetic 0 ≡ true = (both_true (is_ascii_alphabetic 0) true named.0).0 in cc)
+name_fits [] h b = absurd h.begins
 name_fits (x ∷ xs) h b =
-    let few = both_true (is_ascii_alphabetic x && list_all is_name_byte (x ∷ xs)) (nat_le (length (x ∷ xs)) 63) h in
+    let few = both_true (is_ascii_alphabetic x && list_all is_name_byte (x ∷ xs)) (nat_le (length (x ∷ xs)) 63) (ids_are_names (x ∷ xs) h) in
     let named = both_true (is_ascii_alphabetic x) (list_all is_name_byte (x ∷ xs)) few.0 in
     let rest = both_true (is_name_byte x) (list_all is_name_byte xs) named.1 in
     let behind = bytes_behind (number_bytes (length (x ∷ xs))) (all_bytes (λ (b : ℕ). b ∷ []) (x ∷ xs)) b in
-    let most : length (x ∷ xs) ≤ 63 = leb-true (length (x ∷ xs)) 63 few.1 in
-    (((omega (arith, most), is_within 1 63 (length (x ∷ xs)) (omega arith) most), (refl, ((behind 0, named.0), name_letters_fit xs rest.1 (λ i. behind (suc i))))), refl)
+    let other = no_word_is (x ∷ xs) h in
+    let first : may_follow (first_letter (length (x ∷ xs))) x ≡ true = rw (named.0, word_or_more [] xs x (length (x ∷ xs)) (omega arith) other) refl in
+    let others = name_letters_fit (x ∷ []) xs (length (x ∷ xs)) (omega arith) (omega arith) rest.1 other (λ i. behind (suc i)) in
+    (((omega (arith, h.length), is_within 1 63 (length (x ∷ xs)) (omega arith) h.length), (refl, ((behind 0, first), others))), refl)
 
 task_fits : (t : Task) → IsTask t → IsBytes (task.bytes t) → task.fits t
 unfolding task

@@ -1,5 +1,5 @@
 -- Code, tables, routines and objects are read as they are spelled.
-use Rattle.std.proofs.Common.{◌≡◌, ℕ, zero, suc, ◌-◌, ◌^◌, ◌++◌, true, [], ◌∷◌, Option, Some, None, refl, sym, ap, ◌∙◌, arith}
+use Rattle.std.proofs.Common.{◌≡◌, ℕ, zero, suc, ◌-◌, ◌^◌, ◌++◌, true, List, [], ◌∷◌, length, Option, Some, None, refl, sym, ap, ◌∙◌, arith}
 use Rattle.pearl_value.specs.declared.kind.Kind.{Kind}
 use Rattle.pearl_value.specs.declared.kind.Kind.TheVariants as kinds
 use Rattle.pearl_value.specs.declared.kind.CellKind.{CellKind}
@@ -11,7 +11,7 @@ use Rattle.pearl_format.specs.declared.item.ItemCode.TheVariants as items
 use Rattle.pearl_instructions.specs.declared.object.Shape.{Shape}
 use Rattle.pearl_instructions.specs.declared.object.Leaf.{Leaf}
 use Rattle.pearl_fields.specs.Codec.{pair, guarded, arm_at, within, number, number_in, byte_in, exactly}
-use Rattle.pearl_fields.proofs.Offered.{IsTold, byte_told, guarded_told, shaped_told, pair_told, keyed_told, tagged_told, exactly_told, AreArms, arm_of, made_arm, number_told, number_in_told, counted_told, number_some}
+use Rattle.pearl_fields.proofs.Offered.{IsTold, byte_told, guarded_told, shaped_told, pair_told, keyed_told, tagged_told, exactly_told, AreArms, arm_of, made_arm, number_told, number_in_told, rolled_told, counted_told, number_some}
 use Rattle.pearl_object.specs.declared.states.Alone.{Alone}
 use Rattle.pearl_object.specs.declared.states.Last.{Last}
 use Rattle.pearl_object.specs.declared.states.Before.{Before}
@@ -25,7 +25,7 @@ use Rattle.pearl_object.specs.Operands.{flag}
 use Rattle.pearl_object.specs.Instructions.{instr}
 use Rattle.pearl_object.specs.Codes.{above, shape, first_shape, after_shape, code_fields, made_code, cells, shapes, code}
 use Rattle.pearl_object.specs.Tables.{direction_tag, direction_arms, direction, is_behind, device_key, device_keys, direction_of, kind_in_device, device_arms, device, first_device, after_device, devices, semaphores, letters, constants, leaf_fields, made_leaf, leaf, all_slots, after_leaf, leaves, item_tag, item_arms, item_code, least_width, item, format, formats}
-use Rattle.pearl_object.specs.Objects.{result_tag, result_kind, result_arms, result_of, procedure_fields, made_procedure, procedure, is_next_letter, letter, first_letter, after_letter, name, task_fields, made_task, task, front, object_fields, made_object, parts, object}
+use Rattle.pearl_object.specs.Objects.{result_tag, result_kind, result_arms, result_of, procedure_fields, made_procedure, procedure, may_follow, letter, first_letter, after_letter, name_letters, name, task_fields, made_task, task, front, object_fields, made_object, parts, object}
 use Rattle.pearl_object.proofs.Parts.{◌&◌, single, empty, each_told, kind_told, cell_kind_told, literal_told}
 use Rattle.pearl_object.proofs.OperandLaws.{flag_told}
 use Rattle.pearl_object.proofs.InstructionLaws.{instr_told}
@@ -194,7 +194,10 @@ procedure_told =
 
 name_told : IsTold name
 unfolding name
-name_told = counted_told 1 63 (λ b. b ∷ []) letter after_letter first_letter (λ s. byte_told (is_next_letter s.first)) (λ s x. refl)
+name_told =
+    shaped_told (λ (text : List ℕ). (length text, text)) (λ p. p.1) (pair (number_in 1 63) name_letters)
+    (pair_told (number_in 1 63) name_letters (number_in_told 1 63) (λ n. rolled_told (λ b. b ∷ []) letter after_letter (first_letter n) n (λ s. byte_told (may_follow s)) (λ s x. refl)))
+    (λ p fits. ap (λ n. (n, p.1)) fits.1.0)
 
 pub task_told : IsTold task
 unfolding task

@@ -1,12 +1,15 @@
 -- How an object is spelled, and what bytes are read as.
-use Rattle.std.specs.Prelude.{◌≡◌, ◌⊎◌, ℕ, ◌-◌, ◌<◌, ◌++◌, take, Bool, true, false, if◌then◌else◌, List, [], ◌∷◌, length, Option, Some, None, Result, Ok, Err}
+use Rattle.std.specs.Prelude.{◌≡◌, ◌⊎◌, ℕ, ◌+◌, ◌-◌, ◌<◌, ◌++◌, take, Bool, not, ◌&&◌, ◌||◌, ◌==◌, nat_lt, if◌then◌else◌, List, [], ◌∷◌, length, Option, Some, None, Result, Ok, Err}
 use Rattle.std.specs.Char.{is_ascii_alphabetic}
+use Rattle.std.specs.List.{list_all}
+use Rattle.std.specs.Str.{bytes_eq}
 use Rattle.arrayvec.specs.ArrayVec.{ArrayVec}
 use Rattle.pearl_value.specs.declared.kind.Kind.{Kind}
 use Rattle.pearl_value.specs.declared.kind.Kind.TheVariants as kinds
 use Rattle.pearl_value.specs.declared.device.Device.{Device}
 use Rattle.pearl_value.specs.Names.{is_name_byte}
 use Rattle.pearl_format.specs.declared.item.Item.{Item}
+use Rattle.pearl_tree.specs.Words.{words}
 use Rattle.pearl_instructions.specs.declared.object.Leaf.{Leaf}
 use Rattle.pearl_instructions.specs.declared.object.Code.{Code}
 use Rattle.pearl_instructions.specs.declared.object.Procedure.{Procedure}
@@ -16,10 +19,9 @@ use Rattle.pearl_instructions.specs.Lawful.{IsObject}
 use Rattle.pearl_fields.specs.declared.fault.ReadFault.{ReadFault}
 use Rattle.pearl_fields.specs.declared.fault.ReadFault.TheVariants as fault
 use Rattle.pearl_fields.specs.Reads.{Fails}
-use Rattle.pearl_fields.specs.Codec.{Seen, Codec, number, number_in, byte, nothing, shaped, pair, tagged, counted, rolled, exactly, whole_read, IsBytes}
+use Rattle.pearl_fields.specs.Codec.{Seen, Codec, number, number_in, byte, nothing, shaped, pair, tagged, rolled, exactly, whole_read, IsBytes}
 use Rattle.pearl_object.specs.declared.fault.ReadFail.{ReadFail}
 use Rattle.pearl_object.specs.declared.fault.ReadFail.TheVariants.{BadObject, NoMemory}
-use Rattle.pearl_object.specs.declared.states.Letter.{Letter}
 use Rattle.pearl_object.specs.Lists.{each_in}
 use Rattle.pearl_object.specs.Kinds.{kind}
 use Rattle.pearl_object.specs.Operands.{flag}
@@ -54,24 +56,39 @@ procedure =
 
 -- ---- tasks
 
+-- none of the language's words
+unfoldable pub is_no_word : List ℕ → Bool
+is_no_word text = list_all (λ row. not (bytes_eq row.0 text)) words
+
+-- what is known at a letter of a name: those before it, and how many the name has
+pub record Letter : Type 0 where
+  pub before : List ℕ
+  pub count : ℕ
+
 -- a name begins with a letter, and goes on with letters, digits and `_`
 abbrev pub is_next_letter : Bool → ℕ → Bool
 is_next_letter first b = if first then is_ascii_alphabetic b else is_name_byte b
 
-abbrev pub letter : Letter → Codec ℕ
-letter state = byte (is_next_letter state.first)
+-- the last letter is refused where it makes a word of the name
+abbrev pub may_follow : Letter → ℕ → Bool
+may_follow state b =
+    is_next_letter (length state.before == 0) b && (nat_lt (length state.before + 1) state.count || is_no_word (state.before ++ b ∷ []))
 
-abbrev pub first_letter : Letter
-first_letter = record { first = true }
+abbrev pub letter : Letter → Codec ℕ
+letter state = byte (may_follow state)
+
+abbrev pub first_letter : ℕ → Letter
+first_letter count = record { before = []; count = count }
 
 abbrev pub after_letter : Letter → ℕ → Letter
-after_letter state b = record { first = false }
+after_letter state b = record { before = state.before ++ b ∷ []; count = state.count }
 
 abbrev pub name_letters : ℕ → Codec (List ℕ)
-name_letters n = rolled (λ b. b ∷ []) letter after_letter first_letter n
+name_letters n = rolled (λ b. b ∷ []) letter after_letter (first_letter n) n
 
+-- how many letters it has, and they
 unfoldable pub name : Codec (List ℕ)
-name = counted 1 63 (λ b. b ∷ []) letter after_letter first_letter
+name = shaped (λ text. (length text, text)) (λ p. p.1) (pair (number_in 1 63) name_letters)
 
 abbrev pub task_fields : Task → List ℕ × (ℕ × (Bool × Code))
 task_fields t = (t.name.items, (t.priority, (t.main, t.code)))

@@ -1,8 +1,8 @@
 // The bytes of procedures and tasks, both ways.
 
-ghost use Rattle.std.specs.Prelude.{◌≡◌, ◌≤◌, ◌++◌, ◌∷◌, [], OnOk, length};
-ghost use Rattle.pearl_object.specs.Objects.{result_of, result_arms, procedure, is_next_letter, name_letters, name, ReadsName, task};
-ghost use Rattle.pearl_fields.specs.Codec.{arm_at, byte};
+ghost use Rattle.std.specs.Prelude.{◌≡◌, ◌<◌, ◌≤◌, ◌++◌, ◌∷◌, [], OnOk, length};
+ghost use Rattle.pearl_object.specs.Objects.{result_of, result_arms, procedure, is_no_word, is_next_letter, may_follow, letter, name_letters, name, ReadsName, task};
+ghost use Rattle.pearl_fields.specs.Codec.{arm_at};
 ghost use Rattle.pearl_fields.specs.Reads.{Reads};
 
 use crate::codes::{put_code, read_code};
@@ -16,6 +16,7 @@ use pearl_fields::part::Part;
 use pearl_fields::reader::Reader;
 use pearl_fields::writer::put_number;
 use pearl_instructions::object::{Procedure, Task};
+use pearl_tree::word::{find_word, words};
 use pearl_value::kind::Kind;
 use std::alloc::{AllocError, Global};
 
@@ -101,6 +102,13 @@ impl Part<Alone> for Procedure {
     }
 }
 
+// Whether a text is none of the language's words.
+fn is_no_word(text: &[u8]) -> bool
+    ensures { result ≡ is_no_word text.now }
+{
+    find_word(words(), text).is_none()
+}
+
 fn is_next_letter(first: bool, byte: u8) -> bool
     ensures { result ≡ is_next_letter first byte }
 {
@@ -111,13 +119,30 @@ fn is_next_letter(first: bool, byte: u8) -> bool
     }
 }
 
-// The next letter of a name.
-fn read_letter(reader: &mut Reader, first: bool) -> Result<u8, ReadFault>
-    ensures { Reads (byte (is_next_letter first)) reader.old reader.new result }
+// Whether a letter may stand behind these, in a name of so many.
+fn may_follow(before: &ArrayVec<u8, 63>, count: u64, byte: u8) -> bool
+    requires { length before.now.items < 63 }
+    ensures { result ≡ may_follow (record { before = before.now.items; count = count }) byte }
+{
+    if !is_next_letter(before.is_empty(), byte) {
+        return false;
+    }
+    if (before.len() as u64) + 1 < count {
+        return true;
+    }
+    let mut text = before.clone().unwrap();
+    text.push(byte);
+    is_no_word(text.as_slice())
+}
+
+// The letter behind these, in a name of so many.
+fn read_letter(reader: &mut Reader, before: &ArrayVec<u8, 63>, count: u64) -> Result<u8, ReadFault>
+    requires { length before.now.items < 63 }
+    ensures { Reads (letter (record { before = before.now.items; count = count })) reader.old reader.new result }
 {
     let left = reader.left();
     let byte = reader.byte()?;
-    if !is_next_letter(first, byte) {
+    if !may_follow(before, count, byte) {
         return Err(ReadFault::Bad(left));
     }
     Ok(byte)
@@ -137,10 +162,8 @@ fn read_letters(reader: &mut Reader, count: u64) -> Result<ArrayVec<u8, 63>, Rea
     ensures { ReadsName ((name_letters count).read reader.old) reader.new result }
 {
     let mut text = ArrayVec::new();
-    let mut first = true;
     for _ in 0..count {
-        let byte = read_letter(reader, first)?;
-        first = false;
+        let byte = read_letter(reader, &text, count)?;
         text.push(byte);
     }
     Ok(text)

@@ -36,9 +36,3 @@ pub struct Room {
 pub struct Wanted {
     pub kind: Kind,
 }
-
-/// Whether a letter of a name is its first one.
-#[derive(Clone, Copy)]
-pub struct Letter {
-    pub first: bool,
-}

@@ -80,6 +80,51 @@ fn faults_have_the_place_of_their_field(rt: HostRuntime) -> Result<(), NoMemory>
     Ok(())
 }
 
+// The number of a name's bytes, and they, each with the place of the fault.
+static NAMES: [(u8, &[u8], Option<u32>); 10] = [
+    (0, b"", Some(10)),
+    (64, b"A", Some(10)),
+    (2, b"9A", Some(11)),
+    (3, b"A-B", Some(12)),
+    (3, b"A9_", None),
+    (4, b"TASK", Some(14)),
+    (2, b"IN", Some(12)),
+    (3, b"TAS", None),
+    (5, b"TASKS", None),
+    (4, b"task", None),
+];
+
+// The place of the fault of an object with one task of this name.
+fn name_fault(alloc: Global, count: u8, name: &[u8]) -> Result<Option<u32>, NoMemory> {
+    let mut bytes = Vec::new(alloc);
+    bytes.extend_from_slice(&[80, 82, 76, 49, 0, 0, 0, 0, 0, 1, count])?;
+    bytes.extend_from_slice(name)?;
+    bytes.extend_from_slice(&[1, 1, 0, 0, 1, 25, 0])?;
+    if bytes.len() > 100 {
+        return Ok(Some(u32::MAX));
+    }
+    fault(alloc, bytes.as_slice())
+}
+
+// The first row whose place is another one.
+fn first_other(
+    alloc: Global,
+    rows: &[(u8, &[u8], Option<u32>)],
+) -> Result<Option<usize>, NoMemory> {
+    for (number, (count, name, place)) in rows.iter().enumerate() {
+        if name_fault(alloc, *count, name)? != *place {
+            return Ok(Some(number));
+        }
+    }
+    Ok(None)
+}
+
+#[test]
+fn a_tasks_name_is_an_identifier(rt: HostRuntime) -> Result<(), NoMemory> {
+    assert_eq!(rt; first_other(rt.alloc(), &NAMES)?, None);
+    Ok(())
+}
+
 #[test]
 fn lists_are_bad_at_the_field_that_is(rt: HostRuntime) -> Result<(), NoMemory> {
     let alloc = rt.alloc();
