@@ -10,9 +10,8 @@ ghost use Rattle.pearl_instructions.specs.Stacks.{IsStack, Answers, AreOf, room}
 ghost use Rattle.pearl_exchange.specs.Heard.{answer_of};
 ghost use Rattle.pearl_exchange.specs.Offers.{action_of};
 
-use crate::objects::{Line, instructions, number};
+use crate::objects::{Line, instructions, letter, number};
 use crate::operands::is_number;
-use arrayvec::ArrayVec;
 use pearl_exchange::heard::{Beside, Heard};
 use pearl_exchange::offer::{Offer, What};
 use pearl_format::item::{Item, ItemCode};
@@ -180,10 +179,8 @@ fn task(alloc: Global) -> Result<Task, AllocError>
 {
     let lines = instructions(alloc, &TASK)?;
     let cells = vec![in alloc; FIXED, FIXED, FIXED, FIXED, FIXED, FIXED]?;
-    let mut name = ArrayVec::new();
-    name.push(b'T');
     Ok(Task {
-        name,
+        name: letter(),
         priority: 1,
         main: true,
         code: Code {

@@ -1,6 +1,6 @@
 // An object as each object is to be, which `verify` gives back.
 
-use arrayvec::ArrayVec;
+use crate::objects::letter;
 use pearl_instructions::instr::Instr;
 use pearl_instructions::object::{Code, Object, Parts, Task};
 use pearl_value::listing::Listing;
@@ -16,10 +16,8 @@ fn smallest(alloc: Global) -> Result<Object, AllocError> {
         instructions: Listing::new(vec![in alloc; Instr::End]?),
         shapes: Listing::new(Vec::new(alloc)),
     };
-    let mut name = ArrayVec::new();
-    name.push(b'T');
     let task = Task {
-        name,
+        name: letter(),
         priority: 1,
         main: true,
         code,

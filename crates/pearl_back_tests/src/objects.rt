@@ -4,6 +4,7 @@ ghost use Rattle.std.specs.Prelude.{IfOk};
 ghost use Rattle.std.specs.List.{AllByRecursion};
 ghost use Rattle.pearl_value.specs.declared.kind.Kind.{Kind};
 ghost use Rattle.pearl_value.specs.WellFormed.{IsValue, IsValueOf};
+ghost use Rattle.pearl_tree.specs.Tokens.{IsId};
 ghost use Rattle.pearl_instructions.specs.Lawful.{IsInstr};
 
 use arrayvec::ArrayVec;
@@ -117,6 +118,15 @@ fn literal(alloc: Global, cell: Cell) -> Result<Instr, AllocError>
     ensures { IfOk result IsInstr }
 {
     Ok(Instr::Const(Constant::new(alloc, &cell)?))
+}
+
+/// The name of a task, one letter.
+pub fn letter() -> ArrayVec<u8, 63>
+    ensures { IsId result.items }
+{
+    let mut name = ArrayVec::new();
+    name.push(b'T');
+    name
 }
 
 /// A number of FIXED(31).
