@@ -1,34 +1,20 @@
 // Literals with their lengths.
 
 ghost use Rattle.std.specs.Prelude.{◌≡◌, pos, IfOk};
-ghost use Rattle.pearl_check_expr.specs.Literals.{fixed_length as length_of};
 ghost use Rattle.pearl_program.specs.PlainExpressions.{cell_of};
 ghost use Rattle.pearl_tree.specs.Durations.{milliseconds_of};
 ghost use Rattle.pearl_tree.specs.ShownLiterals.{OfNumber, shown_literal};
-ghost use Rattle.pearl_value.specs.Conversions as conversions;
 ghost use Rattle.pearl_value.specs.declared.cell.Cell.TheVariants.{Chars, Span};
 ghost use Rattle.pearl_resolve.specs.Expressions as spec;
 
 use arrayvec::ArrayVec;
+use pearl_check_expr::literal::fixed_length;
 use pearl_names::length::Lengths;
 use pearl_program::literal::Literal;
 use pearl_tree::literal::{Duration, Literal as Written};
 use pearl_tree::name::Number;
 use pearl_tree::typing::Sort;
 use std::alloc::{AllocError, Global};
-
-fn fits_fixed(len: u8, value: u64) -> bool
-    ensures { result ≡ conversions.fits_fixed len (pos value) }
-{
-    if len < 64 { value < 1 << len } else { true }
-}
-
-// A number has the default length where its value fits, and else length 63.
-fn fixed_length(len: u8, value: u64) -> u8
-    ensures { result ≡ length_of len value }
-{
-    if fits_fixed(len, value) { len } else { 63 }
-}
 
 fn number_literal(lengths: &Lengths, number: Number) -> Result<Literal, AllocError>
     ensures { IfOk result (λ value. cell_of value ≡ spec.literal_cell lengths.now (OfNumber number)) }

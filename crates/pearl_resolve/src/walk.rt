@@ -10,7 +10,6 @@ ghost use Rattle.pearl_names.specs.declared.types.StructForm.{StructForm as Stru
 ghost use Rattle.pearl_names.specs.declared.types.TypeRef.TheVariants.{Struct};
 ghost use Rattle.pearl_program.specs.Typing as typing;
 ghost use Rattle.pearl_value.specs.declared.kind.Kind.TheVariants as fixed;
-ghost use Rattle.pearl_check_expr.specs.Judged as judged;
 ghost use Rattle.pearl_program.specs.PlainExpressions.{OfLiteral, plain_expr, plain_variable};
 ghost use Rattle.pearl_value.specs.declared.cell.Cell.TheVariants.{Fixed};
 ghost use Rattle.pearl_resolve.specs.Expressions as spec;
@@ -19,6 +18,7 @@ ghost use Rattle.pearl_resolve.specs.Holding.{HoldsWalk, Walks};
 use crate::bounds::{add_bounds, elements};
 use crate::counts::{further_on, product};
 use crate::numbered::NumberedTable;
+use pearl_check_expr::standing::dimension_of;
 use pearl_names::meaning::Found;
 use pearl_names::scope::View;
 use pearl_names::sense::{Bounds, Form, Parameter, Sense};
@@ -272,15 +272,6 @@ fn open_bounds(walk: &Walk) -> &[Bound]
     ensures { (forms : List StructFormOf) (of : spec.Walk) → HoldsWalk forms walk.now of → result.now ≡ spec.open_bounds of }
 {
     behind(walk.bounds.as_slice(), walk.subscripts.as_slice().len())
-}
-
-fn dimension_of(dimension: Option<Number>) -> u64
-    ensures { result ≡ judged.dimension_of dimension }
-{
-    match dimension {
-        Some(number) => number.value,
-        None => 1,
-    }
 }
 
 fn side_of(side: Side, bound: Bound) -> i32
