@@ -1,5 +1,5 @@
--- Which kinds the parts of a statement may have, and what may be a target: S23, S25 and S29. Places are counted from the
--- statement's first byte.
+-- Which kinds the parts of a statement may have, what may be a target, and which priorities a task may declare: S23, S25,
+-- S29 and S30. Places are counted from the statement's first byte.
 use Prim.Native.String.{String}
 use Rattle.std.specs.Prelude.{◌≡◌, ℕ, ◌+◌, Bool, true, false, List, [], ◌∷◌, map, Option, Some, None}
 use Rattle.std.proofs.Common.{refl}
@@ -14,6 +14,7 @@ use Rattle.pearl_names.specs.Sorts.{sorted_names, names_of_scopes}
 use Rattle.pearl_check.proofs.EachSort.{name, number, fault, reference, variable, literal, one, loop, locals, doing, with_each_kind, told}
 use Rattle.pearl_check.specs.declared.asked.Role.TheVariants.{Plain, Condition, Count, Moment, Lapse, Priority}
 use Rattle.pearl_check.specs.Roles.{is_for_role}
+use Rattle.pearl_check.specs.Rules.{is_priority}
 use Rattle.pearl_check.proofs.Broken.{broken}
 
 -- of FIXED, BIT(1), BIT(2), CHAR, CLOCK and DURATION
@@ -49,6 +50,10 @@ lapse = refl
 
 priority : map (is_for_role Priority) kinds ≡ only_fixed
 priority = refl
+
+-- PRIO 0, 1, 255 and 256 of a task
+declared_priority : map is_priority (0 ∷ 1 ∷ 255 ∷ 256 ∷ []) ≡ false ∷ true ∷ true ∷ false ∷ []
+declared_priority = refl
 
 -- In what follows v is a variable of each kind.
 -- IF v THEN FIN;

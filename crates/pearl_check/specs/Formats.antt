@@ -14,6 +14,7 @@ use Rattle.pearl_tree.specs.declared.rule.TheConstants as rule
 use Rattle.pearl_tree.specs.Faults.{fault_if}
 use Rattle.pearl_tree.specs.ShownStatements.{ShownStmt, OfPut, OfGet}
 use Rattle.pearl_names.specs.Tables.{Table}
+use Rattle.pearl_check.specs.declared.limit.TheConstants as limit
 use Rattle.pearl_check.specs.Views.{value_kind, target_kind}
 
 abbrev pub place_of_item : Fmt → ℕ
@@ -53,8 +54,8 @@ least_width code = 1
 
 abbrev pub has_width : Fmt → Bool
 has_width (Free code None place) = true
-has_width (Free code (Some width) place) = nat_le 1 width.value && nat_le width.value 255
-has_width (Wide code width place) = nat_le (least_width code) width.value && nat_le width.value 255
+has_width (Free code (Some width) place) = nat_le 1 width.value && nat_le width.value limit.WIDTH_MAX
+has_width (Wide code width place) = nat_le (least_width code) width.value && nat_le width.value limit.WIDTH_MAX
 
 -- the length of a value of this kind, or the number of its digits
 abbrev pub length_by : FreeCode → Kind → ℕ
@@ -108,10 +109,11 @@ sum_of_widths (item ∷ items) kinds = counted_width item (kind_for item kinds) 
 abbrev pub data_count : List Fmt → ℕ
 data_count items = length (filter is_data items)
 
--- there are not as many data items as values or targets, more than 64, or the widths are above 1,024 together
+-- there are not as many data items as values or targets, or too many, or the widths are too much together
 abbrev pub is_ill_sized : List Fmt → List (Option Kind) → Bool
 is_ill_sized items kinds =
-    not (data_count items == length kinds) || (nat_lt 64 (data_count items) || nat_lt 1024 (sum_of_widths items kinds))
+    not (data_count items == length kinds) ||
+    (nat_lt limit.DATA_MAX (data_count items) || nat_lt limit.FORMAT_MAX (sum_of_widths items kinds))
 
 abbrev pub format_faults : ℕ → List Fmt → List (Option Kind) → List RuleFault
 format_faults place items kinds = item_faults items kinds ++ fault_if (is_ill_sized items kinds) place rule.S33

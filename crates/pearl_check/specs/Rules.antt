@@ -12,6 +12,7 @@ use Rattle.pearl_scope.specs.Placed.{Placed}
 use Rattle.pearl_scope.specs.Rules as names
 use Rattle.pearl_names.specs.Tables.{Table, table_of}
 use Rattle.pearl_system.specs.Rules as devices
+use Rattle.pearl_check.specs.declared.limit.TheConstants as limit
 use Rattle.pearl_check.specs.Asked.{asked_at}
 use Rattle.pearl_check.specs.Calls.{Weighed, s28}
 use Rattle.pearl_check.specs.Dations.{s32}
@@ -22,7 +23,7 @@ use Rattle.pearl_check.specs.Sizes.{Declared, declared_in, weighed_procedures, w
 use Rattle.pearl_check.specs.Statements.{s24, s26, s27, s31}
 
 abbrev pub is_priority : ℕ → Bool
-is_priority number = nat_le 1 number && nat_le number 255
+is_priority number = nat_le 1 number && nat_le number limit.PRIORITY_MAX
 
 abbrev pub unfit_priority : Prio → List RuleFault
 unfit_priority prio = fault_if (not (is_priority prio.number.value)) prio.number.place rule.S30
@@ -32,7 +33,7 @@ head_faults (PrioFirst None main) = []
 head_faults (PrioFirst (Some prio) main) = unfit_priority prio
 head_faults (MainFirst prio) = unfit_priority prio
 
--- S30: a declared priority isn't 1 to 255
+-- S30: a declared priority is 0, or above the greatest one
 abbrev pub s30 : RoutineSort → List RuleFault
 s30 (Task head) = head_faults head
 s30 (Procedure returns) = []

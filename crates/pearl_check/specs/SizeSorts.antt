@@ -3,6 +3,7 @@ use Rattle.std.specs.Prelude.{ℕ, ◌+◌, ◌==◌, Bool, ◌&&◌, not, nat_l
 use Rattle.pearl_names.specs.declared.types.Counts.{Counts}
 use Rattle.pearl_names.specs.Counts.{cut}
 use Rattle.pearl_names.specs.Tables.{Sense}
+use Rattle.pearl_check.specs.declared.limit.TheConstants.{TASKS_MAX, PROCEDURES_MAX, SEMAPHORES_MAX, SLOTS_MAX, LEAF_NAME_MAX}
 use Rattle.pearl_check.specs.declared.sizes.Size.{Size}
 use Rattle.pearl_check.specs.declared.sizes.Size.TheVariants.{Tasks, Procedures, Semaphores, Slots}
 use Rattle.pearl_check.specs.declared.sizes.Sizes.{Sizes}
@@ -15,18 +16,18 @@ added Semaphores = semaphore_count
 added Slots = slot_count
 
 abbrev pub limit : Size → ℕ
-limit Tasks = 200
-limit Procedures = 200
-limit Semaphores = 1000
-limit Slots = 65536
+limit Tasks = TASKS_MAX
+limit Procedures = PROCEDURES_MAX
+limit Semaphores = SEMAPHORES_MAX
+limit Slots = SLOTS_MAX
 
 -- a size passes its limit between these counts
 abbrev pub passes : Size → ℕ → ℕ → Bool
 passes size before after = nat_le before (limit size) && nat_lt (limit size) after
 
--- a leaf of these has a name of more than 1,024 bytes behind so many
+-- a leaf of these has too long a name behind so many bytes
 abbrev pub is_long : ℕ → Counts → Bool
-is_long bytes counts = not (counts.leaves == 0) && nat_lt 1024 (bytes + counts.longest)
+is_long bytes counts = not (counts.leaves == 0) && nat_lt LEAF_NAME_MAX (bytes + counts.longest)
 
 -- the tasks and procedures among these names, and the slots of the variables
 abbrev pub sizes_in : List Declared → Sizes

@@ -13,6 +13,7 @@ use Rattle.pearl_scope.specs.Placed.{Placed}
 use Rattle.pearl_names.specs.Found.{names_in}
 use Rattle.pearl_names.specs.declared.scope.SortedName.{SortedName}
 use Rattle.pearl_names.specs.Tables.{Form, Sense, Variable, OwnParameter, Semaphore, Task, Procedure, Table, leaves_in}
+use Rattle.pearl_check.specs.declared.limit.TheConstants.{TASKS_MAX, PROCEDURES_MAX, SEMAPHORES_MAX, SLOTS_MAX, LEAF_NAME_MAX, CELLS_MAX}
 use Rattle.pearl_check.specs.Asked.{asked_at}
 use Rattle.pearl_calls.specs.Callers.{Caller}
 use Rattle.pearl_calls.specs.Weights.{greatest, whole_weight}
@@ -68,7 +69,7 @@ abbrev pub bytes_in_name : Name → Leaf → ℕ
 bytes_in_name name leaf = length (name_text name) + bytes_behind leaf
 
 abbrev pub has_long_leaf : Name → Sense → Bool
-has_long_leaf name (Variable form inv) = list_any (λ leaf. nat_lt 1024 (bytes_in_name name leaf)) (leaves_in form)
+has_long_leaf name (Variable form inv) = list_any (λ leaf. nat_lt LEAF_NAME_MAX (bytes_in_name name leaf)) (leaves_in form)
 has_long_leaf name sense = false
 
 abbrev pub long_leaf_fault : Declared → List RuleFault
@@ -77,10 +78,10 @@ long_leaf_fault declared = fault_if (has_long_leaf declared.name declared.sense)
 -- S34: a size is passed
 abbrev pub counted_sizes : List Declared → List RuleFault
 counted_sizes declared =
-    passed task_count 200 0 declared ++
-    (passed procedure_count 200 0 declared ++
-    (passed semaphore_count 1000 0 declared ++
-    (passed slot_count 65536 0 declared ++ flat_map long_leaf_fault declared)))
+    passed task_count TASKS_MAX 0 declared ++
+    (passed procedure_count PROCEDURES_MAX 0 declared ++
+    (passed semaphore_count SEMAPHORES_MAX 0 declared ++
+    (passed slot_count SLOTS_MAX 0 declared ++ flat_map long_leaf_fault declared)))
 
 -- the cells of a parameter, and of the slots of a variable
 abbrev pub cells : Sense → ℕ
@@ -126,7 +127,7 @@ weighed_of table procedures routine = record { name = routine.name; caller = cal
 
 abbrev pub overweight : List Caller → Weighed → List RuleFault
 overweight procedures weighed =
-    fault_if (nat_lt 4096 (whole_weight procedures weighed.caller)) weighed.name.place rule.S34
+    fault_if (nat_lt CELLS_MAX (whole_weight procedures weighed.caller)) weighed.name.place rule.S34
 
 -- S34: a weight is above the limit. Weights are asked only where S28 isn't broken.
 abbrev pub weights : (cycles : List RuleFault) → (procedures tasks : List Weighed) → List RuleFault

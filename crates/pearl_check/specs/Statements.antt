@@ -12,6 +12,7 @@ use Rattle.pearl_names.specs.declared.scope.View.TheVariants.{Within}
 use Rattle.pearl_names.specs.Lengths.{kind_of_basic}
 use Rattle.pearl_names.specs.Tables.{Table}
 use Rattle.pearl_check_expr.specs.Judged.{misfits}
+use Rattle.pearl_check.specs.declared.limit.TheConstants as limit
 use Rattle.pearl_check.specs.Routines.{RoutineSort, Task, Procedure}
 use Rattle.pearl_check.specs.Views.{seen, value_kind, target_kind, is_semaphore}
 
@@ -46,9 +47,9 @@ abbrev pub fault_at_name : Option Name → ℕ → List RuleFault
 fault_at_name None rule = []
 fault_at_name (Some name) rule = record { place = name.place; rule = rule } ∷ []
 
--- S31: a semaphore is named twice, or there are more than 16 names
+-- S31: a semaphore is named twice, or there are too many names
 abbrev pub s31 : Table → (scope : ℕ) → ShownStmt → List RuleFault
 s31 table scope (OfOnSemas word names place) =
     repeats rule.S31 [] (filter (λ name. is_semaphore (seen table (Within scope) name)) names) ++
-    fault_at_name (slice_get names 16) rule.S31
+    fault_at_name (slice_get names limit.NAMES_MAX) rule.S31
 s31 table scope statement = []

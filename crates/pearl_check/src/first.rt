@@ -13,6 +13,7 @@ ghost use Rattle.pearl_names.specs.Holding.{HoldsTable};
 ghost use Rattle.pearl_names.specs.Tables as tables;
 ghost use Rattle.pearl_system.specs.Devices.{IsDevice, device_key};
 ghost use Rattle.pearl_system.specs.Rising.{Lists};
+ghost use Rattle.pearl_check.specs.declared.limit.TheConstants as limit;
 ghost use Rattle.pearl_check.specs.Calls as calls_spec;
 ghost use Rattle.pearl_check.specs.Checks.{module_callers, sizes_of};
 ghost use Rattle.pearl_check.specs.Routines as routines_spec;
@@ -23,6 +24,7 @@ ghost use Rattle.pearl_check.specs.Weighing as weighing;
 ghost use Rattle.pearl_check.specs.Weighing.{HoldsWeighed, held_caller, place_of};
 
 use crate::callers::{Routines, routines_of};
+use crate::limit::CELLS_MAX;
 use crate::rules::statement_faults;
 use crate::sizes::{Sizes, tell_sizes};
 use pearl_calls::caller::Caller;
@@ -37,9 +39,6 @@ use pearl_tree::fault::{RuleFault, in_order};
 use pearl_tree::rule;
 use pearl_tree::tree::Tree;
 use std::alloc::{AllocError as NoMemory, Global};
-
-/// The most that a task or procedure may weigh.
-const WEIGHT_LIMIT: u32 = 4096;
 
 fn is_before(fault: RuleFault, other: RuleFault) -> bool
     ensures { result ≡ spec.is_before fault other }
@@ -137,7 +136,7 @@ struct Weights<'a> {
 fn is_overweight(weights: &Weights<'_>, caller: &Caller) -> bool
     requires numbering { IsNumbering weights.now.procedures.now weights.now.numbering.now }
     requires weights { weights.now.weights.now ≡ weights_of weights.now.procedures.now }
-    ensures { result ≡ nat_lt 4096 (capped (whole_weight weights.now.procedures.now caller.now)) }
+    ensures { result ≡ nat_lt limit.CELLS_MAX (capped (whole_weight weights.now.procedures.now caller.now)) }
 {
     let weight = weight_of(
         weights.procedures,
@@ -145,7 +144,7 @@ fn is_overweight(weights: &Weights<'_>, caller: &Caller) -> bool
         weights.weights,
         caller,
     );
-    WEIGHT_LIMIT < weight
+    CELLS_MAX < weight
 }
 
 fn tell_overweight(

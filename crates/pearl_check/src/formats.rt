@@ -5,9 +5,11 @@ ghost use Rattle.pearl_tree.specs.declared.format.FreeCode.TheVariants as free_c
 ghost use Rattle.pearl_tree.specs.ShownExpressions.{shown_expr, shown_ref};
 ghost use Rattle.pearl_names.specs.Holding.{HoldsTable};
 ghost use Rattle.pearl_names.specs.Tables as tables;
+ghost use Rattle.pearl_check.specs.declared.limit.TheConstants as limit;
 ghost use Rattle.pearl_check.specs.Formats as spec;
 ghost use Rattle.pearl_check.specs.Views as views;
 
+use crate::limit::{DATA_MAX, FORMAT_MAX, WIDTH_MAX};
 use crate::tell::tell_if;
 use crate::views::{target_kinds, value_kinds};
 use pearl_names::table::SenseTable;
@@ -17,15 +19,6 @@ use pearl_tree::rule;
 use pearl_tree::statement::{Get, Put};
 use pearl_value::kind::Kind;
 use std::alloc::{AllocError as NoMemory, Global};
-
-/// The greatest number of data items of one format.
-const MOST_DATA: usize = 64;
-
-/// The greatest width of an item.
-const WIDEST: u64 = 255;
-
-/// The greatest sum of widths of one format.
-const WIDEST_FORMAT: u64 = 1024;
 
 fn place_of(item: &Fmt) -> u32
     ensures { result ≡ spec.place_of_item item.now }
@@ -117,9 +110,9 @@ fn is_for_other(item: &Fmt, kind: Option<Kind>) -> bool
 }
 
 fn is_width(least: u64, width: u64) -> bool
-    ensures { result ≡ nat_le least width && nat_le width 255 }
+    ensures { result ≡ nat_le least width && nat_le width limit.WIDTH_MAX }
 {
-    least <= width && width <= WIDEST
+    least <= width && width <= WIDTH_MAX
 }
 
 fn least_width(code: WideCode) -> u64
@@ -266,9 +259,9 @@ fn item_faults(
 }
 
 fn is_too_wide(mut items: &[Fmt], mut kinds: &[Option<Kind>]) -> bool
-    ensures { result ≡ nat_lt 1024 (spec.sum_of_widths items.entry.now kinds.entry.now) }
+    ensures { result ≡ nat_lt limit.FORMAT_MAX (spec.sum_of_widths items.entry.now kinds.entry.now) }
 {
-    let mut room = WIDEST_FORMAT;
+    let mut room = FORMAT_MAX;
     while let [item, rest @ ..] = items {
         let width = counted_width(item, kind_for(item, kinds));
         if room < width {
@@ -291,7 +284,7 @@ fn is_ill_sized(items: &[Fmt], kinds: &[Option<Kind>]) -> bool
     ensures { result ≡ spec.is_ill_sized items.now kinds.now }
 {
     let count = data_count(items);
-    count != kinds.len() || count > MOST_DATA || is_too_wide(items, kinds)
+    count != kinds.len() || count > DATA_MAX || is_too_wide(items, kinds)
 }
 
 fn format_faults(

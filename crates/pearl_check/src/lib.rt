@@ -16,6 +16,7 @@ pub mod fault;
 mod first;
 mod formats;
 pub mod laws;
+pub mod limit;
 pub mod pieces;
 pub mod procedures;
 mod roles;

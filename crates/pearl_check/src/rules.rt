@@ -16,6 +16,7 @@ ghost use Rattle.pearl_check.specs.Routines.{decl_routines, decls_routines, show
 ghost use Rattle.pearl_check.specs.Rules as spec;
 
 use crate::asked::{Asked, add_asked};
+use crate::limit::PRIORITY_MAX;
 use crate::roles::asked_faults;
 use crate::routine::RoutineSort;
 use crate::statements::own_faults;
@@ -28,9 +29,6 @@ use pearl_tree::rule;
 use pearl_tree::statement::Body;
 use pearl_tree::tree::{Decl, TaskHead, Tree};
 use std::alloc::{AllocError as NoMemory, Global};
-
-/// The greatest number of a declared priority.
-const GREATEST_PRIORITY: u64 = 255;
 
 fn all_asked_faults(
     alloc: Global,
@@ -105,7 +103,7 @@ fn unfit_priority(faults: &mut Vec<RuleFault>, prio: &Prio) -> Result<(), NoMemo
     ensures { OnOk result (faults.new.items ≡ faults.old.items ++ spec.unfit_priority prio.now) }
 {
     let number = prio.number;
-    let fits = 1 <= number.value && number.value <= GREATEST_PRIORITY;
+    let fits = 1 <= number.value && number.value <= PRIORITY_MAX;
     tell_if(faults, !fits, number.place, rule::S30)?;
     Ok(())
 }

@@ -10,9 +10,11 @@ ghost use Rattle.pearl_names.specs.declared.types.StructForm.{StructForm as Stru
 ghost use Rattle.pearl_names.specs.Holding.{HoldsFound, HoldsSense, HoldsTable};
 ghost use Rattle.pearl_names.specs.Tables as tables;
 ghost use Rattle.pearl_scope.specs.Seen.{Sees};
+ghost use Rattle.pearl_check.specs.declared.limit.TheConstants as limit;
 ghost use Rattle.pearl_check.specs.Statements as spec;
 ghost use Rattle.pearl_check.specs.Views as views;
 
+use crate::limit::NAMES_MAX;
 use crate::tell::tell_if;
 use pearl_names::names::{FirstNames, note};
 use pearl_names::scope::View;
@@ -23,9 +25,6 @@ use pearl_tree::name::Name;
 use pearl_tree::rule;
 use std::alloc::{AllocError as NoMemory, Global};
 use std::collections::BTreeMap;
-
-/// The greatest number of names of one statement.
-const MOST_NAMES: usize = 16;
 
 fn is_semaphore_sense(sense: &Sense) -> bool
     ensures { (forms : List StructFormOf) (of : tables.Sense) → HoldsSense forms sense.now of →
@@ -111,9 +110,9 @@ fn tell_repeats(
 
 // The first name of too many.
 fn seventeenth(names: &[Name]) -> Option<&Name>
-    ensures { option_copied result ≡ slice_get names.now 16 }
+    ensures { option_copied result ≡ slice_get names.now limit.NAMES_MAX }
 {
-    names.get(MOST_NAMES)
+    names.get(NAMES_MAX)
 }
 
 fn tell_name(faults: &mut Vec<RuleFault>, name: Option<&Name>) -> Result<(), NoMemory>
@@ -137,7 +136,7 @@ pub(crate) fn s31_of(
         faults.new.items ≡
         faults.old.items ++
         (repeats 31 [] (filter (λ name. views.is_semaphore (views.seen t (Within scope) name)) names.now) ++
-        spec.fault_at_name (slice_get names.now 16) 31)) }
+        spec.fault_at_name (slice_get names.now limit.NAMES_MAX) 31)) }
 {
     tell_repeats(alloc, table, faults, scope, names)?;
     tell_name(faults, seventeenth(names))?;

@@ -13,6 +13,7 @@ ghost use Rattle.pearl_check.specs.Sizes as spec;
 ghost use Rattle.pearl_check.specs.SizeSorts as sorts;
 
 use crate::cut::cut_sum;
+use crate::limit::{LEAF_NAME_MAX, PROCEDURES_MAX, SEMAPHORES_MAX, SLOTS_MAX, TASKS_MAX};
 use crate::tell::tell_if;
 use pearl_names::layout::form_counts;
 use pearl_names::scope::SortedName;
@@ -44,17 +45,14 @@ pub struct Sizes {
     pub slots: u32,
 }
 
-/// The longest name that a leaf may have, in bytes.
-const LONGEST_NAME: usize = 1024;
-
 fn limit(size: Size) -> u32
     ensures { result ≡ sorts.limit size }
 {
     match size {
-        Size::Tasks => 200,
-        Size::Procedures => 200,
-        Size::Semaphores => 1000,
-        Size::Slots => 65536,
+        Size::Tasks => TASKS_MAX,
+        Size::Procedures => PROCEDURES_MAX,
+        Size::Semaphores => SEMAPHORES_MAX,
+        Size::Slots => SLOTS_MAX,
     }
 }
 
@@ -137,7 +135,7 @@ fn tell_passed(
 fn is_long(bytes: usize, counts: Counts) -> bool
     ensures { result ≡ sorts.is_long bytes counts }
 {
-    let room = match LONGEST_NAME.checked_sub(bytes) {
+    let room = match LEAF_NAME_MAX.checked_sub(bytes) {
         Some(room) => room,
         None => return counts.leaves != 0,
     };
