@@ -3,6 +3,7 @@ mod BitLaws
 mod Pieces
 mod Steps
 mod Completing
+mod Going
 mod Written
 mod Back
 mod Within

@@ -2,3 +2,5 @@
 
 -- what digits of some bits each spell
 pub use Rattle.pearl_scan.proofs.BitLaws.{other_byte}
+-- how far a GET has come where more bytes come in
+pub use Rattle.pearl_scan.proofs.Going.{going_on}

@@ -6,3 +6,5 @@ pub mod Digits
 pub mod Answers
 -- what GET uses, and what it reads, also of what PUT wrote
 pub mod Laws
+-- how far a GET has come where more bytes may come in
+pub mod Progress

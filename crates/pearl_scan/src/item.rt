@@ -28,7 +28,7 @@ pub(crate) enum Found {
     Value(usize, Cell),
 }
 
-fn width_or(width: u8, own: usize) -> usize
+pub(crate) fn width_or(width: u8, own: usize) -> usize
     ensures { result ≡ fields.width_or width own }
 {
     if width == 0 { own } else { width as usize }
@@ -48,7 +48,7 @@ fn bits_width(group: u8, width: u8, kinds: &[Kind]) -> usize
 }
 
 // The width of an item for the targets that are left.
-fn width_over(item: &Item, kinds: &[Kind]) -> usize
+pub(crate) fn width_over(item: &Item, kinds: &[Kind]) -> usize
     ensures { result ≡ items.width_over item.now.code item.now.width kinds.now }
 {
     match item.code {

@@ -9,5 +9,6 @@ mod item;
 pub mod laws;
 mod mark;
 pub mod number;
+pub mod progress;
 pub mod scan;
 pub mod span;

@@ -4,7 +4,6 @@ ghost use Rattle.std.specs.Prelude.{◌≡◌, ◌≤◌, length};
 ghost use Rattle.std.specs.List.{AllByRecursion};
 ghost use Rattle.pearl_value.specs.Kinds.{IsKind};
 ghost use Rattle.pearl_rules.specs.Scan as spec;
-ghost use Rattle.pearl_rules.specs.Pick as pick;
 ghost use Rattle.pearl_scan.specs.Answers as answers;
 
 use crate::item::{Found, scan_item};
@@ -47,28 +46,4 @@ pub fn scan(items: &[Item], kinds: &[Kind], bytes: &[u8]) -> Scanned
         }
     }
     Scanned::Got(used, values)
-}
-
-/// Whether a GET finds all that it waits for: each field and line end is there, or a bad field before one that isn't.
-/// No value is kept.
-pub fn is_complete(items: &[Item], kinds: &[Kind], bytes: &[u8]) -> bool
-    requires few { length kinds.now ≤ 64 }
-    requires are { AllByRecursion IsKind kinds.now }
-    requires near { length bytes.now ≤ 4096 }
-    ensures { result ≡ pick.is_complete (spec.scan items.now kinds.now bytes.now) }
-{
-    let mut used = 0;
-    let mut taken = 0;
-    for item in items {
-        match scan_item(item, &kinds[taken..], &bytes[used..]) {
-            Found::Short => return false,
-            Found::Bad(_) => return true,
-            Found::Passed(more) => used += more,
-            Found::Value(more, _) => {
-                used += more;
-                taken += 1;
-            }
-        }
-    }
-    true
 }
