@@ -76,8 +76,30 @@ def series(count):
 
 def gets(count, items):
     """So many tasks that wait in a GET of one value for these items."""
-    return HEAD + tasks(count, f"DCL a FIXED; REPEAT GET a FROM tty BY {items}; END;", " PRIO 5 MAIN") + TAIL
+    return differing(count, lambda _: items)
 
+
+def differing(count, items):
+    """So many tasks that wait in a GET of one value, each for the items of its number."""
+    bodies = "".join(f"t{n}: TASK PRIO 5 MAIN;\nDCL a FIXED; REPEAT GET a FROM tty BY {items(n)}; END;\nEND;\n"
+                     for n in range(count))
+    return HEAD + bodies + TAIL
+
+
+def reading(items):
+    """One task reads digit by digit, and 197 others wait in a GET of one value, each for the items of its number."""
+    reads = "reads: TASK PRIO 9 MAIN;\nDCL a FIXED; REPEAT GET a FROM tty BY F(1); END;\nEND;\n"
+    return differing(197, items)[:-len(TAIL)] + reads + TAIL
+
+
+def lines(count):
+    """The items of so many lines that are passed over."""
+    rest = f"SKIP({count % 255}), " if count % 255 else ""
+    return "SKIP(255), " * (count // 255) + rest
+
+
+# 3,000 bytes that wait, none of which ends a line.
+FULL = f"chars 1 '{'1' * 1000}'\n" * 3
 
 # Each row: a name, the plant, the journal's part that is measured, how much of what it has, and, where the lines by
 # themselves are not to be measured, what stands in its place in the other journal.
@@ -99,6 +121,18 @@ WORK = [
     ("1,000 lines, 198 tasks wait in a GET of 1,020 lines", gets(198, "SKIP(255), " * 4 + "F(4)"), "line 1 '1'\n" * 1000,
      1000, "line"),
     ("1,000 lines of a byte, 198 tasks wait in a GET", gets(198, "SKIP(1), F(4)"), "chars 1 '1'\n" * 1000, 1000, "line"),
+    ("1,000 lines, 198 tasks wait in GETs of 823 to 1,020 lines", differing(198, lambda n: lines(1020 - n) + "F(4)"),
+     "line 1 '123'\n" * 1000, 1000, "line"),
+    ("1,000 lines, each fifth completes one of 198 GETs", differing(198, lambda n: lines(5 * n + 1) + "F(4)"),
+     "line 1 '123'\n" * 1000, 1000, "line"),
+    ("400 lines that take 198 GETs a line further each", differing(198, lambda n: "X, SKIP, " * 400 + f"F({n + 4})"),
+     "line 1 '1'\n" * 400, 400, "line"),
+    ("1,000 lines, each read by one of 198 GETs", differing(198, lambda n: f"F({n + 4}), SKIP"),
+     "line 1 '1'\nrun 2\n" * 1000, 1000, "line"),
+    ("3,000 bytes read, 197 tasks wait in a GET of 255 lines", reading(lambda _: "SKIP(255), F(4)"), FULL + "run 6000\n",
+     3000, "byte", FULL),
+    ("3,000 bytes read, 197 tasks wait in GETs of lines, no two alike", reading(lambda n: f"SKIP({n + 1}), F(4)"),
+     FULL + "run 6000\n", 3000, "byte", FULL),
     ("1,000 states, 199 tasks, all ready", ready(199), "state\n" * 1000, 1000, "state"),
 ]
 

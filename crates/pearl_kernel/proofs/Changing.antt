@@ -112,7 +112,7 @@ module _ {X : Type 0} (look : Option Channel → X)
   channel_same (Values kind pending) enabled is = absurd is
   channel_same Outward enabled is = absurd is
 
-  switch_same : (channels : List Channel) (u d : ℕ) (enabled : Bool) → HasSwitch (slice_get channels u) →
+  pub switch_same : (channels : List Channel) (u d : ℕ) (enabled : Bool) → HasSwitch (slice_get channels u) →
       look (slice_get (slice_set channels u (Switch enabled)) d) ≡ look (slice_get channels d)
   switch_same [] u d enabled is = refl
   switch_same (channel ∷ channels) zero zero enabled is = channel_same channel enabled is

@@ -19,6 +19,7 @@ mod Picking
 mod Acting
 mod Offering
 mod Unsettling
+mod Getting
 mod SameReads
 mod AtStart
 pub mod Offered

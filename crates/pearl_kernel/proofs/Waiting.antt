@@ -14,7 +14,7 @@ use Rattle.pearl_kernel.specs.Channels.{HasSwitch, HasBytes, HasValuesFor, behin
 use Rattle.pearl_kernel.specs.Kept.{Kept}
 
 -- a place that is written with what stands there
-set_same : {X : Type 0} (xs : List X) (i : ℕ) (x : X) → slice_get xs i ≡ Some x → slice_set xs i x ≡ xs
+pub set_same : {X : Type 0} (xs : List X) (i : ℕ) (x : X) → slice_get xs i ≡ Some x → slice_set xs i x ≡ xs
 set_same [] i x e = refl
 set_same (y ∷ xs) zero x e = ap (λ z. z ∷ xs) (sym (same_Some y x e))
 set_same (y ∷ xs) (suc i) x e = ap (λ zs. y ∷ zs) (set_same xs i x e)

@@ -5,7 +5,7 @@ use Rattle.pearl_rules.specs.declared.action.Action.{Action}
 use Rattle.pearl_rules.specs.declared.action.Action.TheVariants.{Request, Get, Take}
 use Rattle.pearl_rules.specs.Core.{Core}
 use Rattle.pearl_rules.specs.Devices.{bytes_at, values_at}
-use Rattle.pearl_rules.specs.Pick.{guard, is_possible}
+use Rattle.pearl_rules.specs.Pick.{guard}
 use Rattle.pearl_kernel.specs.declared.changes.Changed.{Changed}
 use Rattle.pearl_kernel.specs.declared.changes.Changed.TheVariants.{Nothing, Counts, Device}
 use Rattle.pearl_kernel.specs.Kept.{Kept, offered}
@@ -45,16 +45,6 @@ renewed_offer changed core (Some action) before = if looks_at changed action the
 
 abbrev pub renewed : Changed → Kept → ℕ → (before : Bool) → Bool
 renewed changed k t before = renewed_offer changed k.core (offered k t) before
-
--- a task whose offer was asked, with whether that can be done
-abbrev pub IsKnown : Kept → Option (ℕ × Bool) → Type 0
-IsKnown k None = Unit {0}
-IsKnown k (Some (t, able)) = is_possible k.core (offered k t) ≡ able
-
--- the offer of a task was asked: whether it can be done, and what is renewed whatever was kept before
-pub record IsAsked (k : Kept) (changed : Changed) (t : ℕ) (able : Bool) : Type 0 where
-  pub possible : is_possible k.core (offered k t) ≡ able
-  pub renewed : (before : Bool) → able ≡ renewed changed k t before
 
 -- what is kept of a task is renewed
 pub record IsRenewedAt (k : Kept) (changed : Changed) (old new : Stand) (t : ℕ) : Type 0 where

@@ -20,3 +20,5 @@ pub mod Requests
 pub mod Touched
 -- the bits that tell which tasks are active and have offered nothing
 pub mod Unsettled
+-- how far the GET that each task offers has come
+pub mod Gets

@@ -11,6 +11,11 @@ use Rattle.pearl_kernel.specs.Kept.{Kept, offered}
 use Rattle.pearl_kernel.specs.Channels.{HasSwitch, HasBytes}
 use Rattle.pearl_kernel.specs.Timing.{IsTimelyStart, IsTimelyRepeat}
 
+-- the targets of a GET are of kinds that there are
+abbrev pub HasKinds : Action → Type 0
+HasKinds (action.Get device format kinds) = (length kinds.items ≤ 64) × AllByRecursion IsKind kinds.items
+HasKinds other = Unit {0}
+
 abbrev pub Names : Core → Action → Type 0
 Names core (action.Read slot) = slot < length core.slots
 Names core (action.Write slot value) = slot < length core.slots

@@ -234,6 +234,14 @@ impl Kernel {
     pub fn shown(&self, task: u32) -> Shown
         ensures { result ≡ shown_of self.now.core (offered_of self.now) task }
     {
+        self.shown_beside(task, self.picked())
+    }
+
+    /// The same beside the task that acts next, so that this one is sought once for all tasks.
+    pub fn shown_beside(&self, task: u32, picked: Option<u32>) -> Shown
+        requires { picked ≡ pick self.now.core (offered_of self.now) }
+        ensures { result ≡ shown_of self.now.core (offered_of self.now) task }
+    {
         match self.state.mode(task) {
             Mode::Dormant => Shown::Dormant,
             Mode::Active {
@@ -243,7 +251,7 @@ impl Kernel {
             Mode::Active { priority, .. } => {
                 if !self.is_possible(task) {
                     Shown::Blocked(priority)
-                } else if self.picked() == Some(task) {
+                } else if picked == Some(task) {
                     Shown::Running(priority)
                 } else {
                     Shown::Runnable(priority)

@@ -13,6 +13,7 @@ mod bid;
 mod changes;
 mod channel;
 mod due;
+mod gets;
 mod happened;
 mod inputs;
 mod kernel;

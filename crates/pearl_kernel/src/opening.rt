@@ -11,6 +11,7 @@ use pearl_format::item::Item;
 use pearl_rules::event::Event;
 use pearl_rules::row::{Kept, Mode, TaskRow};
 use pearl_rules::setup::TaskEntry;
+use pearl_scan::progress::Progress;
 use pearl_value::cell::{Cell, copy_of};
 use pearl_value::device::Device;
 use pearl_value::listing::Listing;
@@ -56,6 +57,17 @@ pub fn no_offers(alloc: Global, count: usize) -> Result<Vec<Bid>, AllocError>
         offers.push(Bid::new(alloc)?)?;
     }
     Ok(offers)
+}
+
+/// The place for how far the GET of each task has come.
+pub fn no_progress(alloc: Global, count: usize) -> Result<Vec<Progress>, AllocError>
+    ensures { IfOk result (λ progress. length progress.items ≡ count) }
+{
+    let mut progress = Vec::with_capacity(alloc, count)?;
+    for _ in 0..count {
+        progress.push(Progress::start())?;
+    }
+    Ok(progress)
 }
 
 /// The first value of each slot.

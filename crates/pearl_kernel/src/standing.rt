@@ -8,7 +8,7 @@ ghost use Rattle.pearl_kernel.specs.Names.{NamesAll};
 ghost use Rattle.pearl_kernel.specs.Eligible.{possible, able_at, noted};
 ghost use Rattle.pearl_kernel.specs.Whole.{IsOfTasks};
 ghost use Rattle.pearl_kernel.specs.declared.changes.Changed.TheVariants.{Counts};
-ghost use Rattle.pearl_kernel.specs.Changes.{Renews, AreRenewed, AreRenewedBut, AreRenewedIf, IsKnown};
+ghost use Rattle.pearl_kernel.specs.Changes.{Renews, AreRenewed, AreRenewedBut, AreRenewedIf};
 ghost use Rattle.pearl_kernel.specs.Requests.{requests, WaitsForOne};
 ghost use Rattle.pearl_kernel.specs.Touched.{reach_of, IsThere, IsRenewed};
 
@@ -109,35 +109,8 @@ impl Standing {
         ensures { AreRenewed state.now changed self.old self.new }
     {
         let count = state.tasks() as u32;
-        let mut known = None;
         for task in 0..count {
-            known = self.renew_next(state, task, changed, known);
-        }
-    }
-
-    // A task stands as it does now, where something is known of an offer. The answer is what is known then.
-    fn renew_next(
-        &mut self,
-        state: &State,
-        task: u32,
-        changed: Changed,
-        known: Option<(u32, bool)>,
-    ) -> Option<(u32, bool)>
-        requires there { task < length self.old.able }
-        requires names { NamesAll state.now }
-        requires known { IsKnown state.now known }
-        ensures renews { Renews state.now changed task self.old self.new }
-        ensures known { IsKnown state.now result }
-    {
-        match state.asked(task, changed, known) {
-            None => {
-                self.renew_one(state, task, changed);
-                known
-            }
-            Some(able) => {
-                self.note(state, task, able);
-                Some((task, able))
-            }
+            self.renew_one(state, task, changed);
         }
     }
 

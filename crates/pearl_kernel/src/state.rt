@@ -14,7 +14,7 @@ ghost use Rattle.pearl_rules.specs.Devices.{is_enabled as is_enabled_in, channel
 ghost use Rattle.pearl_rules.specs.Devices.{without_bytes, values_at, without_value, terminal_room, input_room};
 ghost use Rattle.pearl_rules.specs.Scan.{scan as scan_spec};
 ghost use Rattle.pearl_rules.specs.Plans.{with_mode};
-ghost use Rattle.pearl_rules.specs.Pick.{is_complete as is_complete_of, is_possible as is_possible_in, is_some_value, guard};
+ghost use Rattle.pearl_rules.specs.Pick.{is_possible as is_possible_in, is_some_value, guard};
 ghost use Rattle.pearl_value.specs.Counts.{IsPreset};
 ghost use Rattle.pearl_value.specs.WellFormed.{IsTyped};
 ghost use Rattle.pearl_sema.specs.Waiting.{AreThere, IsNext as IsNextWaiter, NoneIsNext as NoneIsNextWaiter};
@@ -28,16 +28,16 @@ ghost use Rattle.pearl_kernel.specs.Names.{Names};
 ghost use Rattle.pearl_kernel.specs.Timing.{timetable};
 ghost use Rattle.pearl_kernel.specs.Requests.{requests};
 ghost use Rattle.pearl_kernel.specs.Eligible.{entry_if};
-ghost use Rattle.pearl_kernel.specs.Changes.{renewed, renewed_offer, IsKnown, IsAsked};
+ghost use Rattle.pearl_kernel.specs.Changes.{renewed, renewed_offer};
 
-use crate::alike::{are_same_items, are_same_kinds};
 use crate::bid::Bid;
 use crate::changes::{Changed, looks_at};
 use crate::channel::Channel;
+use crate::gets::{add_at, ask_each, ask_first, bytes_of, drop_at, items_of};
 use crate::happened::Told;
 use crate::mirror::{keep_request, keep_row};
 use crate::opening::{
-    copied_formats, first_channels, first_rows, first_values, no_offers, tell_starts,
+    copied_formats, first_channels, first_rows, first_values, no_offers, no_progress, tell_starts,
 };
 use crate::unsettled::{first_bits, is_awake, put};
 use arrayvec::ArrayVec;
@@ -48,7 +48,8 @@ use pearl_format::item::Item;
 use pearl_rules::event::Event;
 use pearl_rules::row::{Mode, TaskRow};
 use pearl_rules::setup::Setup;
-use pearl_scan::scan::{Scanned, is_complete, scan};
+use pearl_scan::progress::Progress;
+use pearl_scan::scan::{Scanned, scan};
 use pearl_sema::semas::Semas;
 use pearl_timer::timer::Timer;
 use pearl_value::cell::Cell;
@@ -71,6 +72,8 @@ pub struct State {
     semas: Semas,
     channels: Vec<Channel>,
     formats: Vec<Listing<Item>>,
+    // Of each task that offers a GET how far that has come in the bytes that wait.
+    progress: Vec<Progress>,
     last: Option<usize>,
     moment: u64,
     clock: u32,
@@ -83,6 +86,7 @@ impl Model for State {
     ghost use Rattle.pearl_kernel.specs.Timing.{timetable};
     ghost use Rattle.pearl_kernel.specs.Requests.{requests};
     ghost use Rattle.pearl_kernel.specs.Unsettled.{AreUnsettled};
+    ghost use Rattle.pearl_kernel.specs.Gets.{AreAsked};
 
     ghost Value = { Kept };
 
@@ -102,7 +106,8 @@ impl Model for State {
     } };
 
     ghost invariant = { λ s. (s.timer ≡ timetable s.rows.items) × (s.semas.waiting ≡ requests s.offers.items)
-        × AreUnsettled s.rows.items s.offers.items s.unsettled.items };
+        × AreUnsettled s.rows.items s.offers.items s.unsettled.items
+        × AreAsked s.offers.items s.formats.items s.channels.items s.progress.items };
 }
 
 impl State {
@@ -121,6 +126,7 @@ impl State {
         let semas = Semas::new(alloc, setup.semaphores.as_slice(), tasks.len())?;
         let channels = first_channels(alloc, setup.devices.as_slice())?;
         let formats = copied_formats(alloc, setup.formats.as_slice())?;
+        let progress = no_progress(alloc, tasks.len())?;
         let mut events = Told::new(alloc)?;
         tell_starts(tasks, &mut events);
         Ok(State {
@@ -132,6 +138,7 @@ impl State {
             semas,
             channels,
             formats,
+            progress,
             last: None,
             moment: 0,
             clock: 0,
@@ -273,6 +280,9 @@ impl State {
         let place = task as usize;
         keep_request(&mut self.semas, place, offer);
         lower(&mut self.unsettled, place);
+        let formats = self.formats.as_slice();
+        let channels = self.channels.as_slice();
+        ask_first(&mut self.progress, place, offer, formats, channels);
         self.offers[place].put(offer);
     }
 
@@ -371,19 +381,18 @@ impl State {
     {
         match self.offer(task) {
             None => false,
-            Some(offer) => self.can_do(offer),
+            Some(offer) => self.can_do(task, offer),
         }
     }
 
-    fn can_do(&self, offer: &Offer) -> bool
-        requires { Names self.now.core (action_of offer.now) }
+    fn can_do(&self, task: u32, offer: &Offer) -> bool
+        requires names { Names self.now.core (action_of offer.now) }
+        requires offered { offered_of self.now task ≡ Some (action_of offer.now) }
         ensures { result ≡ guard self.now.core (action_of offer.now) }
     {
         match offer.what {
             What::Request => self.is_free(&offer.list),
-            What::Get { device, format } => {
-                self.is_enough(device, format, offer.kinds.as_slice())
-            }
+            What::Get { .. } => self.progress[task as usize].is_complete(),
             What::Take(device) => self.has_value(device),
             _ => true,
         }
@@ -397,79 +406,20 @@ impl State {
     {
         match self.offer(task) {
             None => false,
-            Some(offer) => self.renewed_action(offer, changed, before),
+            Some(offer) => self.renewed_action(task, offer, changed, before),
         }
     }
 
-    fn renewed_action(&self, offer: &Offer, changed: Changed, before: bool) -> bool
-        requires { Names self.now.core (action_of offer.now) }
+    fn renewed_action(&self, task: u32, offer: &Offer, changed: Changed, before: bool) -> bool
+        requires names { Names self.now.core (action_of offer.now) }
+        requires offered { offered_of self.now task ≡ Some (action_of offer.now) }
         ensures { result ≡ renewed_offer changed self.now.core (Some (action_of offer.now)) before }
     {
         if looks_at(changed, offer) {
-            self.can_do(offer)
+            self.can_do(task, offer)
         } else {
             before
         }
-    }
-
-    /// Whether what a task has offered can be done, where it waits for what changed, and none where it doesn't. What
-    /// is known of another task's offer is asked no second time.
-    pub fn asked(&self, task: u32, changed: Changed, known: Option<(u32, bool)>) -> Option<bool>
-        requires names { (a : Acting.Action) → offered_of self.now task ≡ Some a → Names self.now.core a }
-        requires known { IsKnown self.now known }
-        ensures { IfSome result (IsAsked self.now changed task) }
-    {
-        let Some(offer) = self.offer(task) else {
-            return None;
-        };
-        if !looks_at(changed, offer) {
-            return None;
-        }
-        Some(self.can_do_as(offer, known))
-    }
-
-    // Whether an offer can be done, where this is known of another task's offer.
-    fn can_do_as(&self, offer: &Offer, known: Option<(u32, bool)>) -> bool
-        requires names { Names self.now.core (action_of offer.now) }
-        requires known { IsKnown self.now known }
-        ensures { result ≡ guard self.now.core (action_of offer.now) }
-    {
-        if let Some((task, able)) = known {
-            if self.waits_as(offer, task) {
-                return able;
-            }
-        }
-        self.can_do(offer)
-    }
-
-    // Whether an offer waits for the same bytes as that of a task.
-    fn waits_as(&self, offer: &Offer, task: u32) -> bool
-        ensures { result ≡ true → is_possible_in self.now.core (offered_of self.now task) ≡ guard self.now.core (action_of offer.now) }
-    {
-        match self.offer(task) {
-            None => false,
-            Some(other) => self.are_alike(offer, other),
-        }
-    }
-
-    // Whether two offers wait for the same bytes of a terminal, and read the same of them.
-    fn are_alike(&self, offer: &Offer, other: &Offer) -> bool
-        ensures { result ≡ true → guard self.now.core (action_of other.now) ≡ guard self.now.core (action_of offer.now) }
-    {
-        let What::Get { device, format } = offer.what else {
-            return false;
-        };
-        let What::Get {
-            device: terminal,
-            format: read,
-        } = other.what
-        else {
-            return false;
-        };
-        if device != terminal || !are_same_items(self.items(format), self.items(read)) {
-            return false;
-        }
-        are_same_kinds(offer.kinds.as_slice(), other.kinds.as_slice())
     }
 
     /// The priority number of a task that can act, where `able` is whether what it has offered can be done.
@@ -582,7 +532,17 @@ impl State {
         requires { HasBytes (channel_of self.old.core device) }
         ensures { self.new ≡ record self.old { core = without_bytes self.old.core device used } }
     {
-        self.channels[device as usize].drop_bytes(used);
+        drop_at(&mut self.channels, device, used);
+        let formats = self.formats.as_slice();
+        let channels = self.channels.as_slice();
+        ask_each(
+            &mut self.progress,
+            self.offers.as_slice(),
+            formats,
+            channels,
+            device,
+            true,
+        );
     }
 
     /// Takes the oldest value of an input; none exactly where nothing waits.
@@ -603,7 +563,18 @@ impl State {
           core = with_channel self.old.core device (Bytes (bytes_at self.old.core device ++ text.now));
         } else self.old) }
     {
-        self.channels[device as usize].add(text)
+        let kept = add_at(&mut self.channels, device, text);
+        let formats = self.formats.as_slice();
+        let channels = self.channels.as_slice();
+        ask_each(
+            &mut self.progress,
+            self.offers.as_slice(),
+            formats,
+            channels,
+            device,
+            false,
+        );
+        kept
     }
 
     /// A value comes in at an input, where there is room. The answer tells whether there is.
@@ -622,20 +593,14 @@ impl State {
         ensures bytes { result.now ≡ bytes_at self.now.core device }
         ensures within { length result.now ≤ 4096 }
     {
-        match self.channels.get(device as usize) {
-            None => &[],
-            Some(channel) => channel.bytes(),
-        }
+        bytes_of(self.channels.as_slice(), device)
     }
 
     // The items of a format.
     fn items(&self, format: u32) -> &[Item]
         ensures { result.now ≡ items_of self.now.core format }
     {
-        match self.formats.get(format as usize) {
-            None => &[],
-            Some(items) => items.as_slice(),
-        }
+        items_of(self.formats.as_slice(), format)
     }
 
     /// What GET reads from the bytes that wait at a terminal.
@@ -646,15 +611,6 @@ impl State {
         ensures { told result ≡ scan_spec (items_of self.now.core format) kinds.now (bytes_at self.now.core device) }
     {
         scan(self.items(format), kinds, self.bytes(device))
-    }
-
-    // Whether the bytes that wait at a terminal are enough for a GET.
-    fn is_enough(&self, device: u32, format: u32, kinds: &[Kind]) -> bool
-        requires few { length kinds.now ≤ 64 }
-        requires are { AllByRecursion IsKind kinds.now }
-        ensures { result ≡ is_complete_of (scan_spec (items_of self.now.core format) kinds.now (bytes_at self.now.core device)) }
-    {
-        is_complete(self.items(format), kinds, self.bytes(device))
     }
 
     // Whether a value waits at an input.

@@ -1,5 +1,4 @@
 use Rattle.std.proofs.Common.{◌≡◌, length}
-use Rattle.pearl_kernel.specs.Changes.{IsKnown}
 use Rattle.pearl_kernel.proofs.Renewing.{IsRenewedTo}
 use Rattle.pearl_kernel.proofs.standing.Standing.renew_all.Given as goal
 
@@ -7,5 +6,4 @@ abbrev pub invariant-loop-task : goal.invariant-loop-task
 invariant-loop-task l = record {
   to : IsRenewedTo l.state l.changed l.fn.self l.self l.task;
   all : l.count ≡ length l.state.core.tasks;
-  known : IsKnown l.state l.known;
 }

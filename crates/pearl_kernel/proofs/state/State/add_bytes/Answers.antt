@@ -1,16 +1,35 @@
-use Rattle.std.proofs.Common.{◌≡◌, ◌<◌, Some, length, slice_get, subst, arith}
+use Rattle.std.proofs.Common.{◌≡◌, ◌<◌, ◌++◌, length, slice_get, slice_set, sym, subst, arith, if◌then◌else◌}
+use Rattle.pearl_rules.specs.Core.{Bytes}
+use Rattle.pearl_rules.specs.Devices.{bytes_at}
+use Rattle.pearl_kernel.specs.Channels.{HasBytes}
 use Rattle.pearl_kernel.specs.Kept.{Kept}
-use Rattle.pearl_kernel.proofs.Waiting.{get-is, bytes-there, added}
+use Rattle.pearl_kernel.proofs.Getting.{added-at, comes-in}
+use Rattle.pearl_kernel.proofs.Waiting.{bytes-there}
 use Rattle.pearl_kernel.proofs.state.State.add_bytes.Goals as goal
+
+pub add_at-kept-requires-clause-terminal : goal.add_at-kept-requires-clause-terminal
+add_at-kept-requires-clause-terminal c =
+    subst (λ (k : Kept). HasBytes (slice_get k.core.channels c.args.device)) (sym c.self.view_is) c.requires.terminal
+
+pub ask_each-requires : goal.ask_each-requires
+ask_each-requires c =
+    let s = c.self.inside in
+    let there = subst (λ (k : Kept). c.args.device < length k.core.channels) (sym c.self.view_is) (bytes-there c.args.self.now.core c.args.device c.requires.terminal) in
+    rw (c.as_slice.ensures.value, c.as_slice-formats.ensures.value, c.as_slice-channels.ensures.value)
+    (s.channels.items, c.self.invariant.3, comes-in s.channels.items c.add_at-kept.new.channels.items c.args.device c.args.text.now c.add_at-kept.result there c.add_at-kept.ensures.waiting)
+
+pub invariant_of-self : goal.invariant_of-self
+invariant_of-self c = (
+  c.self.invariant.0,
+  c.self.invariant.1,
+  c.self.invariant.2,
+  rw (c.as_slice.ensures.value, c.as_slice-formats.ensures.value, c.as_slice-channels.ensures.value) at c.ask_each.ensures,
+)
 
 pub returns-clause-waiting : goal.returns-clause-waiting
 returns-clause-waiting c =
     let k = c.args.self.now in
-    let there = bytes-there k.core c.args.device c.requires.terminal in
-    let at = subst (λ (x : Kept). c.args.device < length x.core.channels → slice_get x.core.channels c.args.device ≡ Some c.index_mut.result.now)
-    c.self.view_is (λ within. get-is c.self.inside.channels.items c.args.device c.index_mut.result.now within c.index_mut.ensures.value) there in
-    grind (
-      arith,
-      added k c.args.device c.args.text.now c.index_mut.result.now c.add.new.self c.add.result at c.add.ensures.waiting,
-      c.self.view_is,
-    )
+    let is = subst (λ (x : Kept). c.add_at-kept.new.channels.items ≡ (if c.add_at-kept.result then
+    slice_set x.core.channels c.args.device (Bytes (bytes_at x.core c.args.device ++ c.args.text.now)) else x.core.channels))
+    c.self.view_is c.add_at-kept.ensures.waiting in
+    grind (arith, added-at k c.args.device c.args.text.now c.add_at-kept.result c.add_at-kept.new.channels.items is, c.self.view_is)

@@ -6,6 +6,7 @@ use Rattle.pearl_kernel.specs.Requests.{requests}
 use Rattle.pearl_kernel.specs.Unsettled.{AreActive}
 use Rattle.pearl_kernel.proofs.Rows.{timetable-opening}
 use Rattle.pearl_kernel.proofs.Requesting.{requests-opening}
+use Rattle.pearl_kernel.proofs.Getting.{asked-opening}
 use Rattle.pearl_kernel.proofs.Unsettling.{unsettled-opening}
 use Rattle.pearl_kernel.proofs.state.State.new.Goals as goal
 
@@ -22,4 +23,6 @@ invariant_of-result c =
       unsettled-opening rows c.in_ok-offers.offers.items c.in_ok-unsettled.unsettled.items (length tasks)
           (subst (λ xs. AreActive xs c.in_ok-unsettled.unsettled.items) c.as_slice.ensures.value c.in_ok-unsettled.ensures)
           (omega (arith, few, same)) few c.in_ok-offers.ensures,
+      asked-opening c.in_ok-offers.offers.items c.in_ok-formats.formats.items c.in_ok-channels.channels.items c.in_ok-progress.progress.items
+          (length c.as_slice-tasks.result.now) c.in_ok-offers.ensures c.in_ok-progress.ensures,
     )

@@ -5,6 +5,7 @@ use Rattle.pearl_exchange.specs.Offers.{action_of}
 use Rattle.pearl_kernel.specs.Kept.{Kept}
 use Rattle.pearl_kernel.specs.Requests.{requested_by, requests}
 use Rattle.pearl_kernel.proofs.Requesting.{requests-length, requests-set, request-there}
+use Rattle.pearl_kernel.proofs.Getting.{asked-offer, names-kinds}
 use Rattle.pearl_kernel.proofs.Unsettling.{unsettled-offer}
 use Rattle.pearl_kernel.proofs.state.State.set_offer.Goals as goal
 
@@ -22,6 +23,16 @@ keep_request-requires-clause-list c =
     (subst (λ (k : Kept). AreThere k.core.counts (requested_by a)) (sym c.self.view_is)
     (request-there c.args.self.now.core a c.requires.names))
 
+pub ask_first-requires-clause-task : goal.ask_first-requires-clause-task
+ask_first-requires-clause-task c =
+    let there = subst (λ (k : Kept). c.args.task < length k.offers) (sym c.self.view_is) c.requires.task in
+    let same = c.self.invariant.3.size in
+    omega (arith, there, same)
+
+pub ask_first-requires-clause-kinds : goal.ask_first-requires-clause-kinds
+ask_first-requires-clause-kinds c =
+    rw c.deref-2.ensures (names-kinds c.args.self.now.core (action_of c.args.offer.now.value) c.requires.names)
+
 pub invariant_of-self : goal.invariant_of-self
 invariant_of-self c =
     let s = c.self.inside in
@@ -35,4 +46,7 @@ invariant_of-self c =
           ∙ ap (λ o. requests (slice_set s.offers.items c.args.task o)) (sym c.put.ensures),
       unsettled-offer s.rows.items s.offers.items s.unsettled.items c.self.invariant.2 c.args.task c.put.new.self a
           c.lower.new.words.items there c.lower.ensures.bits c.lower.ensures.words c.put.ensures,
+      asked-offer s.offers.items s.formats.items s.channels.items s.progress.items c.ask_first.new.progress.items c.args.task a c.put.new.self
+          c.put.ensures there (rw (c.as_slice-formats.ensures.value, c.as_slice-channels.ensures.value, c.deref-2.ensures) at c.ask_first.ensures)
+          c.self.invariant.3,
     )

@@ -15,4 +15,5 @@ invariant_of-self c =
       unsettled-row s.rows.items s.offers.items s.unsettled.items c.self.invariant.2 c.args.task c.args.row
           c.put.new.words.items c.is_awake.result c.is_silent-silent.result there c.put.ensures.bits c.put.ensures.words
           c.is_awake.ensures silent,
+      c.self.invariant.3,
     )

@@ -4,6 +4,7 @@ use Rattle.pearl_sema.specs.Waiting.{Sema}
 use Rattle.pearl_kernel.specs.Kept.{Kept}
 use Rattle.pearl_kernel.specs.Requests.{requests}
 use Rattle.pearl_kernel.proofs.Requesting.{requests-length, requests-set}
+use Rattle.pearl_kernel.proofs.Getting.{asked-gone}
 use Rattle.pearl_kernel.proofs.Unsettling.{unsettled-gone}
 use Rattle.pearl_kernel.proofs.state.State.take_offer.Goals as goal
 
@@ -27,4 +28,5 @@ invariant_of-self c =
           ∙ ap (λ o. requests (slice_set s.offers.items c.args.task o)) (sym c.take.ensures.rest),
       unsettled-gone s.rows.items s.offers.items s.unsettled.items c.self.invariant.2 c.args.task c.take.new.self
           c.put.new.words.items c.is_active-active.result there c.put.ensures.bits c.put.ensures.words active c.take.ensures.rest,
+      asked-gone s.offers.items s.formats.items s.channels.items s.progress.items c.args.task c.take.new.self c.take.ensures.rest there c.self.invariant.3,
     )
