@@ -1,5 +1,5 @@
 -- What a call does, from what is seen of the machine at the call.
-use Rattle.std.specs.Prelude.{is_some, IsSome, MatchOption}
+use Rattle.std.specs.Prelude.{is_some, IfSome, IsSome, MatchOption}
 use Rattle.std.proofs.Common.{◌≡◌, ℕ, ◌+◌, ◌<◌, ◌≤◌, List, [], ◌∷◌, ◌++◌, false, Option, Some, None, length, drop, slice_get, refl, sym, ap, subst, ◌∙◌}
 use Rattle.pearl_rules.specs.declared.action.Action.{Action}
 use Rattle.pearl_rules.specs.declared.event.Event.{Event}
@@ -55,6 +55,11 @@ taken_next k k2 event next e = next.1 ∙ ap (λ told. (k.core.moment, Happened 
 -- a task that was found
 pub first_of : (k : Kept) (found : Option ℕ) (t : ℕ) → MatchOption found (AllSettled k) (IsFirst k) → found ≡ Some t → IsFirst k t
 first_of k found t h e = subst (λ x. MatchOption x (AllSettled k) (IsFirst k)) e h
+
+-- what is known of who acts next
+pub known_as : (known : Option (Option ℕ)) (a b : Option ℕ) → a ≡ b → IfSome known (λ t. t ≡ a) → IfSome known (λ t. t ≡ b)
+known_as None a b same is = tt
+known_as (Some t) a b same is = is ∙ same
 
 module _ (o : Object) (setup : Setup) (k : Kept) (parts : List Part) (due : ℕ) (r : IsReady o setup k parts due) (s : Seen) (is : seen_of o k parts due ≡ s) where
   -- WHAT IS KNOWN AT THE CALL
@@ -149,6 +154,15 @@ module _ (o : Object) (setup : Setup) (k : Kept) (parts : List Part) (due : ℕ)
 
   pub picked_call : picked s ≡ pick k.core (offered k)
   picked_call = ap picked (sym is) ∙ picked_here o k parts r.lawful.quiet (untold k due)
+
+  -- whatever is told and not written
+  pub picked_at : (later : ℕ) → picked (seen_of o k parts later) ≡ picked s
+  picked_at later = picked_here o k parts r.lawful.quiet (untold k later) ∙ sym picked_call
+
+  pub picked_taken : (k2 : Kept) → k2 ≡ record k { core = record k.core { told = k2.core.told } } → picked (seen_of o k2 parts due) ≡ picked s
+  picked_taken k2 same =
+      ap (λ (n : Kept). picked (seen_of o n parts due)) same
+      ∙ picked_here o k parts r.lawful.quiet (untold (record k { core = record k.core { told = k2.core.told } }) due) ∙ sym picked_call
 
   pub quiet_call : (n : ℕ) → IsQuiet k.core n → IsQuiet s.state.core n
   quiet_call n quiet = subst (λ (x : Seen). IsQuiet x.state.core n) is quiet

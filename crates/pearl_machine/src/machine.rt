@@ -1,7 +1,7 @@
 //! The machine, from the start of a run to its end.
 
 ghost use Rattle.std.specs.Prelude.{◌≡◌, ◌≢◌, ◌⊎◌, ℕ, ◌+◌, ◌<◌, ◌≤◌, List, [], ◌∷◌, ◌++◌, None, true};
-ghost use Rattle.std.specs.Prelude.{IfOk, OnOk, OnErr, is_none, is_some, length};
+ghost use Rattle.std.specs.Prelude.{IfOk, IfSome, OnOk, OnErr, is_none, is_some, length};
 ghost use Rattle.pearl_value.specs.WellFormed.{IsValue};
 ghost use Rattle.pearl_rules.specs.Core.{Report, value_at};
 ghost use Rattle.pearl_rules.specs.Pick.{states};
@@ -21,7 +21,7 @@ ghost use Rattle.pearl_machine.specs.Seen.{NobodyActs, Skips, PassesSome, picked
 ghost use Rattle.pearl_machine.specs.Told.{IsCutOff, IsCutBehind, IsCutInLastMark};
 
 use crate::known::laws_hold;
-use crate::lines::state_of;
+use crate::lines::{known_pick, state_of};
 use crate::part::{Part, answer_part, new_parts, settle_part, step_part};
 use crate::tables::setup;
 use arrayvec::ArrayVec;
@@ -495,8 +495,11 @@ impl Machine {
         self.due = 0;
     }
 
-    // Makes `into` the line of what is told next, if something is left to tell.
-    fn next_line(&mut self, into: &mut ArrayVec<u8, 2304>) -> bool
+    // Makes `into` the line of what is told next, if something is left to tell. The task that acts next is sought for
+    // the first line of a task's state, and known for the others.
+    fn next_line(&mut self, known: &mut Option<Option<u32>>, into: &mut ArrayVec<u8, 2304>) -> bool
+        requires { IfSome known.old (λ task. task ≡ picked self.old) }
+        ensures known { IfSome known.new (λ task. task ≡ picked self.new) }
         ensures same { self.new ≡ retold self.old self.new.state.core.told }
         ensures next { TakesNext self.old self.new into.new.items result }
     {
@@ -510,7 +513,8 @@ impl Machine {
                 if self.due >= self.kernel.tasks() {
                     return false;
                 }
-                state_of(&self.kernel, &self.setup, self.due, into);
+                let picked = known_pick(&self.kernel, known);
+                state_of(&self.kernel, &self.setup, self.due, picked, into);
                 self.due += 1;
                 true
             }
@@ -558,7 +562,8 @@ impl Machine {
         ensures later { K.faults sink.old ≤ K.faults sink.new }
     {
         let mut line = ArrayVec::new();
-        while self.next_line(&mut line) {
+        let mut known = None;
+        while self.next_line(&mut known, &mut line) {
             put_all(sink, line.as_slice())?;
         }
         Ok(())

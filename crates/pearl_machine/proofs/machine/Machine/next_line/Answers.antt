@@ -1,7 +1,11 @@
-use Rattle.std.proofs.Common.{refl, arith}
+use Rattle.std.proofs.Common.{◌≡◌, ◌+◌, ℕ, Option, refl, sym, subst, ◌∙◌, arith}
+use Rattle.std.specs.Prelude.{IfSome}
+use Rattle.pearl_rules.specs.Pick.{pick}
+use Rattle.pearl_kernel.specs.Kept.{offered}
+use Rattle.pearl_machine.specs.Seen.{picked}
 use Rattle.pearl_instructions.specs.Setups.{setup_of}
 use Rattle.pearl_machine.proofs.Acting.{ready_due, ready_taken, due_next}
-use Rattle.pearl_machine.proofs.Calls.{event_call, state_call, nothing_call, taken_next, taken_same}
+use Rattle.pearl_machine.proofs.Calls.{known_as, picked_call, picked_at, picked_taken, event_call, state_call, nothing_call, taken_next, taken_same}
 use Rattle.pearl_machine.proofs.machine.Machine.next_line.Goals as goal
 
 pub invariant_of-self : goal.invariant_of-self
@@ -36,3 +40,28 @@ returns-else-self-tasks-clause-next c =
     let m = c.self.inside in
     state_call m.code m.setup m.kernel m.parts.items m.due c.self.invariant c.args.self.now c.self.view_is m.kernel
     c.state_of.new.into.items c.in-None.ensures.next refl (omega (arith, c.tasks.ensures, c.if-self-tasks.false)) c.state_of.ensures
+
+pub known_pick-picked-requires : goal.known_pick-picked-requires
+known_pick-picked-requires c =
+    let m = c.self.inside in
+    known_as c.args.known.now (picked c.args.self.now) (pick m.kernel.core (offered m.kernel))
+    (picked_call m.code m.setup m.kernel m.parts.items m.due c.self.invariant c.args.self.now c.self.view_is) c.requires
+
+pub returns-then-self-tasks-clause-known : goal.returns-then-self-tasks-clause-known
+returns-then-self-tasks-clause-known c =
+    let m = c.self.inside in
+    known_as c.args.known.now _ _ (sym (picked_at m.code m.setup m.kernel m.parts.items m.due c.self.invariant c.args.self.now c.self.view_is m.due)) c.requires
+
+pub returns-in-Some-clause-known : goal.returns-in-Some-clause-known
+returns-in-Some-clause-known c =
+    let m = c.self.inside in
+    known_as c.args.known.now _ _ (sym (picked_taken m.code m.setup m.kernel m.parts.items m.due c.self.invariant c.args.self.now c.self.view_is c.drop_event.new.self
+    (taken_same m.kernel c.drop_event.new.self c.drop_event.ensures.taken))) c.requires
+
+pub returns-else-self-tasks-clause-known : goal.returns-else-self-tasks-clause-known
+returns-else-self-tasks-clause-known c =
+    let m = c.self.inside in
+    let here = picked_call m.code m.setup m.kernel m.parts.items m.due c.self.invariant c.args.self.now c.self.view_is in
+    let later = picked_at m.code m.setup m.kernel m.parts.items m.due c.self.invariant c.args.self.now c.self.view_is (m.due + 1) in
+    subst (λ (known : Option (Option ℕ)). IfSome known (λ t. t ≡ _)) (sym c.known_pick-picked.ensures.known)
+    (c.known_pick-picked.ensures.picked ∙ sym here ∙ sym later)

@@ -7,7 +7,7 @@ use Rattle.pearl_machine.proofs.Taken.{takes_nothing, takes_line, told_on, cut_h
 use Rattle.pearl_machine.proofs.machine.Machine.tell_lines.Goals as goal
 
 pub loop-line-init : goal.loop-line-init
-loop-line-init g c = record { same = refl; goes = ([], refl, takes_nothing (g.K.Sink.taken c.args.sink.now)); later = omega arith }
+loop-line-init g c = record { same = refl; goes = ([], refl, takes_nothing (g.K.Sink.taken c.args.sink.now)); known = tt; later = omega arith }
 
 pub loop-line-preserved : goal.loop-line-preserved
 loop-line-preserved g c =
@@ -23,6 +23,7 @@ loop-line-preserved g c =
             i.goes.0 next.0 c.next_line.new.into.items (next.2 ∙ ap (λ o. report_line (setup_of o) next.0) object) i.goes.2
             (rw c.as_slice.ensures.value at c.in_ok-put_all.ensures.ok),
       );
+      known = c.loop-line-test.ensures.known;
       later = omega (arith, i.later, c.in_ok-put_all.ensures.later);
     }
 

@@ -1,9 +1,10 @@
 use Rattle.std.proofs.Common.{◌≡◌, ℕ, ◌≤◌, List, ◌++◌, length}
+use Rattle.std.specs.Prelude.{IfSome}
 use Rattle.pearl_rules.specs.Core.{Report}
 use Rattle.pearl_instructions.specs.Setups.{setup_of}
 use Rattle.pearl_io.specs.Outside.{Takes}
 use Rattle.pearl_script.specs.Lines.{lines_of}
-use Rattle.pearl_machine.specs.Seen.{retold}
+use Rattle.pearl_machine.specs.Seen.{picked, retold}
 use Rattle.pearl_machine.proofs.machine.Machine.tell_lines.Given as goal
 
 -- the first lines are written
@@ -12,6 +13,7 @@ invariant-loop-line g l = record {
   same : l.self ≡ retold l.initial.self l.self.state.core.told;
   goes : (done : List (ℕ × Report)) × (l.initial.self.state.core.told ≡ done ++ l.self.state.core.told)
       × Takes (g.K.Sink.taken l.initial.sink) (g.K.Sink.taken l.sink) (lines_of (setup_of l.initial.self.object) done);
+  known : IfSome l.known (λ task. task ≡ picked l.self);
   later : g.K.Sink.faults l.initial.sink ≤ g.K.Sink.faults l.sink;
 }
 
