@@ -86,10 +86,10 @@ def differing(count, items):
     return HEAD + bodies + TAIL
 
 
-def reading(items):
-    """One task reads digit by digit, and 197 others wait in a GET of one value, each for the items of its number."""
+def reading(count, items):
+    """One task reads digit by digit, and so many others wait in a GET of one value, each for the items of its number."""
     reads = "reads: TASK PRIO 9 MAIN;\nDCL a FIXED; REPEAT GET a FROM tty BY F(1); END;\nEND;\n"
-    return differing(197, items)[:-len(TAIL)] + reads + TAIL
+    return differing(count, items)[:-len(TAIL)] + reads + TAIL
 
 
 def lines(count):
@@ -129,9 +129,11 @@ WORK = [
      "line 1 '1'\n" * 400, 400, "line"),
     ("1,000 lines, each read by one of 198 GETs", differing(198, lambda n: f"F({n + 4}), SKIP"),
      "line 1 '1'\nrun 2\n" * 1000, 1000, "line"),
-    ("3,000 bytes read, 197 tasks wait in a GET of 255 lines", reading(lambda _: "SKIP(255), F(4)"), FULL + "run 6000\n",
+    ("3,000 bytes read by one task alone, digit by digit", reading(0, str), FULL + "run 6000\n",
      3000, "byte", FULL),
-    ("3,000 bytes read, 197 tasks wait in GETs of lines, no two alike", reading(lambda n: f"SKIP({n + 1}), F(4)"),
+    ("3,000 bytes read, 197 tasks wait in a GET of 255 lines", reading(197, lambda _: "SKIP(255), F(4)"), FULL + "run 6000\n",
+     3000, "byte", FULL),
+    ("3,000 bytes read, 197 tasks wait in GETs of lines, no two alike", reading(197, lambda n: f"SKIP({n + 1}), F(4)"),
      FULL + "run 6000\n", 3000, "byte", FULL),
     ("1,000 states, 199 tasks, all ready", ready(199), "state\n" * 1000, 1000, "state"),
 ]
