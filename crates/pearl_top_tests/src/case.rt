@@ -86,7 +86,8 @@ pub struct Long {
     pub text: Parts,
 }
 
-fn owned(alloc: Global, words: &[&str]) -> Result<Vec<String>, AllocError> {
+/// These words, as a command has them.
+pub fn owned(alloc: Global, words: &[&str]) -> Result<Vec<String>, AllocError> {
     let mut owned = Vec::new(alloc);
     for word in words {
         owned.push(String::from_str(alloc, word)?)?;
@@ -101,7 +102,8 @@ fn file(alloc: Global, name: &str, bytes: &[u8]) -> Result<File, AllocError> {
     })
 }
 
-fn two_files(alloc: Global, source: &[u8], journal: &[u8]) -> Result<Vec<File>, AllocError> {
+/// A shelf's files, s and j.
+pub fn two_files(alloc: Global, source: &[u8], journal: &[u8]) -> Result<Vec<File>, AllocError> {
     let mut files = Vec::new(alloc);
     for (name, bytes) in [("s", source), ("j", journal)] {
         files.push(file(alloc, name, bytes)?)?;

@@ -14,6 +14,8 @@ macro_rules! runs {
 #[cfg(test)]
 mod bench;
 #[cfg(test)]
+mod calls;
+#[cfg(test)]
 mod case;
 #[cfg(test)]
 mod check;

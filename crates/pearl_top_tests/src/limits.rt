@@ -377,6 +377,71 @@ static LENGTHS: [Long; 8] = edges![
     [(PLANT, 1)], [("value 3 1\n", 1)] => BadJournal [("0 start init 1\nerror journal 1 2\n", 1)];
 ];
 
+// Statements stand 32 deep. EXIT leaves the innermost loop, whatever stands around it and behind it, and what is chosen by
+// CASE goes on behind it. There are 200 tasks. A GET has 64 data items and widths of 1,024 together, a REQUEST 16
+// semaphores.
+static NESTED: [Long; 8] = edges![
+    [
+        (HEAD, 1),
+        ("DCL n FIXED; main: TASK MAIN; ", 1),
+        ("REPEAT n := n + 1; ", 32),
+        ("EXIT; n := 99; END; n := n + 1; ", 31),
+        ("EXIT; END; PUT n TO tty BY F(3); END;", 1),
+        (TAIL, 1),
+    ], [("run 9999", 1)] => Done [(BEGIN, 1), (" 63", 1), (END, 1)];
+    [
+        (HEAD, 1),
+        ("DCL n FIXED; main: TASK MAIN; ", 1),
+        ("REPEAT ", 32),
+        ("^REPEAT EXIT; END; ", 1),
+        ("END; ", 32),
+        ("END;", 1),
+        (TAIL, 1),
+    ], [("run 99", 1)] => Refused [("error syntax ^\n", 1)];
+    [
+        (HEAD, 1),
+        ("DCL n FIXED; main: TASK MAIN; ", 1),
+        ("CASE 2 ALT n := 99; ALT ", 32),
+        ("n := n + 1; ALT n := 99; OUT n := 99; FIN; ", 32),
+        ("PUT n TO tty BY F(3); END;", 1),
+        (TAIL, 1),
+    ], [("run 9999", 1)] => Done [(BEGIN, 1), (" 32", 1), (END, 1)];
+    [
+        (HEAD, 1),
+        ("DCL n FIXED; main: TASK MAIN; ", 1),
+        ("FOR i TO 3 WHILE i < 3 REPEAT CASE i ALT n := n + 1; ALT ", 16),
+        ("n := n + 1; EXIT; OUT n := 99; FIN; END; ", 16),
+        ("PUT n TO tty BY F(3); END;", 1),
+        (TAIL, 1),
+    ], [("run 9999", 1)] => Done [(BEGIN, 1), (" 32", 1), (END, 1)];
+    [(HEAD, 1), ("t@: TASK; END;\n", 200), ("^u: TASK; END;", 1), (TAIL, 1)], [("run 99", 1)]
+        => Refused [("error source ^ S34\n", 1)];
+    [
+        (HEAD, 1),
+        ("DCL v(65) FIXED; main: TASK MAIN; ^GET ", 1),
+        ("v(@), ", 64),
+        ("v(65) FROM tty BY ", 1),
+        ("F(3), ", 64),
+        ("F(3); END;", 1),
+        (TAIL, 1),
+    ], [("run 99", 1)] => Refused [("error source ^ S33\n", 1)];
+    [
+        (HEAD, 1),
+        ("DCL v FIXED; main: TASK MAIN; ^GET v, v, v, v FROM tty BY ", 1),
+        ("F(255), ", 4),
+        ("X(5); END;", 1),
+        (TAIL, 1),
+    ], [("run 99", 1)] => Refused [("error source ^ S33\n", 1)];
+    [
+        (HEAD, 1),
+        ("DCL s@ SEMA;\n", 17),
+        ("main: TASK MAIN; REQUEST ", 1),
+        ("s@, ", 16),
+        ("^s17; END;", 1),
+        (TAIL, 1),
+    ], [("run 99", 1)] => Refused [("error source ^ S31\n", 1)];
+];
+
 // Whether the case ends so where its source is compiled, and the object is executed over its journal.
 fn executes_so(alloc: Global, long: &Long) -> Result<bool, AllocError> {
     if long.status == Status::Refused {
@@ -418,5 +483,12 @@ fn sources_keep_their_limits(rt: HostRuntime) -> Result<(), Fail> {
             assert!(rt; false, "row {number} of {name}");
         }
     }
+    Ok(())
+}
+
+#[test]
+fn statements_keep_their_limits(rt: HostRuntime) -> Result<(), Fail> {
+    let other = first_other(rt.alloc(), &NESTED)?;
+    assert!(rt; other.is_none(), "row {}", other.unwrap_or(0));
     Ok(())
 }

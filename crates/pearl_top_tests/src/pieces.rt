@@ -8,10 +8,10 @@ use pearl_top::status::Status;
 use std::alloc::{AllocError, Global};
 use std::test::Fail;
 
-// A source, what is written before its journal, the lines of that with what each writes, how the run ends, and what is
-// written at the journal's end.
-struct Run {
-    source: &'static str,
+/// A source, what is written before its journal, the lines of that with what each writes, how the run ends, and what is
+/// written at the journal's end.
+pub struct Run {
+    pub source: &'static str,
     begin: &'static str,
     lines: &'static [(&'static str, &'static str)],
     status: Status,
@@ -31,7 +31,8 @@ macro_rules! first {
     };
 }
 
-static RUNS: [Run; 5] = [
+/// Runs of short journals, the first of which is refused, and of a longer one.
+pub static RUNS: [Run; 5] = [
     first![
         "run 1\r\n" "0 out 1 '   17\\n'\n"
         "# x\n" ""
@@ -90,7 +91,8 @@ static RUNS: [Run; 5] = [
     },
 ];
 
-fn journal_of(alloc: Global, run: &Run) -> Result<String, AllocError> {
+/// The lines of its journal.
+pub fn journal_of(alloc: Global, run: &Run) -> Result<String, AllocError> {
     let mut journal = String::new(alloc);
     for (line, _) in run.lines {
         journal.push_str(line)?;
@@ -142,10 +144,11 @@ fn a_journal_may_be_cut_anywhere(rt: HostRuntime) -> Result<(), Fail> {
     Ok(())
 }
 
-// How many bytes a call moves where each of them may fail.
-const READ: usize = 7;
+/// How many bytes a call of the shelf moves where each of them may fail.
+pub const READ: usize = 7;
 
-const WRITTEN: usize = 5;
+/// How many a call of the sink.
+pub const WRITTEN: usize = 5;
 
 // The number of the first call of the sink that may fail with another end than that all before it is taken.
 fn first_other_put(alloc: Global, run: &Run) -> Result<Option<u64>, AllocError> {
