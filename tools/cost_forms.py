@@ -156,6 +156,17 @@ def wide_texts(count):
     return HEAD + routines(count, "DCL x(4000) CHAR(255) INIT('a');") + "\n" * count + TAIL
 
 
+def wide_struct_of_texts(count):
+    """Routines with a STRUCT of as many CHAR(255), 4,000 at most, and INIT."""
+    fields = ",".join(f"f{i}" for i in range(min(count, 4000)))
+    return HEAD + f"TYPE u STRUCT[({fields}) CHAR(255)];" + routines(count, "DCL x u INIT('a');") + "\n" * count + TAIL
+
+
+def chosen(depth, part):
+    """A statement again and again in the last alternatives of so many CASEs within one another."""
+    return lambda count: module("DCL x FIXED;", "CASE x ALT x:=2;ALT " * depth + part * count + "FIN;" * depth)
+
+
 def looped(depth, part):
     """A statement again and again in so many loops within one another."""
     return lambda count: module("DCL x FIXED;", "REPEAT " * depth + part * count + "END;" * depth)
@@ -211,6 +222,8 @@ CHECKED = [
 COMPILED = [(name, form, most_bytes, 3) for name, form, most_bytes, _ in CHECKED] + [
     ("`x:=1;` in 31 loops within one another", looped(31, "x:=1;"), 560, 3),
     ("`IF x>1 THEN EXIT;FIN;` in 30 loops within one another", looped(30, "IF x>1 THEN EXIT;FIN;"), 560, 3),
+    ("`x:=1;` in 32 CASEs within one another", chosen(32, "x:=1;"), 560, 3),
+    ("400 routines with a STRUCT of 4,000 CHAR(255) and INIT", wide_struct_of_texts, 560, 3),
 ]
 
 FORMS = {"print": PRINTED, "check": CHECKED, "compile": COMPILED, "run": COMPILED, "list": OBJECTS, "exec": OBJECTS,
