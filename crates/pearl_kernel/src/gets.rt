@@ -83,7 +83,7 @@ pub fn ask_first(
         let bytes = bytes_of(channels, device);
         let items = items_of(formats, format);
         let kinds = offer.kinds.as_slice();
-        progress[task] = Progress::start().go_on(items, kinds, bytes, line_ends(bytes));
+        progress[task] = Progress::start().go_on(items, kinds, bytes, None);
     }
 }
 
@@ -99,7 +99,7 @@ pub fn ask_each(
     requires { (old : List Standing) × AreAsked offers.now formats.now old progress.old.items × Comes anew device old channels.now }
     ensures { AreAsked offers.now formats.now channels.now progress.new.items }
 {
-    let lines = line_ends(bytes_of(channels, device));
+    let lines = known_ends(channels, device, anew);
     let mut known = None;
     for task in 0..offers.len() {
         let bid = &offers[task];
@@ -108,6 +108,16 @@ pub fn ask_each(
         progress[task] = asked(from, twin, bid, formats, channels, device, lines, anew);
         known = last_get(bid, device, task, known);
     }
+}
+
+// How many line ends wait at a terminal; where all is asked anew nobody needs that.
+fn known_ends(channels: &[Channel], device: u32, anew: bool) -> Option<usize>
+    ensures { IfSome result (λ n. n ≡ line_ends (bytes_in (slice_get channels.now device))) }
+{
+    if anew {
+        return None;
+    }
+    Some(line_ends(bytes_of(channels, device)))
 }
 
 // How far the GET of an earlier task has come, where all is asked anew and this task waits for the same.
@@ -196,11 +206,11 @@ fn asked(
     formats: &[Listing<Item>],
     channels: &[Channel],
     device: u32,
-    lines: usize,
+    lines: Option<usize>,
     anew: bool,
 ) -> Progress
     requires twin { IfSome twin (IsAsked formats.now channels.now bid.now) }
-    requires lines { lines ≡ line_ends (bytes_in (slice_get channels.now device)) }
+    requires lines { IfSome lines (λ n. n ≡ line_ends (bytes_in (slice_get channels.now device))) }
     requires asked { (old : List Standing) × IsAsked formats.now old bid.now from × Comes anew device old channels.now }
     ensures { IsAsked formats.now channels.now bid.now result }
 {

@@ -1,9 +1,9 @@
 -- How a scan goes on where more bytes come in behind those that it went over, and until when it needn't.
 use Rattle.std.proofs.Common.{◌≡◌, ◌<◌, ◌≤◌, ℕ, zero, suc, ◌+◌, ◌-◌, Bool, true, false, cond, not, ◌||◌, ◌==◌, List, [], ◌∷◌, ◌++◌, length, drop, take, get_or, inl, inr, refl, arith, sym, ◌∙◌, ap, subst, nat_lt, append_assoc, length-append}
-use Rattle.std.proofs.lemmas.Bool.{ltb-true, lt-ltb, le-ltb, cases_lt}
+use Rattle.std.proofs.lemmas.Bool.{ltb-true, lt-ltb, le-ltb, cases_lt, false≢true}
 use Rattle.std.proofs.lemmas.List.{append-nil, length-take, length-drop, take_all, take_rest, take-append-le, drop-append-le}
 use Rattle.std.proofs.lemmas.List.Sums.{sum_by-cons, sum_by-append, sum_by-take-drop, sum_by-drop_more, passes_at_first, count_by-le-length}
-use Rattle.std.specs.Prelude.{Option, Some, None, option_map}
+use Rattle.std.specs.Prelude.{Option, Some, None, IfSome, IsSome, option_map}
 use Rattle.std.specs.List.{before_first, position_or_len}
 use Rattle.pearl_value.specs.declared.kind.Kind.{Kind}
 use Rattle.pearl_value.specs.declared.cell.Cell.{Cell}
@@ -216,20 +216,19 @@ module _ (items : List Item) (kinds : List Kind) (bytes : List ℕ) (i used k : 
       sym (complete_short items kinds bytes i used k d (finds items kinds bytes) inside before e)
 
   -- while too few came in
-  pub short_on : (lines ends most others : ℕ) → lines ≡ line_ends bytes → ends ≡ line_ends (take (length bytes - used) (drop used bytes)) →
+  pub short_on : (ends most others : ℕ) → ends ≡ line_ends (take used bytes) →
       most ≤ bytes_awaited item.code item.width (take (length kinds - k) (drop k kinds)) → others ≤ lines_awaited item.code item.width →
-      (more : List ℕ) → length (bytes ++ more) < used + most → line_ends (bytes ++ more) < lines - ends + others → finds items kinds (bytes ++ more) ≡ false
-  short_on lines ends most others e counted low fewer_ more few none =
+      (more : List ℕ) → length (bytes ++ more) < used + most → line_ends (bytes ++ more) < ends + others → finds items kinds (bytes ++ more) ≡ false
+  short_on ends most others counted low fewer_ more few none =
       let behind = rest more in
       let whole = sum_by-take-drop (λ x. cond (is_line_end x) 1 0) bytes used in
       let later = sum_by-append (λ x. cond (is_line_end x) 1 0) (drop used bytes) more in
       let all = sum_by-append (λ x. cond (is_line_end x) 1 0) bytes more in
-      let cut : line_ends (take (length bytes - used) (drop used bytes)) ≡ line_ends (drop used bytes) = ap line_ends (take_rest bytes used) in
       let long : length (drop used bytes ++ more) < bytes_awaited item.code item.width (take (length kinds - k) (drop k kinds)) =
       omega (arith, few, low, within, length-append (drop used bytes) more, length-drop used bytes, length-append bytes more) in
-      let ends : line_ends (drop used bytes ++ more) < lines_awaited item.code item.width = omega (arith, none, fewer_, e, counted, whole, later, all, cut) in
+      let ends_ : line_ends (drop used bytes ++ more) < lines_awaited item.code item.width = omega (arith, none, fewer_, counted, whole, later, all) in
       let found : Short ≡ found_in (bytes ++ more) =
-      item_waits item.code item.width (take (length kinds - k) (drop k kinds)) (drop used bytes ++ more) long ends
+      item_waits item.code item.width (take (length kinds - k) (drop k kinds)) (drop used bytes ++ more) long ends_
       ∙ sym (ap (scan_item item.code item.width (take (length kinds - k) (drop k kinds))) behind) ∙ sym (in_rest (bytes ++ more)) in
       sym (complete_short items kinds (bytes ++ more) i used k d (finds items kinds (bytes ++ more)) inside (far more) found)
 
@@ -238,8 +237,14 @@ pub fewer_ends : (bytes : List ℕ) (used lines ends : ℕ) → lines ≡ line_e
 fewer_ends bytes used lines ends e counted =
     omega (arith, e, counted, sum_by-take-drop (λ x. cond (is_line_end x) 1 0) bytes used, ap line_ends (take_rest bytes used))
 
-pub few_ends : (bytes : List ℕ) (lines : ℕ) → lines ≡ line_ends bytes → length bytes ≤ 4096 → lines ≤ 4096
-few_ends bytes lines e near = omega (arith, e, near, count_by-le-length is_line_end bytes)
+pub front_ends : (bytes : List ℕ) (used lines ends : ℕ) → lines ≡ line_ends bytes → ends ≡ line_ends (take (length bytes - used) (drop used bytes)) →
+    lines - ends ≡ line_ends (take used bytes)
+front_ends bytes used lines ends e counted =
+    omega (arith, e, counted, sum_by-take-drop (λ x. cond (is_line_end x) 1 0) bytes used, ap line_ends (take_rest bytes used))
+
+pub few_ends : (bytes : List ℕ) (used ends : ℕ) → ends ≡ line_ends (take used bytes) → length bytes ≤ 4096 → ends ≤ 4096
+few_ends bytes used ends e near =
+    omega (arith, e, near, sum_by-take-drop (λ x. cond (is_line_end x) 1 0) bytes used, count_by-le-length is_line_end bytes)
 
 pub all_found : (items : List Item) (kinds : List Kind) (bytes : List ℕ) (i used k : ℕ) → length items ≤ i →
     ((more : List ℕ) → finds (drop i items) (drop k kinds) (drop used (bytes ++ more)) ≡ finds items kinds (bytes ++ more)) → (more : List ℕ) → finds items kinds (bytes ++ more) ≡ true
@@ -267,3 +272,9 @@ going_on items kinds bytes text (progress.Short r) has = record {
   far = λ more. subst (λ all. finds (drop r.items items) (drop r.targets kinds) (drop r.used all) ≡ finds items kinds all) (sym (append_assoc bytes text more)) (has.far (text ++ more));
   short = λ more. subst (λ all. length all < r.bytes → line_ends all < r.lines → finds items kinds all ≡ false) (sym (append_assoc bytes text more)) (has.short (text ++ more));
 }
+
+-- where it is told how many line ends there are
+pub waits_yet : (items : List Item) (kinds : List Kind) (bytes : List ℕ) (r : Reached) (lines : Option ℕ) → HasReached items kinds bytes r →
+    IfSome lines (λ n. n ≡ line_ends bytes) → length bytes < r.bytes → IsSome lines → IfSome lines (λ n. n < r.lines) → finds items kinds bytes ≡ false
+waits_yet items kinds bytes r None has told few some none = absurd (false≢true some)
+waits_yet items kinds bytes r (Some n) has told few some none = short_yet items kinds bytes r has few (omega (arith, told, none))

@@ -1,6 +1,6 @@
 // How far a GET has come in the bytes that wait, so that these aren't gone over again when more come in.
 
-ghost use Rattle.std.specs.Prelude.{◌≡◌, ◌≤◌, ◌+◌, ◌-◌, ◌<◌, ℕ, List, drop, length};
+ghost use Rattle.std.specs.Prelude.{◌≡◌, ◌≤◌, ◌<◌, ℕ, true, List, IfSome, IsSome, length, take};
 ghost use Rattle.std.specs.List.{AllByRecursion};
 ghost use Rattle.pearl_value.specs.Kinds.{IsKind};
 ghost use Rattle.pearl_value.specs.declared.kind.Kind as kind;
@@ -73,19 +73,26 @@ impl Progress {
         }
     }
 
-    /// Goes on from here, where so many line ends are among the bytes. It looks at no byte where too few came in.
-    pub fn go_on(self, items: &[Item], kinds: &[Kind], bytes: &[u8], lines: usize) -> Progress
+    /// Goes on from here. Where it is told how many line ends are among the bytes, it looks at none of them if too few
+    /// came in.
+    pub fn go_on(
+        self,
+        items: &[Item],
+        kinds: &[Kind],
+        bytes: &[u8],
+        lines: Option<usize>,
+    ) -> Progress
         requires few { length kinds.now ≤ 64 }
         requires are { AllByRecursion IsKind kinds.now }
         requires near { length bytes.now ≤ 4096 }
-        requires lines { lines ≡ spec.line_ends bytes.now }
+        requires lines { IfSome lines (λ n. n ≡ spec.line_ends bytes.now) }
         requires goes_on { spec.CanGoOn items.now kinds.now bytes.now self }
         ensures { spec.IsProgress items.now kinds.now bytes.now result }
     {
         match self {
             Progress::Complete => Progress::Complete,
             Progress::Short(reached) => {
-                if bytes.len() < reached.bytes && lines < reached.lines {
+                if reached.waits(bytes.len(), lines) {
                     Progress::Short(reached)
                 } else {
                     reached.go_on(items, kinds, bytes, lines)
@@ -96,11 +103,21 @@ impl Progress {
 }
 
 impl Reached {
-    fn go_on(self, items: &[Item], kinds: &[Kind], bytes: &[u8], lines: usize) -> Progress
+    // Whether too few bytes and line ends came in for the next item.
+    fn waits(&self, bytes: usize, lines: Option<usize>) -> bool
+        ensures { result ≡ true → (bytes < self.now.bytes) × IsSome lines × IfSome lines (λ n. n < self.now.lines) }
+    {
+        match lines {
+            None => false,
+            Some(lines) => bytes < self.bytes && lines < self.lines,
+        }
+    }
+
+    fn go_on(self, items: &[Item], kinds: &[Kind], bytes: &[u8], lines: Option<usize>) -> Progress
         requires few { length kinds.now ≤ 64 }
         requires are { AllByRecursion IsKind kinds.now }
         requires near { length bytes.now ≤ 4096 }
-        requires lines { lines ≡ spec.line_ends bytes.now }
+        requires lines { IfSome lines (λ n. n ≡ spec.line_ends bytes.now) }
         requires reached { spec.HasReached items.now kinds.now bytes.now self }
         ensures { spec.IsProgress items.now kinds.now bytes.now result }
     {
@@ -110,7 +127,7 @@ impl Reached {
             let rest = &kinds[targets..];
             match scan_item(&items[place], rest, &bytes[used..]) {
                 Found::Short => {
-                    let lines = lines - line_ends(&bytes[used..]) + lines_awaited(&items[place]);
+                    let lines = ends_before(bytes, used, lines) + lines_awaited(&items[place]);
                     return Progress::Short(Reached {
                         items: place,
                         targets,
@@ -128,6 +145,18 @@ impl Reached {
             }
         }
         Progress::Complete
+    }
+}
+
+// How many line ends are among the first bytes, where it may be known how many are among all.
+fn ends_before(bytes: &[u8], used: usize, lines: Option<usize>) -> usize
+    requires used { used ≤ length bytes.now }
+    requires lines { IfSome lines (λ n. n ≡ spec.line_ends bytes.now) }
+    ensures { result ≡ spec.line_ends (take used bytes.now) }
+{
+    match lines {
+        Some(lines) => lines - line_ends(&bytes[used..]),
+        None => line_ends(&bytes[..used]),
     }
 }
 

@@ -1,15 +1,12 @@
 use Rattle.std.proofs.Common.{◌-◌, arith, length, drop}
 use Rattle.std.proofs.lemmas.List.{length-take, length-drop}
-use Rattle.pearl_scan.proofs.Going.{passed_on, read_on, bad_on, short_now, short_on, fewer_ends, few_ends, all_found, now}
+use Rattle.pearl_scan.proofs.Going.{passed_on, read_on, bad_on, short_now, short_on, few_ends, all_found, now}
 use Rattle.pearl_scan.proofs.progress.Reached.go_on.Goals as goal
 use Rattle.pearl_scan.proofs.progress.Reached.go_on.Goals.{in-Passed, in-Value}
 
-pub overflow_sub-lines : goal.overflow_sub-lines
-overflow_sub-lines c = fewer_ends c.args.bytes.now c.loop-place.used c.args.lines c.line_ends.result c.requires.lines c.line_ends.ensures
-
 pub overflow_add-lines : goal.overflow_add-lines
 overflow_add-lines c =
-    let few = few_ends c.args.bytes.now c.args.lines c.requires.lines c.requires.near in
+    let few = few_ends c.args.bytes.now c.loop-place.used c.ends_before.result c.ends_before.ensures c.requires.near in
     omega (arith, few, c.lines_awaited.ensures.few)
 
 pub overflow_add-result : goal.overflow_add-result
@@ -24,7 +21,7 @@ returns-in-Short c =
         fewer = l.invariant.fewer;
         far = l.invariant.far;
         short = short_on c.args.items.now c.args.kinds.now c.args.bytes.now l.place l.used l.targets _ c.loop-place-test.true l.invariant.within l.invariant.far
-            c.args.lines c.line_ends.result c.bytes_awaited.result c.lines_awaited.result c.requires.lines c.line_ends.ensures
+            c.ends_before.result c.bytes_awaited.result c.lines_awaited.result c.ends_before.ensures
             c.bytes_awaited.ensures.short c.lines_awaited.ensures.short;
       };
       tells = short_now c.args.items.now c.args.kinds.now c.args.bytes.now l.place l.used l.targets _ c.loop-place-test.true l.invariant.within l.invariant.far
