@@ -2,6 +2,7 @@ use Rattle.std.proofs.Common.{◌≡◌, ◌+◌, ℕ, Option, refl, sym, subst,
 use Rattle.std.specs.Prelude.{IfSome}
 use Rattle.pearl_rules.specs.Pick.{pick}
 use Rattle.pearl_kernel.specs.Kept.{offered}
+use Rattle.pearl_machine.specs.Ready.{seen_of}
 use Rattle.pearl_machine.specs.Seen.{picked}
 use Rattle.pearl_instructions.specs.Setups.{setup_of}
 use Rattle.pearl_machine.proofs.Acting.{ready_due, ready_taken, due_next}
@@ -48,9 +49,7 @@ known_pick-picked-requires c =
     (picked_call m.code m.setup m.kernel m.parts.items m.due c.self.invariant c.args.self.now c.self.view_is) c.requires
 
 pub returns-then-self-tasks-clause-known : goal.returns-then-self-tasks-clause-known
-returns-then-self-tasks-clause-known c =
-    let m = c.self.inside in
-    known_as c.args.known.now _ _ (sym (picked_at m.code m.setup m.kernel m.parts.items m.due c.self.invariant c.args.self.now c.self.view_is m.due)) c.requires
+returns-then-self-tasks-clause-known c = c.requires
 
 pub returns-in-Some-clause-known : goal.returns-in-Some-clause-known
 returns-in-Some-clause-known c =
@@ -63,5 +62,5 @@ returns-else-self-tasks-clause-known c =
     let m = c.self.inside in
     let here = picked_call m.code m.setup m.kernel m.parts.items m.due c.self.invariant c.args.self.now c.self.view_is in
     let later = picked_at m.code m.setup m.kernel m.parts.items m.due c.self.invariant c.args.self.now c.self.view_is (m.due + 1) in
-    subst (λ (known : Option (Option ℕ)). IfSome known (λ t. t ≡ _)) (sym c.known_pick-picked.ensures.known)
+    subst (λ (known : Option (Option ℕ)). IfSome known (λ t. t ≡ picked (seen_of m.code m.kernel m.parts.items (m.due + 1)))) (sym c.known_pick-picked.ensures.known)
     (c.known_pick-picked.ensures.picked ∙ sym here ∙ sym later)
