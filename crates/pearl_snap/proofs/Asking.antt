@@ -1,5 +1,5 @@
 -- What frames ask of the shapes before their places, and what it comes to.
-use Rattle.std.proofs.Common.{◌≡◌, ℕ, suc, ◌+◌, ◌<◌, Bool, true, false, List, [], ◌∷◌, ◌++◌, length, take, drop, get_or, Option, Some, None, refl, sym, ap, subst, ◌∙◌, arith, add-one, drop-cons}
+use Rattle.std.proofs.Common.{◌≡◌, ℕ, suc, ◌+◌, ◌<◌, Bool, true, false, List, [], ◌∷◌, ◌++◌, length, drop, get_or, Some, None, refl, sym, ap, subst, ◌∙◌, arith, add-one, drop-cons}
 use Rattle.std.specs.Prelude.{◌↔◌, nat_lt, if◌then◌else◌, map, reverse, slice_get}
 use Rattle.std.proofs.lemmas.Bool.{ltb-true, lt-ltb}
 use Rattle.std.proofs.lemmas.List.{reverse-append, reverse-reverse, map-append}
@@ -21,7 +21,7 @@ use Rattle.pearl_snap.specs.declared.record.TaskRecord.{TaskRecord}
 use Rattle.pearl_snap.specs.declared.saved.SavedCell.{SavedCell}
 use Rattle.pearl_snap.specs.declared.saved.FrameRecord.{FrameRecord}
 use Rattle.pearl_snap.specs.declared.stack_rule.Asked.{Asked}
-use Rattle.pearl_snap.specs.Rules.{kind_held, AreOf, HoldsHeld, Stands, IsAtPlace, IsAtCall, IsStackOf, HasStack, HasStacks}
+use Rattle.pearl_snap.specs.Rules.{kind_held, AreOf, HoldsHeld, IsAtPlace, IsAtCall, IsStackOf, HasStack, HasStacks}
 use Rattle.pearl_snap.specs.Asking.{HasShape, IsMet, AreMet, Asks}
 
 -- ---- lists of kinds that lie the other way round

@@ -11,3 +11,9 @@ mod Values
 mod References
 mod Climbing
 mod Asking
+mod Restored
+mod Fitting
+mod Sorts
+mod Depths
+mod Spelling
+mod Counted

@@ -159,7 +159,7 @@ plain_or_ref (k ∷ ks) (x ∷ xs) e =
     let more : map kind_held xs ≡ map Some ks = cc in
     (subst IsSome (sym one) refl, plain_or_ref ks xs more)
 
-back_all : {X : Type 0} (P : X → Type 0) (xs ys : List X) → AllByRecursion P (xs ++ ys) → AllByRecursion P xs × AllByRecursion P ys
+pub back_all : {X : Type 0} (P : X → Type 0) (xs ys : List X) → AllByRecursion P (xs ++ ys) → AllByRecursion P xs × AllByRecursion P ys
 back_all P [] ys h = (tt, h)
 back_all P (x ∷ xs) ys h = let r = back_all P xs ys h.1 in ((h.0, r.0), r.1)
 

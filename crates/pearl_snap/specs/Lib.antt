@@ -18,3 +18,5 @@ pub mod Leads
 pub mod Asking
 -- the rules by their numbers
 pub mod Numbers
+-- what bytes are restored to, or why they aren't
+pub mod Restoring

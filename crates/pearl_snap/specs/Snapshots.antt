@@ -63,12 +63,15 @@ IsThis s (Err NoMemory) = Unit {0}
 abbrev pub IsFaultless : Result Snapshot ℕ → Type 0
 IsFaultless seen = (seen ≡ Err 0) ⊎ ((s : Snapshot) × (seen ≡ Ok s))
 
--- the answer is the place of the first bad field, or how many bytes there are where they end before a field or within one:
--- no field before the place is bad, and where one is bad, no snapshot's bytes begin with these
-abbrev pub IsBad : List ℕ → Result Snapshot ReadFail → Type 0
-IsBad bytes (Ok s) = Unit {0}
-IsBad bytes (Err NoMemory) = Unit {0}
-IsBad bytes (Err (BadBytes place)) =
+-- the place is that of the first bad field, or how many bytes there are where they end before a field or within one: no field
+-- before the place is bad, and where one is bad, no snapshot's bytes begin with these
+abbrev pub IsBadAt : List ℕ → ℕ → Type 0
+IsBadAt bytes place =
     (left : ℕ) × (whole_read snapshot bytes ≡ Err left) × (place ≡ length bytes - left)
     × IsFaultless (whole_read snapshot (take place bytes))
     × (0 < left → (s : Snapshot) (more : List ℕ) → IsObject s.object → saved.fits s.saved → IsBytes more → snapshot_bytes s.object s.saved ≡ bytes ++ more → ⊥)
+
+abbrev pub IsBad : List ℕ → Result Snapshot ReadFail → Type 0
+IsBad bytes (Ok s) = Unit {0}
+IsBad bytes (Err NoMemory) = Unit {0}
+IsBad bytes (Err (BadBytes place)) = IsBadAt bytes place

@@ -11,6 +11,7 @@ mod parts;
 pub mod plans;
 pub mod record;
 pub mod reference_rule;
+pub mod restore;
 pub mod saved;
 pub mod snapshot;
 pub mod stack_rule;

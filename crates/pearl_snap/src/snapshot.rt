@@ -4,7 +4,7 @@ ghost use Rattle.std.specs.Prelude.{◌≡◌, ◌<◌, ◌^◌, length, IfOk};
 ghost use Rattle.pearl_fields.specs.Codec.{whole_read};
 ghost use Rattle.pearl_fields.specs.Reads.{Reads};
 ghost use Rattle.pearl_instructions.specs.Lawful.{IsObject};
-ghost use Rattle.pearl_object.specs.Objects.{object};
+ghost use Rattle.pearl_object.specs.Objects.{object, object_bytes};
 ghost use Rattle.pearl_snap.specs.declared.snapshot.Snapshot as state;
 ghost use Rattle.pearl_snap.specs.States.{saved};
 ghost use Rattle.pearl_snap.specs.Snapshots.{embedded, snapshot, GivesWhole, IsThis, IsBad, snapshot_bytes};
@@ -13,11 +13,13 @@ use crate::fault::ReadFail;
 use crate::saved::Saved;
 use crate::state::{put_saved, read_saved};
 use pearl_fields::fault::ReadFault;
+use pearl_fields::part::put_list;
 use pearl_fields::reader::Reader;
 use pearl_fields::writer::put_number;
-use pearl_instructions::object::Object;
+use pearl_instructions::object::{Object, Parts};
 use pearl_object::fault::ReadFail as ObjectFail;
 use pearl_object::object;
+use pearl_object::states::{Alone, Before, Room};
 use std::alloc::{AllocError as NoMemory, Global};
 
 /// An object, and the state of a run of it.
@@ -81,12 +83,28 @@ pub fn read(alloc: Global, bytes: &[u8]) -> Result<Snapshot, ReadFail>
     }
 }
 
-/// The bytes of an object and the state of a run of it.
+// As `object::write`, which asks for an `Object`.
+#[tactic(auto, unfolding(pearl_object::specs::Objects::object, pearl_object::specs::Objects::parts))]
+fn object_bytes(alloc: Global, object: &Parts) -> Result<Vec<u8>, NoMemory>
+    ensures { IfOk result (λ bytes. bytes.items ≡ object_bytes object.now) }
+{
+    let mut out = Vec::new(alloc);
+    out.extend_from_slice(&[80, 82, 76, 49])?;
+    put_list::<Before, _>(object.devices.as_slice(), &mut out)?;
+    put_list::<Alone, _>(object.semaphores.as_slice(), &mut out)?;
+    put_list::<Room, _>(object.leaves.as_slice(), &mut out)?;
+    put_list::<Alone, _>(object.formats.as_slice(), &mut out)?;
+    put_list::<Alone, _>(object.procedures.as_slice(), &mut out)?;
+    put_list::<Alone, _>(object.tasks.as_slice(), &mut out)?;
+    Ok(out)
+}
+
+/// The bytes of an object and a state.
 #[tactic(auto, unfolding(crate::specs::Snapshots::snapshot))]
-pub fn write(alloc: Global, object: &Object, saved: &Saved) -> Result<Vec<u8>, NoMemory>
+pub fn write(alloc: Global, object: &Parts, saved: &Saved) -> Result<Vec<u8>, NoMemory>
     ensures { IfOk result (λ bytes. bytes.items ≡ snapshot_bytes object.now saved.now) }
 {
-    let inner = object::write(alloc, object)?;
+    let inner = object_bytes(alloc, object)?;
     let mut out = Vec::new(alloc);
     out.extend_from_slice(&[80, 82, 83, 49])?;
     put_number(&mut out, inner.len() as u64)?;

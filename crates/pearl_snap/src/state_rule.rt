@@ -11,9 +11,11 @@ use crate::stack_rule::has_stacks;
 use pearl_instructions::valid::Valid;
 use std::alloc::{AllocError as NoMemory, Global};
 
-/// A rule on the state of a run of a valid object.
+/// A rule on the state of a run of an object.
 #[derive(Clone, Copy, PartialEq, Eq, Debug)]
 pub enum StateRule {
+    /// The object is valid (N1).
+    Validity,
     /// All parts are there, and hold what they may (N2).
     Parts,
     /// The moment, the clock, who acted last and all priorities are lawful (N3).
@@ -32,6 +34,7 @@ impl StateRule {
         ensures { result ≡ number self }
     {
         match self {
+            StateRule::Validity => 1,
             StateRule::Parts => 2,
             StateRule::Numbers => 3,
             StateRule::Plans => 4,
@@ -41,8 +44,8 @@ impl StateRule {
     }
 }
 
-/// The least rule that a state breaks, where each takes those before it for granted; none where it is a state of the object.
-/// What a state holds that was read is values.
+/// The least rule that a state of a valid object breaks, where each takes those before it for granted; none where it is a
+/// state of the object. What a state holds that was read is values.
 pub fn least_broken(
     alloc: Global,
     object: &Valid,

@@ -1,4 +1,4 @@
-use Rattle.std.proofs.Common.{rules, arith, ◌≡◌, ◌+◌, ◌<◌, true, length, get_or, subst}
+use Rattle.std.proofs.Common.{rules, arith, ◌≡◌, ◌+◌, true, get_or, subst}
 use Rattle.std.proofs.lemmas.Result.{IfOk-weaker}
 use Rattle.pearl_snap.specs.Asking.{Asks}
 use Rattle.pearl_snap.specs.Rules.{IsAtPlace, IsAtCall, IsStackOf}

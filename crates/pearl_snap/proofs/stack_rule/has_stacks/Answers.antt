@@ -1,4 +1,4 @@
-use Rattle.std.proofs.Common.{rules, ◌≡◌, subst}
+use Rattle.std.proofs.Common.{rules, subst}
 use Rattle.std.specs.Prelude.{◌↔◌, IsTrue, IfOk}
 use Rattle.std.proofs.lemmas.Result.{IfOk-weaker}
 use Rattle.pearl_snap.specs.Asking.{AreMet, Asks}
