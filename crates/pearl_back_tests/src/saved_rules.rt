@@ -1,35 +1,40 @@
-// The least rule that states break which were read: the plant's, and those with parts of its snapshot changed.
+// What bytes are restored to: those of the plant, cut, and with parts of its snapshot changed.
 
-use crate::snapshots::PLANT;
-use pearl_snap::laws::states_hold_values;
-use pearl_snap::snapshot::read;
-use pearl_snap::state_rule::{StateRule, least_broken};
-use pearl_verify::verify::verify;
+use crate::snapshots::{EMPTY, PLANT};
+use pearl_snap::fault::SnapFault;
+use pearl_snap::restore::{restore, save};
+use pearl_snap::state_rule::StateRule;
 use std::alloc::{AllocError as NoMemory, Global};
 use std::process::Abort;
 
 #[derive(Clone, Copy, PartialEq, Eq, Debug)]
 enum Verdict {
-    /// The bytes, which are few, are no snapshot's, or their object isn't valid.
-    NoState,
-    Lawful,
+    /// No snapshot has the bytes.
+    Bad(u32),
     Breaks(StateRule),
+    /// They are restored, and what is restored is saved as the same bytes.
+    Lawful,
+    /// It is saved as others, or the bytes are many.
+    Other,
 }
 
 fn judged(alloc: Global, bytes: &[u8]) -> Result<Verdict, NoMemory> {
     if bytes.len() > 1000 {
-        return Ok(Verdict::NoState);
+        return Ok(Verdict::Other);
     }
-    states_hold_values();
-    let Ok(snapshot) = read(alloc, bytes) else {
-        return Ok(Verdict::NoState);
-    };
-    let Ok(object) = verify(alloc, snapshot.object) else {
-        return Ok(Verdict::NoState);
-    };
-    Ok(match least_broken(alloc, &object, &snapshot.saved)? {
-        None => Verdict::Lawful,
-        Some(rule) => Verdict::Breaks(rule),
+    Ok(match restore(alloc, bytes) {
+        Ok((object, saved)) => {
+            let again = save(alloc, &object, &saved)?;
+            let same = again.as_slice() == bytes;
+            if same {
+                Verdict::Lawful
+            } else {
+                Verdict::Other
+            }
+        }
+        Err(SnapFault::BadBytes(place)) => Verdict::Bad(place),
+        Err(SnapFault::BadState(rule)) => Verdict::Breaks(rule),
+        Err(SnapFault::NoMemory) => return Err(NoMemory),
     })
 }
 
@@ -89,6 +94,8 @@ macro_rules! pairs {
 
 const LAWFUL: Verdict = Verdict::Lawful;
 
+const N1: Verdict = Verdict::Breaks(StateRule::Validity);
+
 const N2: Verdict = Verdict::Breaks(StateRule::Parts);
 
 const N3: Verdict = Verdict::Breaks(StateRule::Numbers);
@@ -98,6 +105,18 @@ const N4: Verdict = Verdict::Breaks(StateRule::Plans);
 const N5: Verdict = Verdict::Breaks(StateRule::Stacks);
 
 const N6: Verdict = Verdict::Breaks(StateRule::References);
+
+// Instructions that break a rule of the validator, and bytes of an object that are none.
+const OBJECTS: [Row; 8] = rows! {
+    40, 1: [3] => N1;
+    46, 1: [4] => N1;
+    56, 1: [25] => N1;
+    84, 1: [3] => N1;
+    118, 1: [24] => N1;
+    6, 1: [81] => Verdict::Bad(4);
+    118, 1: [73] => Verdict::Bad(4);
+    5, 151: [255, 255, 255, 255, 15] => Verdict::Bad(108);
+};
 
 // Slots, counts, switches, terminals and inputs: how many there are, and what they hold.
 const PARTS: [Row; 22] = rows! {
@@ -216,7 +235,11 @@ const REFERENCES: [Row; 8] = pairs! {
 };
 
 // Two rules that are broken.
-const BOTH: [Row; 10] = pairs! {
+const BOTH: [Row; 14] = pairs! {
+    118, 1: [24] and 161, 1: [5] => Verdict::Bad(161);
+    118, 1: [24] and 165, 1: [128, 128, 128, 128, 8] => N1;
+    118, 1: [24] and 193, 1: [1] => N1;
+    165, 1: [128, 128, 128, 128, 8] and 249, 1: [202, 1] => Verdict::Bad(253);
     165, 1: [128, 128, 128, 128, 8] and 158, 1: [128, 184, 153, 41] => N2;
     162, 1: [3] and 205, 1: [2] => N2;
     165, 1: [128, 128, 128, 128, 8] and 193, 1: [1] => N2;
@@ -256,9 +279,32 @@ fn tell(rt: &impl Abort, alloc: Global, rows: &[Row]) -> Result<(), NoMemory> {
 }
 
 #[test]
-fn a_plant_breaks_no_rule(rt: HostRuntime) -> Result<(), NoMemory> {
+fn what_is_restored_is_saved_as_it_was(rt: HostRuntime) -> Result<(), NoMemory> {
+    assert_eq!(rt; judged(rt.alloc(), &EMPTY)?, LAWFUL);
     assert_eq!(rt; judged(rt.alloc(), &PLANT)?, LAWFUL);
     Ok(())
+}
+
+#[test]
+fn a_cut_snapshot_is_not_restored(rt: HostRuntime) -> Result<(), NoMemory> {
+    for len in 0..24usize {
+        assert_eq!(rt;
+            judged(rt.alloc(), &EMPTY[..len])?,
+            Verdict::Bad(len as u32)
+        );
+    }
+    for len in 0..254usize {
+        assert_eq!(rt;
+            judged(rt.alloc(), &PLANT[..len])?,
+            Verdict::Bad(len as u32)
+        );
+    }
+    Ok(())
+}
+
+#[test]
+fn objects_are_readable_and_valid(rt: HostRuntime) -> Result<(), NoMemory> {
+    tell(&rt, rt.alloc(), &OBJECTS)
 }
 
 #[test]
@@ -298,6 +344,7 @@ fn the_least_broken_rule_is_told(rt: HostRuntime) -> Result<(), NoMemory> {
 
 #[test]
 fn rules_have_their_numbers(rt: HostRuntime) -> Result<(), NoMemory> {
+    assert_eq!(rt; StateRule::Validity.number(), 1);
     assert_eq!(rt; StateRule::Parts.number(), 2);
     assert_eq!(rt; StateRule::References.number(), 6);
     Ok(())

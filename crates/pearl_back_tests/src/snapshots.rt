@@ -11,7 +11,7 @@ fn fault(alloc: Global, bytes: &[u8]) -> Result<Option<u32>, NoMemory> {
     }
     match read(alloc, bytes) {
         Ok(snapshot) => {
-            let again = write(alloc, &snapshot.object, &snapshot.saved)?;
+            let again = write(alloc, snapshot.object.parts(), &snapshot.saved)?;
             let same = again.as_slice() == bytes;
             Ok(if same { None } else { Some(u32::MAX) })
         }
@@ -21,7 +21,7 @@ fn fault(alloc: Global, bytes: &[u8]) -> Result<Option<u32>, NoMemory> {
 }
 
 // An object with nothing in it, at rest.
-const EMPTY: [u8; 24] = [
+pub(crate) const EMPTY: [u8; 24] = [
     80, 82, 83, 49, 10, 80, 82, 76, 49, 0, 0, 0, 0, 0, 0, 0, 0, 0, 0, 0, 0, 0, 0, 0,
 ];
 
