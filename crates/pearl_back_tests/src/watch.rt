@@ -1,14 +1,18 @@
-// The monitor of variables by hand: entries cut into those of one mark, names that are refused, and lines.
+// The monitor of variables by hand: entries cut into those of one mark, names that are refused, lines, and a run.
 
+ghost use Rattle.std.specs.Prelude.{Some, OnOk};
 ghost use Rattle.pearl_value.specs.WellFormed.{IsValue};
+ghost use Rattle.pearl_watch.specs.Monitored.{IsTold};
 
 use arrayvec::ArrayVec;
 use pearl_instructions::valid::Valid;
+use pearl_io::{MemorySink, WriteFault};
 use pearl_object::object::read;
 use pearl_rules::entry::Entry;
 use pearl_value::cell::Cell;
 use pearl_verify::verify::verify;
 use pearl_watch::fault::WatchFault;
+use pearl_watch::monitor::Monitor;
 use pearl_watch::steps::Steps;
 use pearl_watch::watch::Watch;
 use std::alloc::{AllocError as NoMemory, Global};
@@ -155,8 +159,8 @@ const OBJECT: [u8; 47] = [
     105, 103, 0, 31, 255, 7, 0, 4, 118, 97, 115, 116, 0, 31, 129, 8, 0, 0, 0, 0,
 ];
 
-fn object(alloc: Global) -> Result<Option<Valid>, NoMemory> {
-    match read(alloc, &OBJECT) {
+fn object(alloc: Global, bytes: &[u8]) -> Result<Option<Valid>, NoMemory> {
+    match read(alloc, bytes) {
         Ok(object) => Ok(verify(alloc, object).ok()),
         Err(_) => Ok(None),
     }
@@ -179,7 +183,7 @@ enum Told {
 
 fn answer_to(alloc: Global, names: &[&str]) -> Result<Option<Told>, NoMemory> {
     let names = texts(alloc, names)?;
-    let Some(object) = object(alloc)? else {
+    let Some(object) = object(alloc, &OBJECT)? else {
         return Ok(None);
     };
     match Watch::new(alloc, &object, names.as_slice()) {
@@ -280,7 +284,7 @@ fn changes_are_told(rt: HostRuntime) -> Result<(), Fail> {
     let alloc = rt.alloc();
     let names = texts(alloc, &["y", "x"])?;
     let mut is_made = false;
-    if let Some(object) = object(alloc)?
+    if let Some(object) = object(alloc, &OBJECT)?
         && let Ok(mut watch) = Watch::new(alloc, &object, names.as_slice())
     {
         is_made = true;
@@ -288,5 +292,70 @@ fn changes_are_told(rt: HostRuntime) -> Result<(), Fail> {
         assert_eq!(rt; first_other(&mut watch), None);
     }
     assert!(rt; is_made);
+    Ok(())
+}
+
+// Tasks `a` and `b` of the same priority add 1 to `x`; then `a` puts it.
+const TASKS: [u8; 63] = [
+    80, 82, 76, 49, 1, 1, 1, 2, 0, 1, 1, 120, 0, 31, 1, 0, 1, 1, 5, 2, 0, 2, 1, 97, 5, 1, 0, 2, 7,
+    9, 0, 0, 0, 31, 2, 40, 10, 0, 9, 0, 69, 0, 0, 25, 0, 1, 98, 5, 1, 0, 2, 5, 9, 0, 0, 0, 31, 2,
+    40, 10, 0, 25, 0,
+];
+
+// The second task has its turn, where there is one.
+fn turn_second(monitor: &mut Monitor, sink: &mut MemorySink) -> Result<(), WriteFault>
+    requires { IsTold monitor.old.watch (Some monitor.old.machine.state.core) }
+    ensures { OnOk result (IsTold monitor.new.watch (Some monitor.new.machine.state.core)) }
+{
+    if monitor.setup().tasks.len() < 2 {
+        return Ok(());
+    }
+    monitor.entry(Entry::Turn(1), sink)
+}
+
+// A run in which `a` has read `x` when `b` has its turn; then milliseconds pass.
+fn run(monitor: &mut Monitor, sink: &mut MemorySink) -> Result<(), WriteFault> {
+    monitor.tell(sink)?;
+    monitor.entry(Entry::Run(1), sink)?;
+    turn_second(monitor, sink)?;
+    monitor.entry(Entry::Run(10), sink)?;
+    if monitor.now() < 1000 {
+        monitor.entry(Entry::Tick(3), sink)?;
+    }
+    monitor.close(sink)
+}
+
+// Whether a sink takes these bytes of the run, of whose calls one fails, unless its number is 0.
+fn takes(alloc: Global, failing: u64, want: &[u8]) -> Result<bool, NoMemory> {
+    let mut calls = Vec::new(alloc);
+    calls.push(failing)?;
+    let mut sink = MemorySink::new(alloc, calls, 4096);
+    let names = texts(alloc, &["x"])?;
+    let Some(code) = object(alloc, &TASKS)? else {
+        return Ok(false);
+    };
+    match Monitor::load(alloc, code, names.as_slice()) {
+        Ok(mut monitor) => {
+            let ended = run(&mut monitor, &mut sink);
+            Ok(ended.is_ok() == (failing == 0) && sink.bytes() == want)
+        }
+        Err(WatchFault::NoMemory) => Err(NoMemory),
+        Err(WatchFault::BadName(_)) => Ok(false),
+    }
+}
+
+// The number of the call that fails, and what is taken: each line is one piece.
+static TAKEN: [(u64, &[u8]); 4] = [
+    (0, b"0 0 value x 0 0\n4 0 value x 0 1\n12 3 close\n"),
+    (1, b""),
+    (2, b"0 0 value x 0 0\n"),
+    (3, b"0 0 value x 0 0\n4 0 value x 0 1\n"),
+];
+
+#[test]
+fn a_run_is_watched(rt: HostRuntime) -> Result<(), NoMemory> {
+    for (failing, want) in &TAKEN {
+        assert!(rt; takes(rt.alloc(), *failing, want)?, "{failing}");
+    }
     Ok(())
 }

@@ -1,5 +1,6 @@
 -- What a monitor writes of a run: how the watched slots change, mark by mark.
-use Rattle.std.specs.Prelude.{ℕ, zero, suc, ◌+◌, ◌-◌, ◌^◌, min, if◌then◌else◌, List, [], ◌∷◌, ◌++◌, Bool, true, false, ◌&&◌, nat_eq, Option, Some, None, replicate}
+use Rattle.std.specs.Prelude.{ℕ, zero, suc, ◌+◌, ◌-◌, ◌^◌, min, if◌then◌else◌, List, [], ◌∷◌, ◌++◌, Bool, true, false, ◌&&◌, nat_eq, Option, Some, None, codes, replicate}
+use Rattle.std.specs.Fmt.{decimal}
 use Rattle.std.specs.List.{flat_map}
 use Rattle.std.specs.Ordering.{int_eq}
 use Rattle.std.specs.Str.{bytes_eq}
@@ -7,6 +8,7 @@ use Rattle.pearl_value.specs.declared.cell.Cell.{Cell}
 use Rattle.pearl_value.specs.declared.cell.Cell.TheVariants.{Fixed, Bits, Chars, Clock, Span, Ref}
 use Rattle.pearl_rules.specs.Core.{Core, value_at}
 use Rattle.pearl_rules.specs.Runs.{Engine, Machine, machine_after, marked_after, marks_in_step}
+use Rattle.pearl_script.specs.Lines.{close_line}
 use Rattle.pearl_watch.specs.declared.watched.Watched.{Watched}
 use Rattle.pearl_watch.specs.Lines.{value_line}
 use Rattle.pearl_watch.specs.Watched.{name_at}
@@ -58,6 +60,10 @@ step_lines names watched marks engine m (suc n) =
 -- all lines from the start of a run up to there: what each watched slot holds first, and then how it changes
 abbrev pub watch_lines : {S : Type 0} → List (List ℕ) → List Watched → Engine S → Machine S → ℕ → List ℕ
 watch_lines names watched engine start n = change_lines names watched 0 None start.core ++ step_lines names watched 0 engine start n
+
+-- the last line, after so many marks
+abbrev pub last_line : (marks moment : ℕ) → List ℕ
+last_line marks moment = decimal (shown marks) ++ codes " " ++ close_line moment
 
 -- MARK BY MARK
 

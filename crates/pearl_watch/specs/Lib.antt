@@ -8,3 +8,5 @@ pub mod Watched
 pub mod Lines
 -- how the watched slots change over a run, mark by mark
 pub mod Changes
+-- what contracts see of a monitor, and what it writes of its machine's run
+pub mod Monitored

@@ -8,6 +8,7 @@ ghost use Rattle.pearl_rules.specs.Runs.{Coming, Engine, Machine, next_mark, mac
 ghost use Rattle.pearl_watch.specs.Handing.{Handing, IsAlone, at_once, handing_after, with_more};
 ghost use Rattle.pearl_watch.specs.declared.watched.Watched.{Watched};
 ghost use Rattle.pearl_watch.specs.Changes.{core_lines, is_same, mark_cores, watch_lines};
+ghost use Rattle.pearl_watch.specs.Monitored.{ShowsTheRun, WatchesBehind, WatchesInTurn, WatchesNothing};
 ghost use Rattle.pearl_watch.specs.Marks.{alone};
 
 /// A machine to which the entries are handed over one mark at a time runs as one that has them all at once, instruction
@@ -31,4 +32,17 @@ pub fn writes_mark_by_mark<S>()
 /// A value counts as changed just where it is another one.
 pub fn tells_values_apart()
     ensures { (x y : Cell) → IsValue y → (is_same x y ≡ true) ↔ (x ≡ y) }
+{}
+
+/// What a monitor writes of entries one after the other is what it writes of all.
+pub fn writes_in_turn()
+    ensures nothing { WatchesNothing }
+    ensures behind { WatchesBehind }
+    ensures in_turn { WatchesInTurn }
+{}
+
+/// What a monitor writes of all entries is how the named leaves' slots change, mark by mark of the object's own run, up to
+/// its end.
+pub fn shows_the_run()
+    ensures { ShowsTheRun }
 {}

@@ -5,7 +5,10 @@
 pub mod fault;
 pub mod laws;
 mod line;
+pub mod monitor;
 mod same;
+mod silent;
 pub mod steps;
+mod tell;
 pub mod watch;
 pub mod watched;

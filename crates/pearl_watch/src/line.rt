@@ -3,6 +3,7 @@
 ghost use Rattle.std.specs.Prelude.{◌≡◌, ◌+◌, ◌≤◌, ◌++◌, length};
 ghost use Rattle.std.specs.Fmt.{decimal};
 ghost use Rattle.pearl_value.specs.WellFormed.{IsValue};
+ghost use Rattle.pearl_watch.specs.Changes.{last_line as line_at_end};
 ghost use Rattle.pearl_watch.specs.Lines.{value_line};
 
 use arrayvec::ArrayVec;
@@ -51,4 +52,15 @@ pub(crate) fn value_line(
     push_bytes(b" ", into);
     push_literal(value, into);
     push_bytes(b"\n", into);
+}
+
+/// Makes `into` the last line, whatever it held before.
+pub(crate) fn last_line(marks: u64, now: u64, into: &mut ArrayVec<u8, 2304>)
+    ensures { into.new.items ≡ line_at_end marks now }
+{
+    into.clear();
+    push_number(marks, into);
+    push_bytes(b" ", into);
+    push_number(now, into);
+    push_bytes(b" close\n", into);
 }

@@ -121,7 +121,8 @@ impl Watch {
 
     /// The number in the module of each watched slot.
     pub fn slots(&self) -> &[u32]
-        ensures { result.now ≡ map (λ s. s.slot) self.now.watched }
+        ensures slots { result.now ≡ map (λ s. s.slot) self.now.watched }
+        ensures given { length self.now.given ≡ length self.now.watched }
     {
         self.slots.as_slice()
     }
