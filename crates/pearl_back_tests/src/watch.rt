@@ -307,7 +307,7 @@ fn turn_second(monitor: &mut Monitor, sink: &mut MemorySink) -> Result<(), Write
     requires { IsTold monitor.old.watch (Some monitor.old.machine.state.core) }
     ensures { OnOk result (IsTold monitor.new.watch (Some monitor.new.machine.state.core)) }
 {
-    if monitor.setup().tasks.len() < 2 {
+    if monitor.setup().tasks.as_slice().len() < 2 {
         return Ok(());
     }
     monitor.entry(Entry::Turn(1), sink)
