@@ -1,4 +1,5 @@
-use Rattle.std.proofs.Common.{ap}
+use Rattle.std.proofs.Common.{refl, ap}
+use Rattle.std.proofs.lemmas.Result.{err_from_is_err_and}
 use Rattle.pearl_io.specs.Memory.{SinkState}
 use Rattle.pearl_io.specs.Outside.{CountRose}
 use Rattle.pearl_machine.specs.Seen.{Seen}
@@ -14,3 +15,8 @@ returns-in-Ok-clause-ok c =
     let ends = c.in-Ok.ensures.ends ready.2.ready in
     was_worked ready.0 c.in_ok-machine.machine.object c.args.source.now ends.0 c.new-sink.result.bytes c.replay.new.sink.bytes c.in_ok-shelf.shelf (CountRose 0 0)
     ready.1 ready.2.faithful ends.1 c.in_ok-shelf.ensures (ap (λ (sink : SinkState). sink.bytes) c.new-sink.ensures) ends.2
+
+pub returns-in_err-shelf-clause-err : goal.returns-in_err-shelf-clause-err
+returns-in_err-shelf-clause-err c =
+    let e = err_from_is_err_and c.from_residual-in_err-shelf.result c.from_residual-in_err-shelf.ensures.1 in
+    rw (e.1, e.2) refl
