@@ -160,6 +160,9 @@ const OBJECT: [u8; 47] = [
 ];
 
 fn object(alloc: Global, bytes: &[u8]) -> Result<Option<Valid>, NoMemory> {
+    if bytes.len() > 1000 {
+        return Ok(None);
+    }
     match read(alloc, bytes) {
         Ok(object) => Ok(verify(alloc, object).ok()),
         Err(_) => Ok(None),
