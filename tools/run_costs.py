@@ -99,7 +99,7 @@ def lines(count):
 
 
 # 3,000 bytes that wait, none of which ends a line.
-FULL = f"chars 1 '{'1' * 1000}'\n" * 3
+FULL = f"chars 1 '{'1' * 250}'\n" * 12
 
 # Each row: a name, the plant, the journal's part that is measured, how much of what it has, and, where the lines by
 # themselves are not to be measured, what stands in its place in the other journal.
