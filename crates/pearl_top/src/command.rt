@@ -9,19 +9,41 @@ use itoa::Buffer;
 /// What the words ask for.
 pub enum Command<'a> {
     /// `run SOURCE JOURNAL`.
-    Run { source: &'a str, journal: &'a str },
+    Run {
+        source: &'a str,
+        journal: &'a str,
+    },
     /// `check SOURCE`.
-    Check { source: &'a str },
+    Check {
+        source: &'a str,
+    },
     /// `print SOURCE`.
-    Print { source: &'a str },
+    Print {
+        source: &'a str,
+    },
     /// `compile SOURCE`.
-    Compile { source: &'a str },
+    Compile {
+        source: &'a str,
+    },
     /// `exec OBJECT JOURNAL`.
-    Exec { object: &'a str, journal: &'a str },
+    Exec {
+        object: &'a str,
+        journal: &'a str,
+    },
     /// `list OBJECT`.
-    List { object: &'a str },
+    List {
+        object: &'a str,
+    },
     /// `bench N`, N from 1 to 100 without leading zeros.
-    Bench { n: u8 },
+    Bench {
+        n: u8,
+    },
+    /// `watch OBJECT JOURNAL NAME ..`, with 1 to 64 names.
+    Watch {
+        object: &'a str,
+        journal: &'a str,
+        names: &'a [String],
+    },
     /// The words are none of the listed forms.
     None,
 }
@@ -33,6 +55,12 @@ pub fn command_of_words(words: &[String]) -> Command<'_>
     match words {
         [word, name] => of_one(word.as_str(), name.as_str()),
         [word, name, second] => of_two(word.as_str(), name.as_str(), second.as_str()),
+        [word, name, second, more @ ..] => of_more(
+            word.as_str(),
+            name.as_str(),
+            second.as_str(),
+            more,
+        ),
         _ => Command::None,
     }
 }
@@ -69,6 +97,19 @@ fn of_two<'a>(word: &str, name: &'a str, second: &'a str) -> Command<'a>
         Command::Exec {
             object: name,
             journal: second,
+        }
+    } else {
+        Command::None
+    }
+}
+
+// The command of a word, two more, and any number behind these.
+fn of_more<'a>(word: &str, name: &'a str, second: &'a str, more: &'a [String]) -> Command<'a> {
+    if word == "watch" && more.len() <= 64 {
+        Command::Watch {
+            object: name,
+            journal: second,
+            names: more,
         }
     } else {
         Command::None

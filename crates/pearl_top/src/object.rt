@@ -13,6 +13,8 @@ use pearl_instructions::object::Object;
 use pearl_machine::Machine;
 use pearl_object::listing::list;
 use pearl_object::object::read;
+use pearl_verify::verify::verify;
+use pearl_watch::monitor::Monitor;
 use std::alloc::Global;
 
 /// A machine with the code of the object that a file has, which is validated.
@@ -25,6 +27,14 @@ pub fn machine_in(alloc: Global, file: &[u8]) -> Result<Machine, Failure>
     let object = object_in(alloc, file)?;
     let machine = load(alloc, object)?;
     Ok(machine)
+}
+
+/// A monitor of the named leaves over the object that a file has, which is validated before the names are asked.
+pub fn monitor_in(alloc: Global, file: &[u8], names: &[String]) -> Result<Monitor, Failure> {
+    let object = object_in(alloc, file)?;
+    let code = verify(alloc, object)?;
+    let monitor = Monitor::load(alloc, code, names)?;
+    Ok(monitor)
 }
 
 /// The listing of the object that a file has, which is not validated.

@@ -11,10 +11,10 @@ ghost use Rattle.pearl_top.specs.Runners.{by_code};
 ghost use Rattle.pearl_top.specs.Taken.{Leaves};
 
 use crate::failure::Failure;
+use crate::follower::Follower;
 use crate::limits::JOURNAL_LIMIT;
 use pearl_io::{Failed, Shelf, Sink};
 use pearl_journal::lines::{Lines, Next};
-use pearl_machine::Machine;
 use pearl_script::refusal::Refusal;
 
 // How many bytes of the journal are fetched at once.
@@ -22,8 +22,8 @@ const PIECE: usize = 4096;
 
 /// Runs a machine from its start over the journal, which is read after the opening lines and piece by piece. Each line is carried
 /// out as soon as its end was read.
-pub fn replay<S: Shelf, K: Sink>(
-    machine: &mut Machine,
+pub fn replay<F: Follower, S: Shelf, K: Sink>(
+    follower: &mut F,
     lines: &mut Lines,
     journal: &str,
     shelf: &mut S,
@@ -39,15 +39,15 @@ pub fn replay<S: Shelf, K: Sink>(
     ensures shelf_later { (name : List ℕ) → S.faults shelf.old name ≤ S.faults shelf.new name }
     ensures sink_later { K.faults sink.old ≤ K.faults sink.new }
 {
-    machine.begin(sink)?;
-    carry_out(machine, lines, journal, shelf, sink)?;
-    machine.close(sink)?;
+    follower.open(sink)?;
+    carry_out(follower, lines, journal, shelf, sink)?;
+    follower.finish(sink)?;
     Ok(())
 }
 
 // Carries out the journal, one piece after another.
-fn carry_out<S: Shelf, K: Sink>(
-    machine: &mut Machine,
+fn carry_out<F: Follower, S: Shelf, K: Sink>(
+    follower: &mut F,
     lines: &mut Lines,
     journal: &str,
     shelf: &mut S,
@@ -77,9 +77,9 @@ fn carry_out<S: Shelf, K: Sink>(
         };
         if count == 0 {
             lines.finish();
-            return carry_out_line(machine, lines, sink);
+            return carry_out_line(follower, lines, sink);
         }
-        carry_out_piece(machine, lines, &buffer[..count.min(left)], sink)?;
+        carry_out_piece(follower, lines, &buffer[..count.min(left)], sink)?;
         if count > left {
             return Err(Failure::Refused(Refusal::TooLong(JOURNAL_LIMIT + 1)));
         }
@@ -88,8 +88,8 @@ fn carry_out<S: Shelf, K: Sink>(
 }
 
 // Carries out the lines that end in a piece.
-fn carry_out_piece<K: Sink>(
-    machine: &mut Machine,
+fn carry_out_piece<F: Follower, K: Sink>(
+    follower: &mut F,
     lines: &mut Lines,
     piece: &[u8],
     sink: &mut K,
@@ -112,15 +112,15 @@ fn carry_out_piece<K: Sink>(
     let mut left = piece;
     'lines: while !left.is_empty() {
         let count = lines.feed(left);
-        carry_out_line(machine, lines, sink)?;
+        carry_out_line(follower, lines, sink)?;
         left = &left[count..];
     }
     Ok(())
 }
 
 // Carries out the line that stands whole, if one does.
-fn carry_out_line<K: Sink>(
-    machine: &mut Machine,
+fn carry_out_line<F: Follower, K: Sink>(
+    follower: &mut F,
     lines: &mut Lines,
     sink: &mut K,
 ) -> Result<(), Failure>
@@ -137,9 +137,9 @@ fn carry_out_line<K: Sink>(
     ensures counted { lines.new.lines ≤ lines.old.lines + 1 }
     ensures later { K.faults sink.old ≤ K.faults sink.new }
 {
-    match lines.entry(machine.setup(), machine.now())? {
+    match lines.entry(follower.tables(), follower.moment())? {
         Next::Entry(entry) => {
-            machine.entry(&entry, sink)?;
+            follower.follow(entry, sink)?;
             Ok(())
         }
         Next::Blank | Next::Partial => Ok(()),

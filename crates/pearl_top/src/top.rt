@@ -22,7 +22,7 @@ use crate::command::{Command, command_of_words};
 use crate::compile::{compiled, machine_of};
 use crate::failure::Failure;
 use crate::limits::{OBJECT_LIMIT, SOURCE_LIMIT};
-use crate::object::{listing_in, machine_in};
+use crate::object::{listing_in, machine_in, monitor_in};
 use crate::print::canonical_text;
 use crate::read::read_whole;
 use crate::refuse::conclude;
@@ -114,6 +114,11 @@ fn carry_out<S: Shelf, K: Sink>(
         Command::Exec { object, journal } => exec(alloc, object, journal, shelf, sink),
         Command::List { object } => list(alloc, object, shelf, sink),
         Command::Bench { n } => bench(alloc, n, sink),
+        Command::Watch {
+            object,
+            journal,
+            names,
+        } => watch(alloc, object, journal, names, shelf, sink),
         Command::None => Err(Failure::Refused(Refusal::Usage)),
     }
 }
@@ -223,6 +228,21 @@ fn exec<S: Shelf, K: Sink>(
     let mut machine = machine_in(alloc, bytes.as_slice())?;
     let mut lines = Lines::new(alloc)?;
     replay(&mut machine, &mut lines, journal, shelf, sink)
+}
+
+// Carries out `watch OBJECT JOURNAL NAME ..`.
+fn watch<S: Shelf, K: Sink>(
+    alloc: Global,
+    object: &str,
+    journal: &str,
+    names: &[String],
+    shelf: &mut S,
+    sink: &mut K,
+) -> Result<(), Failure> {
+    let bytes = read_whole(alloc, shelf, object, OBJECT_LIMIT)?;
+    let mut monitor = monitor_in(alloc, bytes.as_slice(), names)?;
+    let mut lines = Lines::new(alloc)?;
+    replay(&mut monitor, &mut lines, journal, shelf, sink)
 }
 
 // Carries out `list OBJECT`.
