@@ -28,17 +28,23 @@ COLOURS = {
     "masked": ("stroke", "#7a8592", "#98a4b1"),
     "lost": ("stroke", "#cf3f3f", "#ef6a6a"),
     "inbar": ("fill", "#0d1116", "#ffffff"),
+}
+# The same where slots are watched.
+WATCHED = {
     "curve": ("stroke", "#a8471f", "#f0935f"),
     "dot": ("fill", "#a8471f", "#f0935f"),
     "bits": ("fill", "#e2a483", "#8a4a2c"),
 }
 
 
-def style():
+def style(with_watched):
     """The picture's style, light, and dark where the reader's page is."""
+    colours = {**COLOURS, **(WATCHED if with_watched else {})}
+
     def rules(index):
-        return "".join(f".{name}{{{it[0]}:{it[index]}}}" for name, it in COLOURS.items())
-    lines = ".rule,.moment{stroke-width:1}.curve{stroke-width:1.4;fill:none}.edge,.masked,.lost{stroke-width:1.8;fill:none}.trap{stroke-width:2.6;fill:none}"
+        return "".join(f".{name}{{{it[0]}:{it[index]}}}" for name, it in colours.items())
+    lines = ".rule,.moment{stroke-width:1}.edge,.masked,.lost{stroke-width:1.8;fill:none}.trap{stroke-width:2.6;fill:none}"
+    lines += ".curve{stroke-width:1.4;fill:none}" if with_watched else ""
     font = "text{font:11px ui-monospace,Menlo,Consolas,'DejaVu Sans Mono',monospace;white-space:pre}"
     title = ".title{font-size:14px;font-weight:bold}"
     return f"<style>{font}{title}{lines}{rules(1)}@media(prefers-color-scheme:dark){{{rules(2)}}}</style>"

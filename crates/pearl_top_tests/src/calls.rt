@@ -127,6 +127,24 @@ fn executes_alike(alloc: Global, run: &Run) -> Result<bool, AllocError> {
     fails_alike(alloc, source, exec)
 }
 
+// Whether each call for what is written may fail where each line is one piece: all before it is taken.
+fn lines_may_fail(alloc: Global, of: Command, text: &str) -> Result<bool, AllocError> {
+    let mut taken = Vec::new(alloc);
+    let mut call: u64 = 0;
+    for line in text.split_inclusive('\n') {
+        for piece in line.as_bytes().chunks(WRITTEN) {
+            call = call.saturating_add(1);
+            let fault = broken_off(alloc, of, 0, call)?;
+            if !fault.is(Status::WriteFault, taken.as_slice()) {
+                return Ok(false);
+            }
+            taken.extend_from_slice(piece)?;
+        }
+    }
+    let last = broken_off(alloc, of, 0, call.saturating_add(1))?;
+    Ok(last.is(Status::Done, text.as_bytes()))
+}
+
 // Whether each call of a monitor may fail: those for the object, those for the journal, behind the lines that were read
 // whole, and those for what is written.
 fn monitor_may_fail(alloc: Global, run: &Run) -> Result<bool, AllocError> {
@@ -137,10 +155,6 @@ fn monitor_may_fail(alloc: Global, run: &Run) -> Result<bool, AllocError> {
         bytes: object.as_slice(),
         journal: journal.as_str(),
     };
-    let whole = end_of(alloc, WATCH, of.bytes, of.journal, ROOM)?;
-    if !whole.is(Status::Done, transcript_of(alloc, run)?.as_bytes()) {
-        return Ok(false);
-    }
     for before in 0..calls_for(journal.len()) {
         let text = written_of(alloc, run, (before as usize).saturating_mul(READ))?;
         let call = calls_for(object.len()).saturating_add(before);
@@ -149,7 +163,8 @@ fn monitor_may_fail(alloc: Global, run: &Run) -> Result<bool, AllocError> {
             return Ok(false);
         }
     }
-    Ok(first_other_fetch(alloc, of)?.is_none() && first_other_put(alloc, of)?.is_none())
+    let text = transcript_of(alloc, run)?;
+    Ok(first_other_fetch(alloc, of)?.is_none() && lines_may_fail(alloc, of, text.as_str())?)
 }
 
 #[test]
