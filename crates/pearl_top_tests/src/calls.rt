@@ -3,9 +3,7 @@
 use crate::case::{
     CHECK, COMPILE, EXEC, Ended, LIST, PRINT, ROOM, RUN, WATCH, end_of, owned, two_files,
 };
-use crate::pieces::{
-    MONITORED, READ, RUNS, Run, WRITTEN, journal_of, transcript_of, written_of,
-};
+use crate::pieces::{MONITORED, READ, RUNS, Run, WRITTEN, journal_of, transcript_of, written_of};
 use crate::run::FIRST;
 use pearl_io::{MemoryShelf, MemorySink};
 use pearl_top::status::Status;

@@ -33,20 +33,24 @@ macro_rules! rows {
 }
 
 // Two tasks that count up.
-const TWO: &str = "DCL x FIXED; a: TASK PRIO 5 MAIN; x := x + 1; PUT x TO tty BY F(2); END; b: TASK PRIO 5 \
+const TWO: &str =
+    "DCL x FIXED; a: TASK PRIO 5 MAIN; x := x + 1; PUT x TO tty BY F(2); END; b: TASK PRIO 5 \
     MAIN; x := x + 1; END;";
 
 // Arrays and structures.
-const PARTS: &str = "DCL v(2:4) FIXED INIT(7,-8),r(2) STRUCT[u CHAR(2),w(2) BIT],n FIXED INIT(3); a: TASK \
+const PARTS: &str =
+    "DCL v(2:4) FIXED INIT(7,-8),r(2) STRUCT[u CHAR(2),w(2) BIT],n FIXED INIT(3); a: TASK \
     MAIN; v(n) := 9; r(2).w(1) := '1'B; v(2) := v(3); r(1).u := '''x'; END;";
 
 // A variable of each kind.
-const KINDS: &str = "DCL b BIT(5) INIT('01'B),t CLOCK INIT(23:59:59.5),d DURATION INIT(-1 SEC),c CHAR(4) \
+const KINDS: &str =
+    "DCL b BIT(5) INIT('01'B),t CLOCK INIT(23:59:59.5),d DURATION INIT(-1 SEC),c CHAR(4) \
     INIT('it''s'),f FIXED(63); a: TASK MAIN; f := 9000000000000000000; b := NOT b; t := t + 1 SEC; d := d - 1.5 \
     SEC; c := 'x'; f := -f; END;";
 
 // A count that goes up each two seconds.
-const COUNT: &str = "DCL n FIXED,last BIT; a: TASK MAIN; ALL 2 SEC ACTIVATE b; END; b: TASK PRIO 2; n := n + \
+const COUNT: &str =
+    "DCL n FIXED,last BIT; a: TASK MAIN; ALL 2 SEC ACTIVATE b; END; b: TASK PRIO 2; n := n + \
     1; IF n == 3 THEN last := '1'B; FIN; END;";
 
 // As many slots as can be watched, one more, and one array with too many.
@@ -185,14 +189,14 @@ macro_rules! objects {
 // The object of `DCL x FIXED INIT(1),y FIXED INIT(2); t: TASK MAIN; y := x + 4; END;`, where the second leaf too is
 // named x.
 const ALIKE: &[u8] = &[
-    0x50, 0x52, 0x4c, 0x31, 0, 0, 2, 1, 0x78, 0, 0x1f, 1, 1, 0, 0x1f, 2, 1, 0x78, 0, 0x1f, 1, 1, 0, 0x1f, 4, 0, 0, 1, 1,
-    0x74, 0xff, 1, 1, 0, 2, 5, 9, 0, 0, 0, 0x1f, 8, 0x28, 0x0a, 1, 0x19, 0,
+    0x50, 0x52, 0x4c, 0x31, 0, 0, 2, 1, 0x78, 0, 0x1f, 1, 1, 0, 0x1f, 2, 1, 0x78, 0, 0x1f, 1, 1, 0,
+    0x1f, 4, 0, 0, 1, 1, 0x74, 0xff, 1, 1, 0, 2, 5, 9, 0, 0, 0, 0x1f, 8, 0x28, 0x0a, 1, 0x19, 0,
 ];
 
 // The same, where its name is empty.
 const UNNAMED: &[u8] = &[
-    0x50, 0x52, 0x4c, 0x31, 0, 0, 2, 1, 0x78, 0, 0x1f, 1, 1, 0, 0x1f, 2, 0, 0, 0x1f, 1, 1, 0, 0x1f, 4, 0, 0, 1, 1, 0x74,
-    0xff, 1, 1, 0, 2, 5, 9, 0, 0, 0, 0x1f, 8, 0x28, 0x0a, 1, 0x19, 0,
+    0x50, 0x52, 0x4c, 0x31, 0, 0, 2, 1, 0x78, 0, 0x1f, 1, 1, 0, 0x1f, 2, 0, 0, 0x1f, 1, 1, 0, 0x1f,
+    4, 0, 0, 1, 1, 0x74, 0xff, 1, 1, 0, 2, 5, 9, 0, 0, 0, 0x1f, 8, 0x28, 0x0a, 1, 0x19, 0,
 ];
 
 // An object is refused before a name, and a name before a line of the journal. A name means the first leaf that has it.
@@ -211,7 +215,10 @@ static OBJECTS: [Given; 8] = objects![
 fn objects_come_before_names(rt: HostRuntime) -> Result<(), Fail> {
     for (number, given) in OBJECTS.iter().enumerate() {
         let ended = end_of(rt.alloc(), given.words, given.bytes, "run 9", ROOM)?;
-        assert!(rt; ended.is(given.status, given.text.as_bytes()), "row {number}");
+        assert!(rt;
+            ended.is(given.status, given.text.as_bytes()),
+            "row {number}"
+        );
     }
     Ok(())
 }
