@@ -24,9 +24,9 @@ use Rattle.pearl_top.specs.Outcome.{Due, IsOutcome}
 use Rattle.pearl_top.specs.Reading.{ASource, AnObject}
 use Rattle.pearl_top.specs.RunDue.{IsSource}
 use Rattle.pearl_top.specs.PrintDue.{IsPrinted}
-use Rattle.pearl_top.specs.Runners.{by_code, by_rules, ended_of}
+use Rattle.pearl_top.specs.Runners.{by_code, by_rules}
 use Rattle.pearl_top.specs.Sources.{IsUnspelled}
-use Rattle.pearl_top.specs.Transcript.{Closed, IsTranscript}
+use Rattle.pearl_top.specs.Transcript.{Closed, ended_of}
 use Rattle.pearl_top.specs.Taken.{Ends}
 use Rattle.pearl_meaning.specs.ProgramRuns.{setup_of as tables_of}
 use Rattle.pearl_top.proofs.CheckLaws.{never_unaccepted}
@@ -90,7 +90,7 @@ completes command files rose old new status ends order no_memory no_read no_writ
 -- WHAT IS DUE THEN
 
 -- a program writes something over the entries of a journal
-has_transcript : (p : PlainProg) (es : List Entry) → (bytes : List ℕ) × IsTranscript (by_rules p) es Closed bytes
+has_transcript : (p : PlainProg) (es : List Entry) → (bytes : List ℕ) × (by_rules p).writes es Closed bytes
 has_transcript p es =
     let end = source_ends (offer p) (tables_of p) es in (
       _,

@@ -20,7 +20,7 @@ use Rattle.pearl_top.specs.Reading.{ASource, AnObject}
 use Rattle.pearl_top.specs.RunDue.{IsSource}
 use Rattle.pearl_top.specs.Runners.{by_code, by_rules}
 use Rattle.pearl_top.specs.Sources.{IsUnspelled}
-use Rattle.pearl_top.specs.Transcript.{Closed, IsTranscript}
+use Rattle.pearl_top.specs.Transcript.{Closed}
 use Rattle.pearl_top.proofs.CheckLaws.{accepted_once, check_settled, unaccepted_once, unaccepted_within}
 use Rattle.pearl_top.proofs.FileLaws.{AreOne, IsSettled, at_file_once}
 use Rattle.pearl_top.proofs.FromLaws.{from_once}
@@ -36,7 +36,7 @@ run_once : (p : PlainProg) (lines : List (List ℕ)) (bytes others : List ℕ) �
     IsRun (by_rules p) lines All Closed others → bytes ≡ others
 run_once p lines bytes others one two =
     transcript_once p one.es Closed bytes others one.written
-    (subst (λ es. IsTranscript (by_rules p) es Closed others) (ap (λ (e : Entries). e.accepted) (sym two.read ∙ one.read)) two.written)
+    (subst (λ es. (by_rules p).writes es Closed others) (ap (λ (e : Entries). e.accepted) (sym two.read ∙ one.read)) two.written)
 
 bench_once : (n : ℕ) (bytes others : List ℕ) → IsBench n bytes → IsBench n others → bytes ≡ others
 bench_once n bytes others one two =

@@ -26,9 +26,8 @@ use Rattle.pearl_top.specs.RunDue.{IsSource, RunDue, SourceDue}
 use Rattle.pearl_top.specs.PrintDue.{IsPrinted, PrintDue}
 use Rattle.pearl_top.specs.Sources.{IsUnspelled}
 use Rattle.pearl_top.specs.Reading.{ASource, AnObject, MayHave, UnreadDue}
-use Rattle.pearl_top.specs.Ready.{IsReadyWith, RunsByRules}
+use Rattle.pearl_top.specs.Ready.{IsReadyWith, RunsByRules, start_of, started}
 use Rattle.pearl_top.specs.Runners.{by_code, by_rules}
-use Rattle.pearl_top.specs.Replay.{start_of, started}
 use Rattle.pearl_top.specs.Taken.{Ends, Finishes, OnlyDue}
 use Rattle.pearl_top.proofs.FileLaws.{at_file_unrisen}
 use Rattle.pearl_top.proofs.FromLaws.{from_held, from_read, from_refused, from_unread, from_unrisen, from_usage}
