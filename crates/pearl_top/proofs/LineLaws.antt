@@ -1,5 +1,5 @@
 -- One part of a journal after another.
-use Rattle.std.proofs.Common.{◌≡◌, ◌⊎◌, ◌<◌, ℕ, zero, suc, Bool, true, false, ◌==◌, length, arith, List, [], ◌∷◌, ◌++◌, Option, Result, Ok, Err, refl, ap, sym, ◌∙◌, subst, inl, inr, append_assoc, take, drop}
+use Rattle.std.proofs.Common.{◌≡◌, ◌⊎◌, ◌<◌, ℕ, zero, suc, Bool, true, false, ◌==◌, length, arith, List, [], ◌∷◌, ◌++◌, Option, Result, Ok, Err, refl, ap, ap₂, sym, ◌∙◌, subst, inl, inr, append_assoc, take, drop}
 use Rattle.std.proofs.lemmas.Bool.{eqb-true}
 use Rattle.std.proofs.lemmas.List.{take-append-drop}
 use Rattle.pearl_io.specs.Outside.{Takes, TakesFront}
@@ -13,7 +13,8 @@ use Rattle.pearl_journal.specs.declared.lines.BadLine.{BadLine}
 use Rattle.pearl_journal.specs.declared.lines.Next.{Next}
 use Rattle.pearl_journal.specs.declared.lines.Next.TheVariants as next
 use Rattle.pearl_journal.specs.Lines.{ended_lines}
-use Rattle.pearl_journal.specs.Pieces.{HasNoWhole, IfEntry, Kept, ended_on, moment_said, read_on, said}
+use Rattle.pearl_journal.specs.Pieces.{HasNoWhole, IfEntry, Kept, begin, ended_on, moment_said, read_on, reading_at, said}
+use Rattle.pearl_journal.specs.Readings.{start}
 use Rattle.pearl_top.specs.declared.failure.Failure.{Failure}
 use Rattle.pearl_top.specs.declared.failure.Failure.TheVariants as failure
 use Rattle.pearl_top.specs.Going.{Going, GoesInTurn}
@@ -339,3 +340,9 @@ begins_open kept unread = record {
   unended = ap ended_lines unread.empty;
   last = λ finished. unread.empty;
 }
+
+pub new_unread : (kept : Kept) → kept ≡ begin → IsUnread kept
+new_unread kept new = subst IsUnread (sym new) (record { none = refl; empty = refl; partial = refl; unfinished = refl; unrefused = refl })
+
+pub new_first : (kept : Kept) (moment : ℕ) → kept ≡ begin → moment ≡ 0 → reading_at kept moment ≡ start
+new_first kept moment new none = ap₂ reading_at new none

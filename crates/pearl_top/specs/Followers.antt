@@ -54,6 +54,7 @@ pub record IsStill (m : Monitored) : Type 0 where
 -- it stands at the start of a run of its object, of which nothing was told
 pub record IsWatching (m : Monitored) : Type 0 where
   pub rules : RunsByRules m.machine.object
+  pub settled : unsettled m.machine.state ≡ None
   pub watch : m.watch ≡ begun m.machine.object.leaves m.watch.names
   pub core : m.machine.state.core ≡ (monitored.started m.machine.object m.watch.names).machine.state.core
   pub marks : m.marks ≡ 0

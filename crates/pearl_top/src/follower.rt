@@ -10,7 +10,6 @@ use pearl_io::{Sink, WriteFault};
 use pearl_machine::Machine;
 use pearl_rules::entry::Entry;
 use pearl_rules::setup::Setup;
-use pearl_watch::laws::{shows_the_run, writes_in_turn};
 use pearl_watch::monitor::Monitor;
 
 /// What goes over the entries of a journal, one after the other, and writes what comes of them.
@@ -120,8 +119,5 @@ impl Follower for Monitor {
         self.close(sink)
     }
 
-    fn laws(&self) {
-        writes_in_turn();
-        shows_the_run();
-    }
+    fn laws(&self) {}
 }
