@@ -103,9 +103,9 @@ pub watch_once : (names : List (List ℕ)) (o : Object) → WritesOnce (by_watch
 watch_once names o lines es ending read close bytes others one two = watched_once names o es close bytes others one two
 
 -- and there is something to be written
-pub has_watched : (names : List (List ℕ)) (o : Object) (rules : RunsByRules o) (es : List Entry) (close : Close) → AreFitting (setup_of o) es →
-    (bytes : List ℕ) × IsWatched names o es close bytes
-has_watched names o rules es close fit =
+pub has_watched : (names : List (List ℕ)) (o : Object) (rules : RunsByRules o) (es : List Entry) (closes : Close) → AreFitting (setup_of o) es →
+    (bytes : List ℕ) × IsWatched names o es closes bytes
+has_watched names o rules es how fit =
     let end = rules.finishes es fit in (
       _,
       record {

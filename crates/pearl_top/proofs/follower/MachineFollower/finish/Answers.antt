@@ -21,7 +21,7 @@ returns-clause-err g c =
     )) c.close.ensures.err
 
 pub close-requires : goal.close-requires
-close-requires g c = c.requires
+close-requires g c = record { taken = c.requires }
 
 pub returns-clause-cause : goal.returns-clause-cause
 returns-clause-cause g c = c.close.ensures.cause
