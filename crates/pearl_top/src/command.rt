@@ -2,8 +2,9 @@
 
 ghost use Rattle.std.specs.Prelude.{◌≡◌, List, bytes_eq, map, string_bytes};
 ghost use Rattle.std.specs.Fmt.{decimal};
-ghost use Rattle.pearl_top.specs.Commands.{NoCommand, asked, bench_of as bench_of_digits, command_of, of_one as of_one_word, of_two as of_two_words, IsCommand};
+ghost use Rattle.pearl_top.specs.Commands.{NoCommand, asked, bench_of as bench_of_digits, command_of, of_one as of_one_word, of_two as of_two_words, of_names as of_names_words, unless_many, IsCommand};
 
+use crate::limits::NAME_LIMIT;
 use itoa::Buffer;
 
 /// What the words ask for.
@@ -104,8 +105,11 @@ fn of_two<'a>(word: &str, name: &'a str, second: &'a str) -> Command<'a>
 }
 
 // The command of a word, two more, and any number behind these.
-fn of_more<'a>(word: &str, name: &'a str, second: &'a str, more: &'a [String]) -> Command<'a> {
-    if word == "watch" && more.len() <= 64 {
+fn of_more<'a>(word: &str, name: &'a str, second: &'a str, more: &'a [String]) -> Command<'a>
+    ensures { IsCommand result (unless_many (map string_bytes more.now)
+        (asked (λ name second names. NoCommand) of_names_words word.now name.now second.now (map string_bytes more.now))) }
+{
+    if word == "watch" && more.len() <= NAME_LIMIT {
         Command::Watch {
             object: name,
             journal: second,

@@ -15,6 +15,7 @@ ghost use Rattle.pearl_top.specs.RunDue.{RunDue};
 ghost use Rattle.pearl_top.specs.PrintDue.{PrintDue};
 ghost use Rattle.pearl_top.specs.Reading.{MayHave};
 ghost use Rattle.pearl_top.specs.Taken.{Ends, Finishes, OnlyDue, Leaves};
+ghost use Rattle.pearl_top.specs.WatchDue.{WatchDue};
 
 use crate::bench::bench_line;
 use crate::check::{line_of, sizes_of};
@@ -238,7 +239,16 @@ fn watch<S: Shelf, K: Sink>(
     names: &[String],
     shelf: &mut S,
     sink: &mut K,
-) -> Result<(), Failure> {
+) -> Result<(), Failure>
+    ensures ends { let rose = λ (name : List ℕ). CountRose (S.faults shelf.old name) (S.faults shelf.new name) in
+        let failed = WriteFailed (K.faults sink.old) (K.faults sink.new) (K.full sink.new) in
+        (first second : List ℕ) × MayHave (S.holds shelf.old) object.now first × MayHave (S.holds shelf.old) journal.now second
+        × Leaves (K.taken sink.old) (K.taken sink.new) failed
+        (WatchDue first (map string_bytes names.now) second (rose object.now) (rose journal.now)) result }
+    ensures held { S.holds shelf.new ≡ S.holds shelf.old }
+    ensures shelf_later { (name : List ℕ) → S.faults shelf.old name ≤ S.faults shelf.new name }
+    ensures sink_later { K.faults sink.old ≤ K.faults sink.new }
+{
     let bytes = read_whole(alloc, shelf, object, OBJECT_LIMIT)?;
     let mut monitor = monitor_in(alloc, bytes.as_slice(), names)?;
     let mut lines = Lines::new(alloc)?;
