@@ -22,8 +22,8 @@ EVENT = (r"(?:start \w+ \d+|end \w+|stop \w+|trap \w+ (?:Overflow|ZeroDivide|Ind
          r"kept \w+ [1-3]|overrun \w+|masked \d+|lost (?:terminal|input) \d+|out \d+ '[ -~]*'|send \d+ [ -~]+|"
          r"state \w+ (?:dormant|(?:suspended|blocked|running|runnable) \d+))")
 EVENTS = rf"(?:{NUMBER} {EVENT}\n)*"
-WATCHED = rf"({NUMBER}) ({NUMBER}) (?:value ([\w.]+ {NUMBER}) ([ -~]+)|close)\n"
-VALUES = rf"(?:{NUMBER} {NUMBER} value [\w.]+ {NUMBER} [ -~]+\n)*"
+WATCHED = rf"({NUMBER}) ({NUMBER}) (?:value ([ -~]*? {NUMBER}) ([ -~]+)|close)\n"
+VALUES = rf"(?:{NUMBER} {NUMBER} value [ -~]* {NUMBER} [ -~]+\n)*"
 LISTED = (r"(?:(?:device|semaphore|leaf|format|procedure|task|\d+) [ -~]*\n)*")
 
 # For each command and status the whole of what is written; the first group is a place, and the line of a journal.
@@ -81,7 +81,7 @@ def has_journal(words):
 def leaves(listing):
     """How many slots the leaves have that are watched by their names, by what `list` writes of the object."""
     found = {}
-    for name, slots in re.findall(rb"^leaf \d+ ([\w.]+) \S+ (\d+)$", listing, re.M):
+    for name, slots in re.findall(rb"^leaf \d+ ([ -~]*) \S+ (\d+)$", listing, re.M):
         found.setdefault(name.decode(), int(slots))
     return found
 

@@ -134,6 +134,7 @@ class Answers(unittest.TestCase):
         watch = ["watch", PLANT, JOURNAL, "x", "y.z"]
         self.right(watch, 0, b"0 0 value x 0 '0101'B\n0 0 value y.z 0 -5\n3 0 value x 0 '0100'B\n9 7 close\n")
         self.right(watch, 4, b"0 0 value x 0 5\nerror journal 3 1\n")
+        self.right(watch, 0, b"0 0 value  0 5\n0 0 value a 1 0 5\n0 0 value a 0 'a 1 5'\n0 0 close\n")
         self.right(watch, 9, b"error name 2\n")
         self.right(watch, 3, b"error object routine 0 instruction 0 V1\n")
         self.right(["watch", PLANT, "/none/none", "x"], 5, b"0 0 value x 0 5\nerror read\n")
@@ -148,8 +149,9 @@ class Answers(unittest.TestCase):
 
     def test_names(self):
         """Which name is refused, by what `list` writes: the first leaf of a name counts."""
-        slots = leaves(b"device INPUT 1\nleaf 0 x FIXED(31) 1\nleaf 1 v.w CHAR(4) 1024\nleaf 2 x BIT(1) 9\nleaf 3 u CLOCK 1025\n")
-        self.assertEqual(slots, {"x": 1, "v.w": 1024, "u": 1025})
+        slots = leaves(b"device INPUT 1\nleaf 0 x FIXED(31) 1\nleaf 1 v.w CHAR(4) 1024\nleaf 2 x BIT(1) 9\nleaf 3 u CLOCK 1025\n"
+                       b"leaf 4  FIXED(31) 2\nleaf 5 a b DURATION 3\n")
+        self.assertEqual(slots, {"x": 1, "v.w": 1024, "u": 1025, "": 2, "a b": 3})
         for names, number in ((["x"], None), (["v.w"], None), (["y"], 1), (["x", "x"], 2), (["x", "v.w"], 2), (["v.w", "x"], 2),
                               (["u"], 1), (["x", "y", "u"], 2)):
             self.assertEqual(refused_name(slots, names), number, names)
