@@ -31,8 +31,8 @@ import tempfile
 from collections import Counter
 from dataclasses import dataclass, field
 
-from reading.answers import (FILES, MEMORY, NO_MEMORY, READ, READ_FAULT, USAGE, WRITE_FAULT, Answer, asked, by_try,
-                             is_command, unlawful)
+from reading.answers import (FILES, MEMORY, NAMES, NO_MEMORY, READ, READ_FAULT, SLOTS, USAGE, WRITE_FAULT, Answer, asked,
+                             by_try, has_journal, is_command, leaves, unlawful)
 
 HERE = os.path.dirname(os.path.abspath(__file__))
 TOP = os.path.dirname(HERE)
@@ -114,7 +114,7 @@ class Whole:
             cut = os.path.join(os.path.dirname(self.runner.told), "front")
             with open(cut, "wb") as file:
                 file.write(front + b"?\n")
-            lines = self.runner.plain([*self.words[:2], cut]).out.splitlines(keepends=True)
+            lines = self.runner.plain([*self.words[:2], cut, *self.words[3:]]).out.splitlines(keepends=True)
             self.kept[front] = b"".join(lines[:-1])
         return self.kept[front]
 
@@ -134,7 +134,7 @@ def after_alloc(whole, fault, answer, _):
 def after_read(whole, _, answer, hit):
     """`error read`, with status 5: alone, or where the journal is read behind the lines of what was read whole."""
     before = b""
-    if len(whole.words) == 3 and is_command(whole.words) and hit.name == whole.words[2] != whole.words[1]:
+    if has_journal(whole.words) and hit.name == whole.words[2] != whole.words[1]:
         before = whole.lines_before(hit.given)
     if (answer.status, answer.out) == (READ_FAULT, before + READ):
         return None
@@ -170,7 +170,7 @@ def without_faults(whole):
     """Why the command isn't right where nothing fails, or None: its answer, and that a run takes no memory behind the
     first byte of its journal."""
     why = unlawful(whole.words, whole.answer)
-    if why or len(whole.words) != 3 or not is_command(whole.words) or len(whole.hit.opened) != 2:
+    if why or not has_journal(whole.words) or len(whole.hit.opened) != 2:
         return why
     taken = whole.hit.calls["alloc"] - whole.hit.opened[1]
     return f"{taken} allocations behind the journal's first byte" if taken else None
@@ -206,6 +206,15 @@ def object_of(runner, source, path):
     return path
 
 
+def names_of(runner, made):
+    """As many leaves of an object as can be watched together."""
+    slots, found = leaves(runner.plain(["list", made]).out), []
+    for name in slots:
+        if sum(map(slots.get, [*found, name])) <= SLOTS and len(found) < NAMES:
+            found.append(name)
+    return found
+
+
 def plants(runner, folder):
     """Every command over each plant."""
     for plant in sorted(glob.glob(os.path.join(DATA, "*.pearl"))):
@@ -216,6 +225,7 @@ def plants(runner, folder):
         for journal in journals(plant):
             yield ["run", plant, journal]
             yield ["exec", made, journal]
+            yield ["watch", made, journal, *names_of(runner, made)]
 
 
 def refused(folder):
@@ -242,9 +252,14 @@ def refused(folder):
             "50524c31 0000000000 01 0174 ff01 01 00 01 03 00001f02 1302 19 00")), os.path.join(folder, "missing")):
         yield ["list", changed]
         yield ["exec", changed, journal]
+        yield ["watch", changed, journal, "x"]
+    whole = os.path.join(folder, "crossing.object")
     for log in (journal, os.path.join(folder, "missing")):
         yield ["run", plant, log]
-        yield ["exec", os.path.join(folder, "crossing.object"), log]
+        yield ["exec", whole, log]
+        yield ["watch", whole, log, "Nachts"]
+    for names in (["Nachts", "nachts"], ["Nachts", "Nachts"], [], ["x"] * 65):
+        yield ["watch", whole, journal, *names]
     for words in (["bench", "1"], ["bench", "3"], ["bench", "0"], [], ["check"], ["run", plant], ["list", "a", "b"]):
         yield words
 
@@ -316,7 +331,8 @@ def by_kits(args, folder):
     with open(os.path.join(folder, "object"), "wb") as file:
         file.write(by_try(shelf, data)["compile"].out)
     data += ["--data", f"o={file.name}"]
-    cases(["run", "p", "j"], ["exec", "o", "j"], ["check", "p"], ["print", "p"], ["list", "o"], ["bench", "1"])
+    cases(["run", "p", "j"], ["exec", "o", "j"], ["check", "p"], ["print", "p"], ["list", "o"],
+          ["watch", "o", "j", "Nachts"], ["bench", "1"])
     whole, tries, wrong = by_try(shelf, data), 0, 0
     for kind in args.kinds:
         for number in args.kit:

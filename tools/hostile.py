@@ -9,13 +9,14 @@ the seed and its number alone, from the plants of crates/pearl_examples/data, th
 
 - a source: `check`, `print`, `compile` and `run`; of what is accepted `list` and `exec` of its object too; of what is
   printed `print` again;
-- an object: `list` and `exec`;
-- a journal: `run` and `exec` of the plant and its object;
+- an object: `list`, `exec` and `watch`;
+- a journal: `run`, `exec` and `watch` of the plant and its object;
 - words.
 
 Each answer has to be one that the command may have (tools/reading/answers.py), and those over one input have to go
 together: `check`, `print`, `compile` and `run` refuse a source with one line, `exec` of an object does what `run` of its
-source does, `list` and `exec` refuse the same bytes at the same place, the text of a text is itself. With --other another
+source does, `watch` ends as `exec` does or refuses the name that `list` shows to be wrong, `list` and `exec` refuse the
+same bytes at the same place, the text of a text is itself. With --other another
 implementation is asked for each N-th input, run with the same words, and has to answer the same status and bytes; only the
 bytes of an object may be others, which it then lists and executes as well. Each run has ten seconds and 4 GiB.
 
@@ -38,7 +39,8 @@ import tempfile
 from collections import Counter
 
 from reading import damage
-from reading.answers import (BAD_OBJECT, DONE, NO_WORDS, Answer, asked, by_try, disagreement, is_command, unlawful)
+from reading.answers import (BAD_NAME, BAD_OBJECT, DONE, NO_WORDS, Answer, asked, by_try, disagreement, is_command, leaves,
+                             refused_name, unlawful)
 
 TOP = os.path.dirname(os.path.dirname(os.path.abspath(__file__)))
 DATA = os.path.join(TOP, "crates", "pearl_examples", "data")
@@ -148,6 +150,19 @@ class Judge:
             self.problems.append(f"list has {listed.shown()}, exec {run.shown()}")
         if listed.status == BAD_OBJECT and listed != run:
             self.problems.append(f"list has {listed.shown()}, exec {run.shown()}")
+        self.watch(dice, compare, (path, log), listed, run)
+
+    def watch(self, dice, compare, files, listed, run):
+        """A monitor of some leaves of an object, which is listed so, over a journal over which it runs so."""
+        slots = leaves(listed.out)
+        names = damage.names(dice, sorted(slots))
+        watched = self.answer(["watch", *files, *names], compare)
+        if not is_command(["watch", *files, *names]):
+            return
+        self.problems += filter(None, [disagreement({"exec": run, "watch": watched})])
+        number = refused_name(slots, names) if run.status != BAD_OBJECT else None
+        if number and (watched.status, watched.out) != (BAD_NAME, f"error name {number}\n".encode()):
+            self.problems.append(f"watch has {watched.shown()}, where list refuses name {number}")
 
     def journal(self, dice, compare):
         """A journal, over a plant and over its object."""
@@ -159,6 +174,7 @@ class Judge:
         two = self.answer(["exec", made, log], compare)
         if one != two:
             self.problems.append(f"run has {one.shown()}, exec of the object {two.shown()}")
+        self.watch(dice, compare, (made, log), self.answer(["list", made], False), two)
 
     def words(self, dice, compare):
         """Words, among them paths."""
@@ -221,7 +237,8 @@ def by_text(args):
         objects = [answer.out for answer in by_try(shelf, [], ["compile", "{}"]).values()]
         forms = {"check": ("source", ["check", "{}"], {}), "print": ("source", ["print", "{}"], {}),
                  "compile": ("source", ["compile", "{}"], {}), "list": ("object", ["list", "{}"], {}),
-                 "exec": ("object", ["exec", "{}", "j"], {"j": log}), "run": ("journal", ["run", "s", "{}"], {"s": source})}
+                 "exec": ("object", ["exec", "{}", "j"], {"j": log}), "run": ("journal", ["run", "s", "{}"], {"s": source}),
+                 "watch": ("object", ["watch", "{}", "j", "Wert", "Stand"], {"j": log})}
         sources = [read(plant) for plant in plants]
         makers = {"source": lambda dice: damage.source(dice, dice.choice(sources), dice.choice(sources)),
                   "object": lambda dice: damage.made(dice, dice.choice(objects), dice.choice(objects)),

@@ -5,11 +5,14 @@ usage: tools/run_costs.py [--program PROGRAM] [--runs N] [--only WORD] [--markdo
 
 PROGRAM (default: crates/pearl/out/pearl beside this folder; `./pearl` builds it) runs each plant with a long journal and
 with one without what is measured, N times each. Told are the seconds of a processor that the long one takes more, the
-least of all runs, and what that is for each pick, millisecond, line or start, in microseconds.
+least of all runs, and what that is for each pick, millisecond, line or start, in microseconds. Of monitors it is what
+`watch` takes over the long journal, from the object on, with the greatest memory, for each slot that is compared or each
+millisecond.
 """
 
 import argparse
 import os
+import subprocess
 import sys
 import tempfile
 
@@ -139,15 +142,49 @@ WORK = [
 ]
 
 
-def seconds(program, source, journal, runs):
-    """The least seconds of a processor of so many runs."""
-    least = None
+def arrays(count, size):
+    """So many arrays with so many elements each, one element of two of which changes each second."""
+    names = ",".join(f"v{number}" for number in range(count))
+    body = f"n := n + 1; v0(n REM {size} + 1) := n; v{count - 1}(n REM {size} + 1) := n;"
+    return (f"{HEAD}DCL ({names})({size}) FIXED, n FIXED;\nbegins: TASK PRIO 1 MAIN;\nALL 1 SEC ACTIVATE t0;\nEND;\n"
+            + tasks(1, body, " PRIO 5") + TAIL)
+
+
+# Each row: a name, the plant, how many of its arrays are watched, a journal, how much of what it has.
+WATCHED = [
+    ("a day, 64 names with 1,024 slots watched, two change each second", arrays(64, 16), 64, "pass 86400000 1000\n",
+     86_400_000, "millisecond"),
+    ("a day, one slot watched, which changes each second", arrays(2, 1), 1, "pass 86400000 1000\n", 86_400_000, "millisecond"),
+    ("1,000,000 picks, 64 names with 1,024 slots watched", arrays(64, 16).replace("PRIO 5;", "PRIO 5;\nREPEAT v0(1) := 1; END;"),
+     64, "run 1000000\n", 1_000_000, "pick"),
+]
+
+
+def seconds(program, words, runs):
+    """The least seconds of a processor of so many runs, and the greatest peak of memory in MB (10^6 bytes)."""
+    spent, peak = [], []
     for _ in range(runs):
-        status, spent, _, said = run([program, "run", source, journal])
+        status, one, most, said = run([program, *words])
         if status != 0:
             sys.exit(f"a run ended with status {status}: {said!r}")
-        least = spent if least is None else min(least, spent)
-    return least
+        spent.append(one)
+        peak.append(most / 1e6)
+    return min(spent), max(peak)
+
+
+def monitors(args, folder):
+    """What monitors cost."""
+    source, made, journal = (os.path.join(folder, name) for name in ("source.pearl", "object", "journal"))
+    for name, plant, count, text, much, unit in WATCHED:
+        if args.only not in name:
+            continue
+        for path, data in ((source, plant), (journal, text)):
+            with open(path, "w", encoding="ascii") as file:
+                file.write(data)
+        with open(made, "wb") as file:
+            subprocess.run([args.program, "compile", source], stdout=file, check=True)
+        spent, peak = seconds(args.program, ["watch", made, journal, *(f"v{number}" for number in range(count))], args.runs)
+        print(f"{name:68}{spent:10.3f} s {spent * 1e6 / much:10.3f} microseconds each {unit} {peak:8.1f} MB", flush=True)
 
 
 def main():
@@ -174,9 +211,10 @@ def main():
                     file.write(plant)
                 with open(journal, "w", encoding="ascii") as file:
                     file.write("run 1000\n" + text)
-                spent.append(seconds(args.program, source, journal, args.runs))
+                spent.append(seconds(args.program, ["run", source, journal], args.runs)[0])
             more = max(0.0, spent[0] - spent[1])
             print(form.format(name, more, more * 1e6 / count), flush=True)
+        monitors(args, folder)
 
 
 if __name__ == "__main__":

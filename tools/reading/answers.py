@@ -7,12 +7,14 @@ from dataclasses import dataclass
 
 from .tokens import TOP
 
-DONE, USAGE, REFUSED, BAD_OBJECT, BAD_JOURNAL, READ_FAULT, WRITE_FAULT, NO_MEMORY, TOO_LONG = range(9)
+DONE, USAGE, REFUSED, BAD_OBJECT, BAD_JOURNAL, READ_FAULT, WRITE_FAULT, NO_MEMORY, TOO_LONG, BAD_NAME = range(10)
 NO_WORDS = 10
 READ, MEMORY = b"error read\n", b"error memory\n"
 LIMITS = {"source": 1048576, "object": 16777216, "journal": 67108864}
 FILES = {"run": ("source", "journal"), "compile": ("source",), "exec": ("object", "journal"), "check": ("source",),
-         "print": ("source",), "list": ("object",), "bench": ()}
+         "print": ("source",), "list": ("object",), "watch": ("object", "journal"), "bench": ()}
+# So many names may stand behind the files of `watch`, and so many slots may be watched.
+NAMES, SLOTS = 64, 1024
 
 NUMBER = r"(?:0|[1-9]\d*)"
 KIND = r"(?:FIXED\(\d+\)|BIT\(\d+\)|CHAR\(\d+\)|CLOCK|DURATION)"
@@ -20,6 +22,8 @@ EVENT = (r"(?:start \w+ \d+|end \w+|stop \w+|trap \w+ (?:Overflow|ZeroDivide|Ind
          r"kept \w+ [1-3]|overrun \w+|masked \d+|lost (?:terminal|input) \d+|out \d+ '[ -~]*'|send \d+ [ -~]+|"
          r"state \w+ (?:dormant|(?:suspended|blocked|running|runnable) \d+))")
 EVENTS = rf"(?:{NUMBER} {EVENT}\n)*"
+WATCHED = rf"({NUMBER}) ({NUMBER}) (?:value ([ -~]*? {NUMBER}) ([ -~]+)|close)\n"
+VALUES = rf"(?:{NUMBER} {NUMBER} value [ -~]* {NUMBER} [ -~]+\n)*"
 LISTED = (r"(?:(?:device|semaphore|leaf|format|procedure|task|\d+) [ -~]*\n)*")
 
 # For each command and status the whole of what is written; the first group is a place, and the line of a journal.
@@ -27,14 +31,17 @@ SYNTAX = rf"error syntax ({NUMBER})\n"
 RULE = rf"{SYNTAX}|error source ({NUMBER}) S[1-9]\d?\n"
 OBJECT = rf"error object ({NUMBER})\n"
 VALIDATOR = rf"{OBJECT}|error object routine {NUMBER} instruction {NUMBER} V[1-9]\d?\n"
-JOURNAL = rf"{EVENTS}error journal ([1-9]\d*) [1-4]\n"
+JOURNAL = r"error journal ([1-9]\d*) [1-4]\n"
 LONG_SOURCE, LONG_OBJECT = "error too long 1048577\n", "error too long 16777217\n"
-LONG_JOURNAL = rf"{EVENTS}error too long 67108865\n"
+LONG_JOURNAL = "error too long 67108865\n"
 FORMS = {
-    ("run", DONE): rf"{EVENTS}{NUMBER} close\n", ("run", REFUSED): RULE, ("run", BAD_JOURNAL): JOURNAL,
-    ("run", TOO_LONG): rf"{LONG_SOURCE}|{LONG_JOURNAL}",
-    ("exec", DONE): rf"{EVENTS}{NUMBER} close\n", ("exec", BAD_OBJECT): VALIDATOR, ("exec", BAD_JOURNAL): JOURNAL,
-    ("exec", TOO_LONG): rf"{LONG_OBJECT}|{LONG_JOURNAL}",
+    ("run", DONE): rf"{EVENTS}{NUMBER} close\n", ("run", REFUSED): RULE, ("run", BAD_JOURNAL): EVENTS + JOURNAL,
+    ("run", TOO_LONG): rf"{LONG_SOURCE}|{EVENTS}{LONG_JOURNAL}",
+    ("exec", DONE): rf"{EVENTS}{NUMBER} close\n", ("exec", BAD_OBJECT): VALIDATOR, ("exec", BAD_JOURNAL): EVENTS + JOURNAL,
+    ("exec", TOO_LONG): rf"{LONG_OBJECT}|{EVENTS}{LONG_JOURNAL}",
+    ("watch", DONE): rf"{VALUES}{NUMBER} {NUMBER} close\n", ("watch", BAD_OBJECT): VALIDATOR,
+    ("watch", BAD_JOURNAL): VALUES + JOURNAL, ("watch", BAD_NAME): r"error name ([1-9]\d?)\n",
+    ("watch", TOO_LONG): rf"{LONG_OBJECT}|{VALUES}{LONG_JOURNAL}",
     ("compile", DONE): r"PRL[12][\x00-\xff]*", ("compile", REFUSED): RULE, ("compile", TOO_LONG): LONG_SOURCE,
     ("check", DONE): rf"accepted {NUMBER} {NUMBER} {NUMBER}\n", ("check", REFUSED): RULE, ("check", TOO_LONG): LONG_SOURCE,
     ("print", DONE): r"(?:[ -~]*\n)*MODEND ;\n", ("print", REFUSED): SYNTAX, ("print", TOO_LONG): LONG_SOURCE,
@@ -60,7 +67,33 @@ def is_command(words):
     """Whether the words are one of the commands."""
     if words[:1] == ["bench"]:
         return len(words) == 2 and bool(re.fullmatch(r"[1-9]\d?|100", words[1], re.A))
-    return bool(words) and words[0] in FILES and len(words) == 1 + len(FILES[words[0]])
+    if not words or words[0] not in FILES:
+        return False
+    names = len(words) - 1 - len(FILES[words[0]])
+    return 1 <= names <= NAMES if words[0] == "watch" else names == 0
+
+
+def has_journal(words):
+    """Whether the words are a command that carries a journal out."""
+    return is_command(words) and FILES[words[0]][1:] == ("journal",)
+
+
+def leaves(listing):
+    """How many slots the leaves have that are watched by their names, by what `list` writes of the object."""
+    found = {}
+    for name, slots in re.findall(rb"^leaf \d+ ([ -~]*) \S+ (\d+)$", listing, re.M):
+        found.setdefault(name.decode(), int(slots))
+    return found
+
+
+def refused_name(slots, names):
+    """The number of the first of these names that can't be watched, or None; slots are those of the leaves."""
+    watched = 0
+    for place, name in enumerate(names):
+        watched += slots.get(name, SLOTS + 1)
+        if watched > SLOTS or name in names[:place]:
+            return place + 1
+    return None
 
 
 def length_of(path):
@@ -97,9 +130,10 @@ def unlawful(words, answer):
     if not is_command(words):
         right = (answer.status, answer.out) == (USAGE, b"error usage\n")
         return None if right else f"words that are no command have {answer.shown()}"
-    missing = [length_of(path) is None for path in words[1:]] if words[0] != "bench" else []
-    if answer.status == READ_FAULT and any(missing):
-        right = re.fullmatch(rf"{EVENTS}error read\n", answer.out.decode("latin-1"), re.A)
+    files = words[1:1 + len(FILES[words[0]])]
+    if answer.status == READ_FAULT and any(length_of(path) is None for path in files):
+        before = VALUES if words[0] == "watch" else EVENTS
+        right = re.fullmatch(rf"{before}error read\n", answer.out.decode("latin-1"), re.A)
         return None if right else "`error read` isn't all"
     form = FORMS.get((words[0], answer.status))
     if form is None:
@@ -111,6 +145,21 @@ def unlawful(words, answer):
         return "no file passes its limit"
     if answer.status in (REFUSED, BAD_OBJECT) and wrong_place(found, length_of(words[1])):
         return "the place lies behind the file's end"
+    if answer.status == BAD_NAME and int(found[1]) > len(words) - 3:
+        return "there is no name of that number"
+    return told_twice(answer.out) if words[0] == "watch" else None
+
+
+def told_twice(out):
+    """Why these can't be lines of a monitor, or None: marks and moments only rise, and a slot's lines have other values."""
+    before, values = (0, 0), {}
+    for marks, moment, slot, value in re.findall(WATCHED, out.decode("latin-1"), re.A):
+        here = int(marks), int(moment)
+        if here < before or here[1] < before[1]:
+            return f"{marks} {moment} stands behind {before[0]} {before[1]}"
+        if slot and values.get(slot) == value:
+            return f"{slot} is told to be {value} twice"
+        before, values[slot] = here, value
     return None
 
 
@@ -133,7 +182,20 @@ def disagreement(answers):
         return f"run has {runs[0].shown()}, exec of the object {runs[1].shown()}"
     if runs[0] and check and check.status != DONE and refusal(runs[0]) != refusal(check):
         return f"check has {check.shown()}, run {runs[0].shown()}"
+    watched = answers.get("watch")
+    if runs[1] and watched and not end_alike(runs[1], watched):
+        return f"exec has {runs[1].shown()}, watch {watched.shown()}"
     return None
+
+
+def end_alike(run, watched):
+    """Whether a run and a monitor may end so over the same object and journal: with the same status and the same last
+    line, but for the marks before the monitor's, or the names are refused, of an object that isn't."""
+    if watched.status == BAD_NAME:
+        return run.status != BAD_OBJECT
+    last, told = (answer.out.splitlines()[-1:] for answer in (run, watched))
+    marks = rb"\d+ " if run.status == DONE else b""
+    return run.status == watched.status and bool(last and told and re.fullmatch(marks + re.escape(last[0]), told[0]))
 
 
 def asked(command, seconds, variables=None, folder=None):

@@ -148,5 +148,15 @@ def words(dice, paths):
     """Words, some of which are commands over files that are there or not."""
     given = [dice.choice([*WORDS, *paths]) for _ in range(dice.choice([0, 1, 1, 2, 2, 3, 3, 4, 30]))]
     if given and dice.randrange(2):
-        given[0] = dice.choice(WORDS[:7])
+        given[0] = dice.choice(WORDS[:8])
     return given
+
+
+def names(dice, leaves):
+    """Names to be watched: of leaves, and sometimes others, or one twice, or more than there may be."""
+    others = [word for word in WORDS if word.isprintable()]
+    given = [dice.choice([*leaves, *others]) if not dice.randrange(9) else dice.choice(leaves or others)
+             for _ in range(dice.choice([1, 1, 2, 3, 5, 8]))]
+    if dice.randrange(4):
+        given = list(dict.fromkeys(given))
+    return given * 40 if not dice.randrange(40) else given

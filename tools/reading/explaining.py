@@ -11,7 +11,9 @@ from .porting import recipes
 from .tokens import TOP
 
 RULES = os.path.join(TOP, "docs", "use", "rules.md")
-USAGE = "usage: pearl run SOURCE JOURNAL\n       pearl check SOURCE\n       pearl print SOURCE\n"
+WORDS = ("run SOURCE JOURNAL", "check SOURCE", "print SOURCE", "compile SOURCE", "exec OBJECT JOURNAL", "list OBJECT",
+         "watch OBJECT JOURNAL NAME ..", "bench N")
+USAGE = "usage: " + "       ".join(f"pearl {words}\n" for words in WORDS)
 CODES = {
     1: "the line is none of a journal's (docs/use/journal.md), or is too long",
     2: "no such task is declared, or no such device is specified",
@@ -47,6 +49,7 @@ class Explainer:
             rb"error syntax (\d+)": lambda place: self.syntax(int(place)),
             rb"error source (\d+) (S\d+)": lambda place, rule: self.rule(int(place), rule.decode()),
             rb"error journal (\d+) (\d+)": lambda number, code: self.bad_line(int(number), int(code)),
+            rb"error name (\d+)": lambda number: self.bad_name(int(number)),
             rb"error read": self.unread,
             rb"error usage": lambda: encoded(USAGE),
             rb"error too long (\d+)": lambda count: self.too_long(int(count)),
@@ -97,6 +100,11 @@ class Explainer:
                     said, column = fault.why, fault.column
         row = len(line[:column].decode("utf-8", "replace")) + 1
         return encoded(f"{self.log}:{number}:{row}: journal: {said}\n") + shown(Line(line), row)
+
+    @staticmethod
+    def bad_name(number):
+        return encoded(f"name {number} can't be watched: no variable of the module has it, or it stands before, or with it more "
+                       "than 1,024 slots are watched\n  the lines `leaf` that `pearl list OBJECT` writes tell the names and slots\n")
 
     def unread(self):
         for name in filter(None, [self.source, self.log]):

@@ -29,13 +29,22 @@ COLOURS = {
     "lost": ("stroke", "#cf3f3f", "#ef6a6a"),
     "inbar": ("fill", "#0d1116", "#ffffff"),
 }
+# The same where slots are watched.
+WATCHED = {
+    "curve": ("stroke", "#a8471f", "#f0935f"),
+    "dot": ("fill", "#a8471f", "#f0935f"),
+    "bits": ("fill", "#e2a483", "#8a4a2c"),
+}
 
 
-def style():
+def style(with_watched):
     """The picture's style, light, and dark where the reader's page is."""
+    colours = {**COLOURS, **(WATCHED if with_watched else {})}
+
     def rules(index):
-        return "".join(f".{name}{{{it[0]}:{it[index]}}}" for name, it in COLOURS.items())
+        return "".join(f".{name}{{{it[0]}:{it[index]}}}" for name, it in colours.items())
     lines = ".rule,.moment{stroke-width:1}.edge,.masked,.lost{stroke-width:1.8;fill:none}.trap{stroke-width:2.6;fill:none}"
+    lines += ".curve{stroke-width:1.4;fill:none}" if with_watched else ""
     font = "text{font:11px ui-monospace,Menlo,Consolas,'DejaVu Sans Mono',monospace;white-space:pre}"
     title = ".title{font-size:14px;font-weight:bold}"
     return f"<style>{font}{title}{lines}{rules(1)}@media(prefers-color-scheme:dark){{{rules(2)}}}</style>"
@@ -76,6 +85,25 @@ def mark_at(x, y, kind, label=""):
         "lost": f'<path class="lost" d="M{x - 3.5:.1f} {y - 3.5}l7 7m0 -7l-7 7"/>',
         "state": text_at(x, y + 4, LETTERS.get(label, ""), "inbar", "middle"),
     }[kind]
+
+
+def curve_at(corners, end):
+    """A line that goes on level from each place to the next; at a place it goes through one height or several."""
+    (left, heights), *others = corners
+    path = f"M{left:.1f} {heights[0]:.1f}" + "".join(f"V{y:.1f}" for y in heights[1:])
+    path += "".join(f"H{x:.1f}" + "".join(f"V{y:.1f}" for y in heights) for x, heights in others)
+    return f'<path class="curve" d="{path}H{end:.1f}"/>'
+
+
+def dot_at(x, y):
+    return f'<circle class="dot" cx="{x:.1f}" cy="{y:.1f}" r="2"/>'
+
+
+def band_at(left, right, y, on, both):
+    """A band where bits are not 0, else a line; a stroke at its left end where the other comes before it at one moment."""
+    shape = (f'<rect class="bits" x="{left:.1f}" y="{y - 7}" width="{max(1, right - left):.1f}" height="14"/>' if on else
+             line_at(left, y + 7, right, y + 7, "curve"))
+    return shape + (line_at(left, y - 7, left, y + 7, "curve") if both else "")
 
 
 def titled(shape, texts):

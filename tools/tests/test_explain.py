@@ -82,7 +82,9 @@ class Words(unittest.TestCase):
     def test_usage(self):
         self.assertEqual(run()[0], 2)
         self.assertEqual(run("--every", "goto.pearl")[0], 2)
-        self.assertIn("pearl run SOURCE JOURNAL", run("goto.pearl", given=b"error usage\n")[1])
+        told = run("goto.pearl", given=b"error usage\n")[1]
+        self.assertIn("usage: pearl run SOURCE JOURNAL\n", told)
+        self.assertIn("       pearl watch OBJECT JOURNAL NAME ..\n", told)
 
     def test_missing_file(self):
         status, out, _ = run("missing.pearl", given=b"error read\n")
@@ -93,6 +95,7 @@ class Words(unittest.TestCase):
 
     def test_other_lines(self):
         self.assertEqual(run("goto.pearl", given=b"accepted 1 0 0\n"), (0, "accepted 1 0 0\n", ""))
+        self.assertRegex(run("goto.pearl", given=b"error name 12\n")[1], "^name 12 can't be watched: .*\n  .*`leaf`.*\n$")
         self.assertIn("1,048,576 bytes", run("goto.pearl", given=b"error too long 1048577\n")[1])
 
     def test_check(self):

@@ -9,7 +9,7 @@ import unittest
 
 import tool
 import faults
-from reading.answers import Answer, disagreement, is_command, unlawful
+from reading.answers import Answer, disagreement, is_command, leaves, refused_name, unlawful
 
 PLANT, JOURNAL = tool.data("crossing.pearl"), tool.data("crossing.journal")
 
@@ -130,12 +130,44 @@ class Answers(unittest.TestCase):
         self.wrong(["list", PLANT], 3, b"error object routine 0 instruction 0 V1\n")
         self.right(["exec", PLANT, JOURNAL], 3, b"error object routine 0 instruction 0 V1\n")
 
+    def test_monitors(self):
+        watch = ["watch", PLANT, JOURNAL, "x", "y.z"]
+        self.right(watch, 0, b"0 0 value x 0 '0101'B\n0 0 value y.z 0 -5\n3 0 value x 0 '0100'B\n9 7 close\n")
+        self.right(watch, 4, b"0 0 value x 0 5\nerror journal 3 1\n")
+        self.right(watch, 0, b"0 0 value  0 5\n0 0 value a 1 0 5\n0 0 value a 0 'a 1 5'\n0 0 close\n")
+        self.right(watch, 9, b"error name 2\n")
+        self.right(watch, 3, b"error object routine 0 instruction 0 V1\n")
+        self.right(["watch", PLANT, "/none/none", "x"], 5, b"0 0 value x 0 5\nerror read\n")
+        for status, out in ((0, b"0 close\n"), (0, b"0 0 value x 0 5\n"), (0, b"0 0 value x 5\n0 0 close\n"), (9, b"error name 3\n"),
+                            (9, b"error name 0\n"), (9, b"0 0 value x 0 5\nerror name 1\n"), (0, b"5 0 value x 0 5\n4 0 close\n"),
+                            (0, b"5 1 value x 0 5\n6 0 value x 0 6\n6 0 close\n"), (4, b"0 start a 1\nerror journal 3 1\n"),
+                            (0, b"0 0 value x 0 5\n1 0 value x 0 5\n1 0 close\n"), (0, b"0 0 value x 0 5\n0 close\n")):
+            self.wrong(watch, status, out)
+        self.wrong(["exec", PLANT, JOURNAL], 9, b"error name 1\n")
+        for count, right in ((0, False), (1, True), (64, True), (65, False)):
+            self.assertEqual(is_command(["watch", "o", "j", *["x"] * count]), right, count)
+
+    def test_names(self):
+        """Which name is refused, by what `list` writes: the first leaf of a name counts."""
+        slots = leaves(b"device INPUT 1\nleaf 0 x FIXED(31) 1\nleaf 1 v.w CHAR(4) 1024\nleaf 2 x BIT(1) 9\nleaf 3 u CLOCK 1025\n"
+                       b"leaf 4  FIXED(31) 2\nleaf 5 a b DURATION 3\n")
+        self.assertEqual(slots, {"x": 1, "v.w": 1024, "u": 1025, "": 2, "a b": 3})
+        for names, number in ((["x"], None), (["v.w"], None), (["y"], 1), (["x", "x"], 2), (["x", "v.w"], 2), (["v.w", "x"], 2),
+                              (["u"], 1), (["x", "y", "u"], 2)):
+            self.assertEqual(refused_name(slots, names), number, names)
+
     def test_answers_go_together(self):
         syntax, rule, done = Answer(2, b"error syntax 3\n"), Answer(2, b"error source 3 S1\n"), Answer(0, b"accepted 0 0 0\n")
         other, made, run = Answer(2, b"error syntax 4\n"), Answer(0, b"PRL1"), Answer(0, b"0 close\n")
         for answers in ({"check": syntax, "print": syntax, "compile": syntax}, {"check": rule, "print": made, "compile": rule},
                         {"check": done, "print": made, "compile": made, "run": run, "exec": run}):
             self.assertIsNone(disagreement(answers))
+        named, line = Answer(9, b"error name 1\n"), Answer(4, b"0 start a 1\nerror journal 3 1\n")
+        for one, watched in ((run, Answer(0, b"7 0 close\n")), (run, named), (line, Answer(4, b"error journal 3 1\n")), (line, named)):
+            self.assertIsNone(disagreement({"exec": one, "watch": watched}))
+        for one, watched in ((run, Answer(0, b"7 1 close\n")), (run, line), (line, Answer(4, b"error journal 2 1\n")),
+                             (Answer(3, b"error object 1\n"), named), (Answer(3, b"error object 1\n"), Answer(3, b"error object 2\n"))):
+            self.assertIsNotNone(disagreement({"exec": one, "watch": watched}))
         for answers in ({"check": syntax, "print": other}, {"check": rule, "print": syntax}, {"check": done, "compile": rule},
                         {"check": done, "print": syntax}, {"check": rule, "compile": made}, {"check": rule, "run": run},
                         {"check": done, "run": run, "exec": Answer(0, b"1 close\n")}):

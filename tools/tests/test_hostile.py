@@ -33,7 +33,8 @@ class Hostile(unittest.TestCase):
 
     def test_what_is_wrong_is_found(self):
         for does, sort in {"loud": "words", "killed": "words", "words": "words", "place": "source", "other": "source",
-                           "compile": "source", "run": "source", "close": "journal", "object": "object"}.items():
+                           "compile": "source", "run": "source", "close": "journal", "object": "object", "name": "object", "marks": "journal",
+                           "twice": "journal", "moment": "journal"}.items():
             status, out, _ = self.tried("--only", sort, does=does)
             self.assertEqual(status, 1, does)
             self.assertRegex(out, rf"^seed 1 number \d+, {sort}: ")
@@ -41,7 +42,7 @@ class Hostile(unittest.TestCase):
     def test_another_implementation(self):
         """The other's answers are compared, and an input with another answer is kept."""
         options = ("--only", "journal", "--other", PROGRAM, "--each", "3")
-        self.assertIn(" 8 of them beside another implementation: 0 not right", self.tried(*options)[1])
+        self.assertIn(" 12 of them beside another implementation: 0 not right", self.tried(*options)[1])
         with tempfile.TemporaryDirectory() as folder:
             kept = os.path.join(folder, "kept")
             status, out, _ = self.tried("--only", "object", "--other", "/bin/false", "--each", "12", "--keep", kept)

@@ -1,7 +1,10 @@
 """tools/timeline: pictures of the examples' transcripts, and of made ones."""
 
+import os
 import re
+import tempfile
 import unittest
+from html import unescape
 from xml.etree import ElementTree
 
 from tool import HERE, data, read, run
@@ -113,6 +116,67 @@ class Pictures(unittest.TestCase):
         last = re.search(r"the picture ends here; --from (\d+) goes on", picture)
         self.assertIn(f"--from {last[1]} goes on", picture)
         self.assertNotIn(f"<title>{last[1]} out", picture)
+
+
+class Watched(unittest.TestCase):
+    """What a monitor wrote of the same run."""
+
+    WATCHED = data("incident.watched")
+    SHORT = (b"0 0 value n 0 -4\n0 0 value b 0 '0'B\n0 0 value v 0 '0101'B\n0 0 value v 1 '0000'B\n0 0 value c 0 'it''s'\n"
+             b"3 0 value b 0 '1'B\n7 5 value n 0 6\n9 5 value n 0 1\n12 9 value b 0 '0'B\n12 9 value c 0 '<&>'\n15 20 close\n")
+
+    def drawn(self, given, *words, lines=b"0 start A 1\n5 end A\n9 start A 1\n20 close\n"):
+        with tempfile.TemporaryDirectory() as folder:
+            path = os.path.join(folder, "watched")
+            with open(path, "wb") as file:
+                file.write(given)
+            return drawn("--watch", path, *words, "-", given=lines)
+
+    def test_lanes(self):
+        """A slot is called by its leaf, and by its number where its leaf has several; a curve tells its least and greatest
+        value."""
+        words = [unescape(it) for it in seen(self.drawn(self.SHORT)[1])]
+        self.assertEqual([it for it in words if it in ("A", "n", "b", "v 0", "v 1", "c", "-4..6")], ["A", "n", "-4..6", "b", "v 0", "v 1", "c"])
+        self.assertEqual([it for it in words if "'" in it], ["'0101'B", "'0000'B", "'it''s'", "'<&>'"])
+
+    def test_curve(self):
+        """It goes level up to each change, and at a moment through all its values; its edges are those of the lane."""
+        picture = self.drawn(self.SHORT)[1]
+        path = re.search(r'<path class="curve" d="(M[^"]*)"/><g><title>0 0 value n', picture.replace("\n", ""))[1]
+        found = re.fullmatch(r"M([\d.]+) ([\d.]+)H([\d.]+)V([\d.]+)V([\d.]+)H([\d.]+)", path)
+        begin, first, change, highest, last, end = map(float, found.groups())
+        self.assertLess(begin, change)
+        self.assertLess(change, end)
+        self.assertEqual(first - highest, 34)
+        self.assertAlmostEqual(last, first - 34 * 5 / 10)
+        self.assertIn("<title>7 5 value n 0 6\n9 5 value n 0 1</title>", picture)
+
+    def test_bands(self):
+        picture = self.drawn(self.SHORT, "--only", "b")[1]
+        bands = re.findall(r'<title>([^<]*)</title><(rect class="bits"|path class="curve")', unescape(picture))
+        self.assertEqual(bands, [("0 0 value b 0 '0'B\n3 0 value b 0 '1'B", 'rect class="bits"'), ("12 9 value b 0 '0'B", 'path class="curve"')])
+
+    def test_part(self):
+        """From a later moment on a slot has the value that it had before."""
+        picture = self.drawn(self.SHORT, "--from", "6", "--only", "n,b")[1]
+        self.assertIn('<rect class="bits"', picture)
+        self.assertNotIn("7 5 value", picture)
+        self.assertIn("9 value b", picture)
+        self.assertIn("-4..6", seen(picture))
+
+    def test_the_incident(self):
+        """Its picture is that of the documents, and each change is told in it."""
+        picture = drawn("--source", SOURCE, "--start", "14:30:00", "--watch", self.WATCHED, KEPT)
+        self.assertEqual(picture, (0, read(HERE, "..", "..", "docs", "use", "watch.svg")))
+        told = set(re.findall(r"^\d+ \d+ value .*", "\n".join(re.findall(r"<title>([^<]*)</title>", picture[1])), re.M))
+        self.assertEqual(told, {it for it in read(self.WATCHED).splitlines() if " value " in it})
+
+    def test_refused(self):
+        self.assertEqual(self.drawn(b"error name 2\n")[0], 1)
+        self.assertRegex(self.drawn(b"error name 2\n")[1], "nothing is watched")
+        self.assertRegex(self.drawn(b"0 0 value x 0 5\n0 start A 1\n")[1], "line 2 is none of a monitor's: 0 start A 1")
+        self.assertEqual(self.drawn(b"0 0 value x 0 5\nerror journal 3 1\n")[0], 0)
+        self.assertEqual(drawn("--watch", "missing", KEPT), (1, "timeline: missing: No such file or directory\n"))
 
 
 class Documents(unittest.TestCase):

@@ -1,7 +1,8 @@
 // Replays plants: each word names a run, and for each is told whether `run` of its source, and `exec` of the object that
 // `compile` makes of that, end with status 0 and write the transcript that is kept.
 // The run `tank` has the files tank.pearl, tank.journal and tank.transcript. The run `tank-dry` has the same plant, that of
-// tank.pearl, with tank-dry.journal and tank-dry.transcript.
+// tank.pearl, with tank-dry.journal and tank-dry.transcript. With names behind it, as in `tank+Level+Open`, a run is told of by
+// what `watch` of these names writes, which is kept as tank.watched.
 #![tactic(auto)]
 
 use pearl_io::{File, SureShelf, SureSink};
@@ -123,10 +124,38 @@ fn is_as_kept(rt: &HostRuntime, run: &str) -> io::Result<bool> {
     Ok(as_kept)
 }
 
+// Whether these names, with `+` between them, are watched in a run as it is kept; says so, or what differs.
+fn is_watched_as_kept(rt: &HostRuntime, run: &str, names: &str) -> io::Result<bool> {
+    let source = read(rt, plant_of(run), "pearl")?;
+    let journal = read(rt, run, "journal")?;
+    let kept = read(rt, run, "watched")?;
+    let made = command(
+        rt.alloc(),
+        &["compile", "plant"],
+        source.as_slice(),
+        b"".as_slice(),
+    )?;
+    let mut words = Vec::from_slice(rt.alloc(), &["watch", "plant", "journal"])?;
+    for name in names.split('+') {
+        words.push(name)?;
+    }
+    let object = made.bytes.as_slice();
+    let watched = command(rt.alloc(), words.as_slice(), object, journal.as_slice())?;
+    let as_kept = is_done(rt, run, "compile", &made)?
+        && writes(rt, run, "watch", &watched, kept.as_slice())?;
+    if as_kept {
+        println!(rt; "{run}+{names}: as kept")?;
+    }
+    Ok(as_kept)
+}
+
 fn main(rt: HostRuntime) -> io::Result<ExitCode> {
     let mut all = true;
     for run in env::args(&rt)?.skip(1) {
-        all &= is_as_kept(&rt, run.as_str())?;
+        all &= match run.split_once('+') {
+            Some((run, names)) => is_watched_as_kept(&rt, run, names)?,
+            None => is_as_kept(&rt, run.as_str())?,
+        };
     }
     Ok(if all {
         ExitCode::SUCCESS

@@ -1,5 +1,5 @@
 -- Laws of journals that come in pieces, from the first piece to the last.
-use Rattle.std.proofs.Common.{◌≡◌, ◌≢◌, ◌<◌, ◌≤◌, ℕ, ◌+◌, List, [], ◌∷◌, ◌++◌, true, false, nat_lt, length, take, Result, Ok, Err, OnOk, refl, ap, ap₂, sym, ◌∙◌, arith, inl, inr}
+use Rattle.std.proofs.Common.{◌≡◌, ◌≢◌, ◌<◌, ◌≤◌, ℕ, ◌+◌, List, [], ◌∷◌, ◌++◌, true, false, codes, nat_lt, length, take, Result, Ok, Err, OnOk, refl, ap, ap₂, sym, ◌∙◌, arith, inl, inr}
 use Rattle.std.specs.List.{concat}
 use Rattle.std.proofs.Math.Seq.{take-append-add}
 use Rattle.std.proofs.lemmas.Bool.{cases_lt, le-ltb, lt-ltb, ne_eqb}
@@ -10,13 +10,13 @@ use Rattle.pearl_journal.specs.declared.lines.BadLine.{BadLine}
 use Rattle.pearl_journal.specs.declared.lines.Next.{Next}
 use Rattle.pearl_journal.specs.declared.lines.Next.TheVariants as next
 use Rattle.pearl_journal.specs.Cuts.{fed_each, read_pieces, taken_of}
-use Rattle.pearl_journal.specs.Entries.{All, Entries, entries}
-use Rattle.pearl_journal.specs.Laws.{EndsInNoReturn}
+use Rattle.pearl_journal.specs.Entries.{All, Entries, entries, entries_from}
+use Rattle.pearl_journal.specs.Laws.{EndsInNoReturn, SaysWordAndText}
 use Rattle.pearl_journal.specs.Lines.{ended_lines, journal_lines, line_end}
 use Rattle.pearl_journal.specs.Meaning.{meaning}
-use Rattle.pearl_journal.specs.Pieces.{HasNoWhole, IsKept, Kept, answer_of, begin, fed, finished, kept_after, moment_said, read_on, reading_at, said, taken, told, told_if}
+use Rattle.pearl_journal.specs.Pieces.{HasNoWhole, IsKept, Kept, answer_of, begin, begin_later, fed, finished, kept_after, moment_said, read_on, reading_at, said, taken, told, told_if}
 use Rattle.pearl_journal.specs.Readings.{Reading}
-use Rattle.pearl_journal.proofs.MeaningLaws.{meaning-long, returns_dropped}
+use Rattle.pearl_journal.proofs.MeaningLaws.{blanks_free, meaning-long, returns_dropped}
 use Rattle.pearl_journal.proofs.PieceLaws.{answer_none, answer_read, begin_kept, fed_kept, fed_read, finished_after, finished_kept, finished_read, line_end-behind, none_read, too_long, unended_append, unended_first, unended_more, unended_rest}
 
 -- ANSWERS ONE AFTER ANOTHER
@@ -81,6 +81,18 @@ pub pieces_same : (setup : Setup) (pieces others : List (List ℕ)) → taken_of
     read_pieces setup begin 0 pieces ≡ read_pieces setup begin 0 others
 pieces_same setup pieces others e =
     pieces_entries setup pieces ∙ ap (λ bytes. entries setup (journal_lines bytes)) e ∙ sym (pieces_entries setup others)
+
+-- A JOURNAL THAT GOES ON WITH A RUN
+
+later_kept : IsKept begin_later
+later_kept = record { short = omega arith; unended = refl; stays = λ h. refl; last = λ h k. refl }
+
+later_none : HasNoWhole begin_later
+later_none = record { unrefused = refl; partial = refl; unended = refl; last = λ _. refl }
+
+pub pieces_later : (setup : Setup) (now : ℕ) (pieces : List (List ℕ)) →
+    read_pieces setup begin_later now pieces ≡ entries_from setup (reading_at begin_later now) (journal_lines (taken_of pieces))
+pieces_later setup now pieces = pieces_on setup begin_later now pieces later_kept later_none refl
 
 -- SEAMS
 
@@ -162,6 +174,16 @@ return_stands kept bytes rest byte h other =
     ap (fed kept) (append_assoc bytes (13 ∷ []) (byte ∷ 10 ∷ rest) ∙ sym (append_assoc bytes (13 ∷ byte ∷ []) (10 ∷ rest))) ∙
     fed_line kept (bytes ++ 13 ∷ byte ∷ []) rest (unended_append bytes (13 ∷ byte ∷ []) h two)
     )
+
+-- `clock` as the first line of a journal that goes on with a run
+pub clock_again : (setup : Setup) (now : ℕ) (line text rest : List ℕ) → SaysWordAndText line (codes "clock") text →
+    EndsInNoReturn line → length line ≤ LINE_LIMIT → ended_lines line ≡ [] →
+    answer_of setup (fed begin_later (line ++ 10 ∷ rest)) now ≡ Err (record { line = 1; code = NO_FORM })
+clock_again setup now line text rest says ends short h =
+    let reading = reading_at begin_later now in
+    ap (λ k. answer_of setup k now) (fed_line begin_later line rest h) ∙
+    ap (λ means. told 1 means)
+    (cut_means setup reading line ∙ blanks_free setup reading line (codes "clock") text says ends short)
 
 -- LONG LINES
 

@@ -30,6 +30,10 @@ pub record Kept : Type 0 where
 abbrev pub begin : Kept
 begin = record { lines = 0; is_first = true; standing = []; is_whole = false; is_finished = false; refused = None }
 
+-- nothing was read of a journal that goes on with a run: entries were accepted before, and its lines count anew
+abbrev pub begin_later : Kept
+begin_later = record begin { is_first = false }
+
 -- PIECES
 
 -- of a piece the bytes up to and with its first byte 10 are taken, or all

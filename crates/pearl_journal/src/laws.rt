@@ -8,11 +8,11 @@ ghost use Rattle.pearl_rules.specs.declared.setup.Setup.{Setup};
 ghost use Rattle.pearl_rules.specs.Entries.{IsPrinted};
 ghost use Rattle.pearl_journal.specs.declared.reading.Line.TheVariants.{Blank, Item, Wrong};
 ghost use Rattle.pearl_journal.specs.Cuts.{fed_each, read_pieces, taken_of};
-ghost use Rattle.pearl_journal.specs.Entries.{entries};
+ghost use Rattle.pearl_journal.specs.Entries.{entries, entries_from};
 ghost use Rattle.pearl_journal.specs.Laws.{EndsInNoReturn, IsComment, IsGap, NamesAlike, SaysThreeParts, SaysWordAndText, TakesTwoParts, in_apostrophes};
 ghost use Rattle.pearl_journal.specs.Lines.{ended_lines, journal_lines};
 ghost use Rattle.pearl_journal.specs.Meaning.{entry_of, line_of, meaning};
-ghost use Rattle.pearl_journal.specs.Pieces.{HasNoWhole, Kept, answer_of, begin, fed};
+ghost use Rattle.pearl_journal.specs.Pieces.{HasNoWhole, Kept, answer_of, begin, begin_later, fed, reading_at};
 ghost use Rattle.pearl_journal.specs.Readings.{Reading};
 ghost use Rattle.pearl_journal.specs.Texts.{quoted};
 ghost use Rattle.pearl_journal.specs.Words.{number};
@@ -84,12 +84,22 @@ pub fn moments_have_an_end()
 {}
 
 /// Where a journal comes in pieces and one answer is taken behind each and one behind its end, its entries are those of
-/// the bytes that were taken: whichever way they are cut, the entries are the same.
+/// the bytes that were taken: whichever way they are cut, the entries are the same. So it is of a journal that goes on
+/// with a run from a moment on.
 pub fn cuts_change_nothing()
     ensures entries { (setup : Setup) (pieces : List (List ℕ)) →
         read_pieces setup begin 0 pieces ≡ entries setup (journal_lines (taken_of pieces)) }
     ensures same { (setup : Setup) (pieces others : List (List ℕ)) → taken_of pieces ≡ taken_of others →
         read_pieces setup begin 0 pieces ≡ read_pieces setup begin 0 others }
+    ensures goes_on { (setup : Setup) (now : ℕ) (pieces : List (List ℕ)) →
+        read_pieces setup begin_later now pieces ≡ entries_from setup (reading_at begin_later now) (journal_lines (taken_of pieces)) }
+{}
+
+/// A run has one `clock` at most: in a journal that goes on with it that line is refused with 1, also as the first.
+pub fn runs_have_one_clock()
+    ensures { (setup : Setup) (now : ℕ) (line text rest : List ℕ) → SaysWordAndText line (codes "clock") text →
+        EndsInNoReturn line → length line ≤ 1024 → ended_lines line ≡ [] →
+        answer_of setup (fed begin_later (line ++ 10 ∷ rest)) now ≡ Err (record { line = 1; code = 1 }) }
 {}
 
 /// A piece that ends within a line leaves no trace: what is kept is the same as where it comes together with the next.

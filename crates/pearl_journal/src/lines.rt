@@ -5,7 +5,7 @@ ghost use Rattle.pearl_rules.specs.declared.setup.Setup.{Setup};
 ghost use Rattle.pearl_rules.specs.Entries.{EntryFits};
 ghost use Rattle.pearl_journal.specs.Lines.{line_end};
 ghost use Rattle.pearl_journal.specs.Lines as spec;
-ghost use Rattle.pearl_journal.specs.Pieces.{HasNoWhole, IfEntry, IsPartial, answer_of, begin, ended_on, fed, finished, kept_after, moment_said, read_on, said, taken};
+ghost use Rattle.pearl_journal.specs.Pieces.{HasNoWhole, IfEntry, IsPartial, answer_of, begin, begin_later, ended_on, fed, finished, kept_after, moment_said, read_on, said, taken};
 
 use crate::limits::LINE_ROOM;
 use crate::reading::{Line, meaning_of};
@@ -70,6 +70,16 @@ impl Lines {
             is_finished: false,
             refused: None,
         })
+    }
+
+    /// Nothing was read of a journal that goes on with a run: its lines count anew, and a `clock` is refused, also as the
+    /// first. All memory is taken here that is ever needed; the error is that there is none.
+    pub fn later(alloc: Global) -> Result<Lines, NoMemory>
+        ensures { IfOk result (λ lines. lines ≡ begin_later) }
+    {
+        let mut lines = Lines::new(alloc)?;
+        lines.is_first = false;
+        Ok(lines)
     }
 
     /// Takes bytes up to and with the first byte 10, or all, and tells how many. Whatever follows, the entries are those

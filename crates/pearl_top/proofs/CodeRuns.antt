@@ -14,9 +14,9 @@ use Rattle.pearl_journal.specs.Readings as readings
 use Rattle.pearl_journal.proofs.Offered.{entries-fit}
 use Rattle.pearl_script.specs.Lines.{lines_of}
 use Rattle.pearl_top.specs.Ready.{RunsByRules}
-use Rattle.pearl_top.specs.Replay.{start_of}
-use Rattle.pearl_top.specs.Runners.{Ended, EndsByCode, by_code, ended_of}
-use Rattle.pearl_top.specs.Transcript.{Close, IsTranscript, closing}
+use Rattle.pearl_top.specs.Ready.{start_of}
+use Rattle.pearl_top.specs.Runners.{EndsByCode, by_code}
+use Rattle.pearl_top.specs.Transcript.{Close, Ended, closing, ended_of}
 use Rattle.pearl_top.proofs.JournalLaws.{WritesOnce}
 use Rattle.pearl_top.proofs.RunEnds.{after, ends_here}
 
@@ -59,7 +59,7 @@ code_once o rules lines es ending read close bytes others one two =
 
 -- and it writes something
 pub has_written : (o : Object) (rules : RunsByRules o) (es : List Entry) (closes : Close) → AreFitting (setup_of o) es →
-    (bytes : List ℕ) × IsTranscript (by_code o) es closes bytes
+    (bytes : List ℕ) × (by_code o).writes es closes bytes
 has_written o rules es how fit =
     let end = rules.finishes es fit in
     (_, record { end = ended_of (after o es end.0).core (machine_offers (after o es end.0)); ends = ends_here o es end.0 end.1.settled end.1.no_mark; text = refl })

@@ -17,7 +17,7 @@ use Rattle.pearl_top.specs.Reading.{ASource, AnObject}
 use Rattle.pearl_top.specs.Ready.{RunsByRules}
 use Rattle.pearl_top.specs.RunDue.{IsSource, RunDue}
 use Rattle.pearl_top.specs.Runners.{by_code, by_rules}
-use Rattle.pearl_top.specs.Transcript.{Close, IsTranscript}
+use Rattle.pearl_top.specs.Transcript.{Close}
 use Rattle.pearl_top.proofs.CodeRuns.{has_written, read_fit}
 use Rattle.pearl_top.proofs.FaithfulRuns.{journals_alike, written_alike}
 use Rattle.pearl_top.proofs.FromLaws.{held_or_refused}
@@ -35,7 +35,7 @@ run_back p o faithful rules lines ending close bytes run =
     let made = has_written o rules run.es close fit in record {
       es = run.es;
       read = read;
-      written = subst (IsTranscript (by_code o) run.es close)
+      written = subst ((by_code o).writes run.es close)
           (transcript_once p run.es close made.0 bytes (written_alike p o faithful run.es fit close made.0 made.1) run.written) made.1;
     }
 

@@ -12,7 +12,7 @@ use Rattle.pearl_instructions.specs.Setups.{setup_of}
 use Rattle.pearl_bench.specs.Texts.{source_of}
 use Rattle.pearl_top.specs.BenchDue.{IsBench}
 use Rattle.pearl_top.specs.CheckDue.{IsAccepted, IsUnaccepted}
-use Rattle.pearl_top.specs.Commands.{Command, Run, Check, Print, Compile, Exec, Listed, Bench, NoCommand}
+use Rattle.pearl_top.specs.Commands.{Command, Run, Check, Print, Compile, Exec, Listed, Bench, Watch, NoCommand}
 use Rattle.pearl_top.specs.CompileDue.{IsCompiled}
 use Rattle.pearl_top.specs.Complete.{AreInOrder, CanExecute, IsInOrder}
 use Rattle.pearl_journal.specs.Entries.{All, entries}
@@ -24,9 +24,9 @@ use Rattle.pearl_top.specs.Outcome.{Due, IsOutcome}
 use Rattle.pearl_top.specs.Reading.{ASource, AnObject}
 use Rattle.pearl_top.specs.RunDue.{IsSource}
 use Rattle.pearl_top.specs.PrintDue.{IsPrinted}
-use Rattle.pearl_top.specs.Runners.{by_code, by_rules, ended_of}
+use Rattle.pearl_top.specs.Runners.{by_code, by_rules}
 use Rattle.pearl_top.specs.Sources.{IsUnspelled}
-use Rattle.pearl_top.specs.Transcript.{Closed, IsTranscript}
+use Rattle.pearl_top.specs.Transcript.{Closed, ended_of}
 use Rattle.pearl_top.specs.Taken.{Ends}
 use Rattle.pearl_meaning.specs.ProgramRuns.{setup_of as tables_of}
 use Rattle.pearl_top.proofs.CheckLaws.{never_unaccepted}
@@ -40,6 +40,8 @@ use Rattle.pearl_top.proofs.OneProgram.{one_meaning}
 use Rattle.pearl_top.proofs.DueLaws.{handled-whole}
 use Rattle.pearl_top.proofs.PrintLaws.{never_unspelled}
 use Rattle.pearl_top.proofs.TakenLaws.{finishes_of}
+use Rattle.pearl_top.proofs.WatchEnds.{has_watched}
+use Rattle.pearl_top.proofs.WatchLaws.{watch_completes, watch_unread_free}
 
 -- a journal of which all lines are accepted is not refused
 rules_not_bad : (p : PlainProg) (source journal bytes : List ℕ) → IsSource source p → AreInOrder source journal → IsBadJournal (by_rules p) journal bytes → ⊥
@@ -65,6 +67,8 @@ due_completes (Exec object journal) files rose status bytes order due no_memory 
     from_completes AnObject (files object) (IsRefused (files object)) (IsCodeOf (files object)) by_code (files journal) (rose object) (rose journal) status bytes
     order.is.is.within (λ line. never_refused (files object) line order.o order.is) order.within
     (λ o line code. code_not_bad o (files object) (files journal) line code order) due no_memory no_read
+due_completes (Watch object journal names) files rose status bytes order due no_memory no_read =
+    watch_completes (files object) names (files journal) (rose object) (rose journal) status bytes order due no_memory no_read
 due_completes (Check source) files rose status bytes order due no_memory no_read =
     at_file_completes ASource (files source) (IsAccepted (files source)) (IsUnaccepted (files source)) (rose source) status bytes order.is.within
     (λ line. never_unaccepted (files source) line order) due no_memory no_read
@@ -90,7 +94,7 @@ completes command files rose old new status ends order no_memory no_read no_writ
 -- WHAT IS DUE THEN
 
 -- a program writes something over the entries of a journal
-has_transcript : (p : PlainProg) (es : List Entry) → (bytes : List ℕ) × IsTranscript (by_rules p) es Closed bytes
+has_transcript : (p : PlainProg) (es : List Entry) → (bytes : List ℕ) × (by_rules p).writes es Closed bytes
 has_transcript p es =
     let end = source_ends (offer p) (tables_of p) es in (
       _,
@@ -121,6 +125,20 @@ has_outcome run (Exec object journal) files order some =
         due = inr (order.o, order.is, (order.within, record { es = order.es; read = order.read; written = written.1 }));
       },
     )
+has_outcome run (Watch object journal names) files order some =
+    let can = order.can in
+    let rules = run can.o can.is.valid can.is.is.lawful in
+    let written = has_watched names can.o rules can.es Closed (read_fit can.o (journal_lines (files journal)) can.es All can.read) in (
+      written.0,
+      record {
+        memory = λ e. cc;
+        due = inr (inr (
+          can.o,
+          record { code = can.is; accepted = order.accepted },
+          (can.within, record { es = can.es; read = can.read; written = written.1 }),
+        ));
+      },
+    )
 has_outcome run (Check source) files order some = (_, record { memory = λ e. cc; due = record { is = order; text = refl } })
 has_outcome run (Print source) files order some = (_, record { memory = λ e. cc; due = record { tree = order.0; is = order.1; text = refl } })
 has_outcome run (Compile source) files order some = (some.0, record { memory = λ e. cc; due = some.1 })
@@ -145,6 +163,7 @@ unread (Run source journal) files bytes (inl due) = due.0
 unread (Run source journal) files bytes (inr (p, is_source, due)) = due.0
 unread (Exec object journal) files bytes (inl due) = due.0
 unread (Exec object journal) files bytes (inr (o, code, due)) = due.0
+unread (Watch object journal names) files bytes due = watch_unread_free (files object) names (files journal) bytes due
 unread (Check source) files bytes due = due.0
 unread (Print source) files bytes due = due.0
 unread (Compile source) files bytes due = due.0

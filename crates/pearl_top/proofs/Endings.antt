@@ -12,11 +12,10 @@ use Rattle.pearl_instructions.specs.Setups.{setup_of}
 use Rattle.pearl_script.specs.declared.refusal.Refusal.{Refusal}
 use Rattle.pearl_script.specs.Lines.{lines_of, close_line}
 use Rattle.pearl_script.specs.Refusals.{refusal_line}
-use Rattle.pearl_machine.specs.Seen.{Seen, at, picked, SameNext, Goes}
-use Rattle.pearl_top.specs.Ready.{RunsByRules}
-use Rattle.pearl_top.specs.Replay.{started, Advances, Breaks}
+use Rattle.pearl_machine.specs.Seen.{Seen, at, picked, SameNext, Goes, Handles}
+use Rattle.pearl_top.specs.Ready.{RunsByRules, started}
 use Rattle.pearl_top.specs.Runners.{by_code}
-use Rattle.pearl_top.specs.Transcript.{Close, Closed, Cut, IsTranscript}
+use Rattle.pearl_top.specs.Transcript.{Close, Closed, Cut}
 use Rattle.pearl_top.proofs.RunEnds.{after, opening, stands, IsDone}
 use Rattle.pearl_top.proofs.TranscriptLaws.{lines_of-append, machine_closing, closed_text, cut_text, HasRest, front_text}
 
@@ -47,17 +46,17 @@ regroup : (a b c : List ℕ) (all : List ℕ) → all ≡ a ++ b → all ++ c �
 regroup a b c all e = ap (λ x. x ++ c) e ∙ append_assoc a b c
 
 -- the whole transcript, behind the opening lines, where the machine is settled
-pub closes : (o : Object) (es : List Entry) (seen : Seen) (told : List (ℕ × Report)) → Advances (started o) seen es told → unsettled seen.state ≡ None →
-    IsTranscript (by_code o) es Closed (opening_lines o ++ (lines_of (setup_of o) told ++ machine_closing (setup_of o) seen.state))
+pub closes : (o : Object) (es : List Entry) (seen : Seen) (told : List (ℕ × Report)) → Handles (started o) es [] seen told → unsettled seen.state ≡ None →
+    (by_code o).writes es Closed (opening_lines o ++ (lines_of (setup_of o) told ++ machine_closing (setup_of o) seen.state))
 closes o es seen told ran settled =
-    let end : Goes (started o) (opening o) es [] seen told = stands o es [] seen told ran.handles in
+    let end : Goes (started o) (opening o) es [] seen told = stands o es [] seen told ran in
     let there : Machine (List Frame) = at seen (opening o ++ told) end.left in
     let m : Machine (List Frame) = after o es end.steps in
     let done : IsDone there = is_done seen (opening o ++ told) end.left end.same in
     let closing : machine_closing (setup_of o) m ≡ machine_closing (setup_of o) seen.state =
     ap (machine_closing (setup_of o)) end.is ∙ ap (λ x. lines_of (setup_of o) x ++ close_line seen.state.core.moment) (states_at seen (opening o ++ told) end.left) in
-    subst (λ last. IsTranscript (by_code o) es Closed (opening_lines o ++ (lines_of (setup_of o) told ++ last))) closing
-    (subst (IsTranscript (by_code o) es Closed)
+    subst (λ last. (by_code o).writes es Closed (opening_lines o ++ (lines_of (setup_of o) told ++ last))) closing
+    (subst ((by_code o).writes es Closed)
     (regroup (opening_lines o) (lines_of (setup_of o) told) (machine_closing (setup_of o) m) (lines_of (setup_of o) m.core.told)
     (ap (λ x. lines_of (setup_of o) x.core.told) end.is ∙ told_lines o told))
     (closed_text o es end.steps (ap unsettled end.is ∙ settled)
@@ -65,26 +64,21 @@ closes o es seen told ran settled =
 
 -- the transcript that a refusal cuts short
 pub cuts : (o : Object) (rules : RunsByRules o) (es : List Entry) (seen : Seen) (told : List (ℕ × Report)) (refusal : Refusal) → AreFitting (setup_of o) es →
-    Advances (started o) seen es told →
-    IsTranscript (by_code o) es (Cut refusal) (opening_lines o ++ (lines_of (setup_of o) told ++ refusal_line refusal))
+    Handles (started o) es [] seen told →
+    (by_code o).writes es (Cut refusal) (opening_lines o ++ (lines_of (setup_of o) told ++ refusal_line refusal))
 cuts o rules es seen told refusal fit ran =
-    let end : Goes (started o) (opening o) es [] seen told = stands o es [] seen told ran.handles in
+    let end : Goes (started o) (opening o) es [] seen told = stands o es [] seen told ran in
     let m : Machine (List Frame) = after o es end.steps in
-    subst (IsTranscript (by_code o) es (Cut refusal))
+    subst ((by_code o).writes es (Cut refusal))
     (regroup (opening_lines o) (lines_of (setup_of o) told) (refusal_line refusal) (lines_of (setup_of o) m.core.told)
     (ap (λ x. lines_of (setup_of o) x.core.told) end.is ∙ told_lines o told))
     (cut_text o rules es end.steps refusal fit (subst IsDone (sym end.is) (is_done seen (opening o ++ told) end.left end.same)))
 
 -- what was told so far, and what follows it
-pub record Follows (o : Object) (es : List Entry) (close : Close) (bytes : List ℕ) : Type 0 where
-  pub rest : List ℕ
-  pub whole : IsTranscript (by_code o) es close (opening_lines o ++ (bytes ++ rest))
-
-pub breaks_off : (o : Object) (rules : RunsByRules o) (es : List Entry) (told : List (ℕ × Report)) (close : Close) → AreFitting (setup_of o) es →
-    Breaks (started o) es told → Follows o es close (lines_of (setup_of o) told)
-breaks_off o rules es told close fit breaks =
-    let front : HasRest o es close (lines_of (setup_of o) (opening o ++ told)) = front_text o rules es told close fit breaks in record {
-      rest = front.rest;
-      whole = subst (IsTranscript (by_code o) es close)
-          (regroup (opening_lines o) (lines_of (setup_of o) told) front.rest _ (told_lines o told)) front.whole;
-    }
+pub breaks_off : (o : Object) (rules : RunsByRules o) (es left : List Entry) (seen : Seen) (told : List (ℕ × Report)) (close : Close) → AreFitting (setup_of o) es →
+    Handles (started o) es left seen told → (rest : List ℕ) × (by_code o).writes es close (opening_lines o ++ (lines_of (setup_of o) told ++ rest))
+breaks_off o rules es left seen told close fit handles =
+    let front : HasRest o es close (lines_of (setup_of o) (opening o ++ told)) = front_text o rules es left seen told close fit handles in (
+      front.rest,
+      subst ((by_code o).writes es close) (regroup (opening_lines o) (lines_of (setup_of o) told) front.rest _ (told_lines o told)) front.whole,
+    )

@@ -18,13 +18,13 @@ use Rattle.pearl_top.specs.declared.status.Status.{Status}
 use Rattle.pearl_top.specs.declared.status.Status.TheVariants.{Done, Usage, Refused, BadObject, BadJournal, ReadFault, WriteFault, NoMemory, TooLong, BadName}
 use Rattle.pearl_top.specs.JournalDue.{IsRun, JournalDue}
 use Rattle.pearl_top.specs.Laws.{ObjectsWriteAlike}
-use Rattle.pearl_top.specs.Runners.{Ended, by_code, by_rules}
-use Rattle.pearl_top.specs.Transcript.{Close, Closed, Cut, closing}
+use Rattle.pearl_top.specs.Runners.{CodeEnds, RulesEnd, by_code, by_rules}
+use Rattle.pearl_top.specs.Transcript.{Close, Closed, Cut, Ended, closing}
 use Rattle.pearl_top.proofs.Names.{lines_alike, entries_alike}
 
 -- where its run ends, the rules' run ends alike
 ends_too : (p : PlainProg) (o : Object) (es : List Entry) (end : Ended) → IsFaithfulTo p o → AreFitting (setup_of o) es →
-    (by_code o).ends es end → (by_rules p).ends es end
+    CodeEnds o es end → RulesEnd p es end
 ends_too p o es end faithful fit last =
     let tells : TellsAlike p o es last.steps = tell_alike p o faithful es fit last.steps in record {
       marks = marked o es last.steps;

@@ -8,7 +8,7 @@ use Rattle.pearl_top.specs.declared.status.Status.{Status}
 use Rattle.pearl_top.specs.declared.status.Status.TheVariants.{Done, Usage, Refused, BadObject, BadJournal, ReadFault, WriteFault, NoMemory, TooLong, BadName}
 use Rattle.pearl_top.specs.JournalDue.{IsBadJournal, IsRun, JournalDue, handled}
 use Rattle.pearl_top.specs.Runners.{Runner}
-use Rattle.pearl_top.specs.Transcript.{Close, Closed, Cut, IsTranscript}
+use Rattle.pearl_top.specs.Transcript.{Close, Closed, Cut}
 use Rattle.pearl_top.proofs.DueLaws.{handled-whole, le_true, le_false}
 
 -- where the count of faults rose from earlier on
@@ -69,7 +69,7 @@ not_bad runner journal bytes es read bad =
 abbrev pub WritesOnce : Runner → Type 0
 WritesOnce runner = (lines : List (List ℕ)) (es : List Entry) (ending : Ending) →
     entries_from runner.setup runner.first lines ≡ record { accepted = es; ending = ending } → (close : Close) (bytes others : List ℕ) →
-    IsTranscript runner es close bytes → IsTranscript runner es close others → bytes ≡ others
+    runner.writes es close bytes → runner.writes es close others → bytes ≡ others
 
 -- the status, by how the lines that are handled end, and whether the journal is within its limit
 abbrev status_of : Ending → Bool → Status
@@ -122,9 +122,9 @@ comes_once runner journal status other bytes others once one two =
     let es : one.run.es ≡ two.run.es = ap (λ (e : Entries). e.accepted) same in
     let ending : one.ending ≡ two.ending = ap (λ (e : Entries). e.ending) same in
     let close : close_of one.ending (fits_in journal) ≡ close_of two.ending (fits_in journal) = ap (λ e. close_of e (fits_in journal)) ending in
-    let written : IsTranscript runner one.run.es (close_of one.ending (fits_in journal)) others =
-    subst (λ entries. IsTranscript runner entries (close_of one.ending (fits_in journal)) others) (sym es)
-    (subst (λ c. IsTranscript runner two.run.es c others) (sym close) two.run.written) in (
+    let written : runner.writes one.run.es (close_of one.ending (fits_in journal)) others =
+    subst (λ entries. runner.writes entries (close_of one.ending (fits_in journal)) others) (sym es)
+    (subst (λ c. runner.writes two.run.es c others) (sym close) two.run.written) in (
       one.is ∙ ap (λ e. status_of e (fits_in journal)) ending ∙ sym two.is,
       once (handled journal) one.run.es one.ending one.run.read (close_of one.ending (fits_in journal)) bytes others one.run.written written,
     )

@@ -10,7 +10,10 @@ mod ObjectLaws
 mod BenchEnds
 mod PrintLaws
 mod PrintsItsText
-mod ReplayLaws
+mod MachineRuns
+mod WatchEnds
+mod WatchRuns
+mod WatchLaws
 mod RunEnds
 mod TranscriptLaws
 mod Names

@@ -22,11 +22,3 @@ pub few : {A : Type 0} (f : A → List ℕ) (xs : List A) → length xs < 2 → 
 few f [] less = refl
 few f (x ∷ []) less = refl
 few f (x ∷ y ∷ xs) less = absurd (omega (arith, less))
-
--- and neither are four words or more
-pub many : {A : Type 0} (f : A → List ℕ) (xs : List A) → 4 ≤ length xs → command_of (map f xs) ≡ NoCommand
-many f [] more = absurd (omega (arith, more))
-many f (x ∷ []) more = absurd (omega (arith, more))
-many f (x ∷ y ∷ []) more = absurd (omega (arith, more))
-many f (x ∷ y ∷ z ∷ []) more = absurd (omega (arith, more))
-many f (x ∷ y ∷ z ∷ v ∷ xs) more = refl

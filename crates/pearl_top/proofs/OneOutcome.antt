@@ -9,7 +9,7 @@ use Rattle.pearl_top.specs.declared.status.Status.{Status}
 use Rattle.pearl_top.specs.declared.status.Status.TheVariants.{Done}
 use Rattle.pearl_top.specs.BenchDue.{IsBench}
 use Rattle.pearl_top.specs.CheckDue.{IsAccepted, IsUnaccepted}
-use Rattle.pearl_top.specs.Commands.{Command, Run, Check, Print, Compile, Exec, Listed, Bench, NoCommand}
+use Rattle.pearl_top.specs.Commands.{Command, Run, Check, Print, Compile, Exec, Listed, Bench, Watch, NoCommand}
 use Rattle.pearl_top.specs.CompileDue.{IsCompiled}
 use Rattle.pearl_top.specs.JournalDue.{IsRun}
 use Rattle.pearl_top.specs.Laws.{HasOneStatus, HasOneText, IsFree, ValidObjectsRun}
@@ -20,7 +20,7 @@ use Rattle.pearl_top.specs.Reading.{ASource, AnObject}
 use Rattle.pearl_top.specs.RunDue.{IsSource}
 use Rattle.pearl_top.specs.Runners.{by_code, by_rules}
 use Rattle.pearl_top.specs.Sources.{IsUnspelled}
-use Rattle.pearl_top.specs.Transcript.{Closed, IsTranscript}
+use Rattle.pearl_top.specs.Transcript.{Closed}
 use Rattle.pearl_top.proofs.CheckLaws.{accepted_once, check_settled, unaccepted_once, unaccepted_within}
 use Rattle.pearl_top.proofs.FileLaws.{AreOne, IsSettled, at_file_once}
 use Rattle.pearl_top.proofs.FromLaws.{from_once}
@@ -28,6 +28,7 @@ use Rattle.pearl_top.proofs.Loaded.{compile_settled, not_refused, object_loaded,
 use Rattle.pearl_top.proofs.ObjectLaws.{list_settled, listed_once}
 use Rattle.pearl_top.proofs.OneProgram.{one_meaning, transcript_once}
 use Rattle.pearl_top.proofs.PrintLaws.{print_settled, printed_once}
+use Rattle.pearl_top.proofs.WatchLaws.{watch_due_once}
 
 -- THE WORKLOAD
 
@@ -36,7 +37,7 @@ run_once : (p : PlainProg) (lines : List (List ℕ)) (bytes others : List ℕ) �
     IsRun (by_rules p) lines All Closed others → bytes ≡ others
 run_once p lines bytes others one two =
     transcript_once p one.es Closed bytes others one.written
-    (subst (λ es. IsTranscript (by_rules p) es Closed others) (ap (λ (e : Entries). e.accepted) (sym two.read ∙ one.read)) two.written)
+    (subst (λ es. (by_rules p).writes es Closed others) (ap (λ (e : Entries). e.accepted) (sym two.read ∙ one.read)) two.written)
 
 bench_once : (n : ℕ) (bytes others : List ℕ) → IsBench n bytes → IsBench n others → bytes ≡ others
 bench_once n bytes others one two =
@@ -81,6 +82,9 @@ one_outcome run (Exec object journal) files status other bytes others is its =
     same_of (Exec object journal) status other bytes others
     (from_once AnObject (files object) (IsRefused (files object)) (IsCodeOf (files object)) by_code (files journal) status other bytes others
     (object_loaded run (files object)) is.memory its.memory is.due its.due)
+one_outcome run (Watch object journal names) files status other bytes others is its =
+    same_of (Watch object journal names) status other bytes others
+    (watch_due_once run (files object) names (files journal) status other bytes others is.memory its.memory is.due its.due)
 one_outcome run (Check source) files status other bytes others is its =
     one_of (Check source) status other bytes others (IsAccepted (files source)) (accepted_once (files source) bytes others)
     (at_file_once ASource (files source) (IsAccepted (files source)) (IsUnaccepted (files source)) status other bytes others (check_settled (files source))

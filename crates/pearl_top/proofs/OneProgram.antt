@@ -24,8 +24,8 @@ use Rattle.pearl_meaning.specs.Programs.{offer}
 use Rattle.pearl_meaning.specs.ProgramRuns.{setup_of}
 use Rattle.pearl_script.specs.Lines.{lines_of}
 use Rattle.pearl_top.specs.Laws.{HasOneMeaning, HasOneTranscript}
-use Rattle.pearl_top.specs.Runners.{Ended, by_rules, ended_of}
-use Rattle.pearl_top.specs.Transcript.{Close, closing, IsTranscript}
+use Rattle.pearl_top.specs.Runners.{RulesEnd, by_rules}
+use Rattle.pearl_top.specs.Transcript.{Close, Ended, closing, ended_of}
 use Rattle.pearl_top.proofs.CheckLaws.{shown_once}
 
 -- THE SAME NUMBERS
@@ -72,7 +72,7 @@ one_meaning source p q is_source also =
 
 -- THE SAME RUN
 
-ends_once : (p : PlainProg) (es : List Entry) (end other : Ended) → (by_rules p).ends es end → (by_rules p).ends es other → end ≡ other
+ends_once : (p : PlainProg) (es : List Entry) (end other : Ended) → RulesEnd p es end → RulesEnd p es other → end ≡ other
 ends_once p es end other one two =
     one.is
     ∙ ap (λ (s : Source). ended_of s.core (source_offers (offer p) s)) (one_end (offer p) (setup_of p) es one.marks two.marks one.no_mark two.no_mark)
@@ -80,7 +80,7 @@ ends_once p es end other one two =
 
 -- a program writes one thing
 pub transcript_once : (p : PlainProg) (es : List Entry) (close : Close) (bytes others : List ℕ) →
-    IsTranscript (by_rules p) es close bytes → IsTranscript (by_rules p) es close others → bytes ≡ others
+    (by_rules p).writes es close bytes → (by_rules p).writes es close others → bytes ≡ others
 transcript_once p es close bytes others is its =
     is.text
     ∙ ap (λ (end : Ended). lines_of (setup_of p) end.told ++ closing (setup_of p) end close) (ends_once p es is.end its.end is.ends its.ends)
@@ -89,4 +89,4 @@ transcript_once p es close bytes others is its =
 pub one_transcript : HasOneTranscript
 one_transcript source p q is_source also es close bytes others one two =
     transcript_once p es close bytes others one
-    (subst (λ r. IsTranscript (by_rules r) es close others) (sym (one_meaning source p q is_source also)) two)
+    (subst (λ r. (by_rules r).writes es close others) (sym (one_meaning source p q is_source also)) two)

@@ -14,9 +14,9 @@ use Rattle.pearl_stack.specs.Frames.{Frame}
 use Rattle.pearl_instructions.specs.Engines.{engine}
 use Rattle.pearl_instructions.specs.Setups.{setup_of}
 use Rattle.pearl_machine.specs.Seen.{Seen, Goes, Handles}
-use Rattle.pearl_top.specs.Ready.{RunsByRules}
-use Rattle.pearl_top.specs.Replay.{start_of, started, Breaks}
-use Rattle.pearl_top.specs.Runners.{Ended, EndsByCode, ended_of}
+use Rattle.pearl_top.specs.Ready.{RunsByRules, start_of, started}
+use Rattle.pearl_top.specs.Runners.{EndsByCode}
+use Rattle.pearl_top.specs.Transcript.{Ended, ended_of}
 
 -- what opens a run
 abbrev pub opening : Object → List (ℕ × Report)
@@ -85,10 +85,11 @@ ends_when_done o rules es n fit done =
         ∙ done (pick source.core (source_offers rules.offer source)) (λ settled. absurd (none-some x (sym settled ∙ is)))
 
 -- what the machine has told, its run has told at its end, and more behind it
-pub ends_behind : (o : Object) (rules : RunsByRules o) (es : List Entry) (told : List (ℕ × Report)) → AreFitting (setup_of o) es → Breaks (started o) es told →
+pub ends_behind : (o : Object) (rules : RunsByRules o) (es left : List Entry) (seen : Seen) (told : List (ℕ × Report)) → AreFitting (setup_of o) es →
+    Handles (started o) es left seen told →
     (more : List (ℕ × Report)) × EndsTelling o es ((opening o ++ told) ++ more)
-ends_behind o rules es told fit breaks =
-    let goes : Goes (started o) (opening o) es (breaks.left ++ []) breaks.after told = stands o es breaks.left breaks.after told breaks.handles in
+ends_behind o rules es left seen told fit handles =
+    let goes : Goes (started o) (opening o) es (left ++ []) seen told = stands o es left seen told handles in
     let says : (after o es goes.steps).core.told ≡ opening o ++ told = ap (λ m. m.core.told) goes.is in
     let k = marked (engine o) (setup_of o) es goes.steps in
     let ends : laws.EndsTelling rules.offer (setup_of o) es k = last_tells rules.offer (setup_of o) es k in (

@@ -1,6 +1,7 @@
 -- Laws of what a sink took, for calls that write one part after another.
 use Rattle.std.proofs.Common.{◌≡◌, ◌≢◌, ◌⊎◌, ℕ, List, [], ◌∷◌, ◌++◌, Option, Some, None, Result, Ok, Err, length, take, drop, refl, ap, sym, inl, inr, ◌∙◌, subst, arith, append_assoc, length-append, length-drop}
 use Rattle.std.proofs.lemmas.List.{take-append-drop}
+use Rattle.std.specs.Prelude.{OnErr, OnOk}
 use Rattle.pearl_io.specs.Outside.{Takes, TakesFront}
 use Rattle.pearl_io.proofs.Offered.{takes_more}
 use Rattle.pearl_script.specs.Refusals.{refusal_line}
@@ -20,6 +21,21 @@ append_nil (x ∷ xs) = ap (λ ys. x ∷ ys) (append_nil xs)
 pub takes_none : (old : Option (List ℕ)) → Takes old old []
 takes_none None = refl
 takes_none (Some bytes) = ap Some (sym (append_nil bytes))
+
+-- AN ANSWER
+
+-- what is said of an answer, said otherwise
+pub on_ok : {A E : Type 0} (r : Result A E) (P Q : Type 0) → (P → Q) → OnOk r P → OnOk r Q
+on_ok (Ok x) P Q otherwise is = otherwise is
+on_ok (Err e) P Q otherwise is = tt
+
+pub on_err : {A E : Type 0} (r : Result A E) (P Q : Type 0) → (P → Q) → OnErr r P → OnErr r Q
+on_err (Ok x) P Q otherwise is = tt
+on_err (Err e) P Q otherwise is = otherwise is
+
+pub on_any : {A E : Type 0} (r : Result A E) (P : Type 0) → P → OnOk r P
+on_any (Ok x) P is = is
+on_any (Err e) P is = tt
 
 -- A FRONT
 

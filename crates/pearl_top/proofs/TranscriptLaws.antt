@@ -12,10 +12,10 @@ use Rattle.pearl_instructions.specs.Setups.{setup_of}
 use Rattle.pearl_script.specs.declared.refusal.Refusal.{Refusal}
 use Rattle.pearl_script.specs.Lines.{lines_of, report_line, close_line}
 use Rattle.pearl_script.specs.Refusals.{refusal_line}
-use Rattle.pearl_top.specs.Ready.{RunsByRules}
-use Rattle.pearl_top.specs.Replay.{started, Breaks}
-use Rattle.pearl_top.specs.Runners.{by_code, ended_of}
-use Rattle.pearl_top.specs.Transcript.{Close, Closed, Cut, closing, IsTranscript}
+use Rattle.pearl_machine.specs.Seen.{Seen, Handles}
+use Rattle.pearl_top.specs.Ready.{RunsByRules, started}
+use Rattle.pearl_top.specs.Runners.{by_code}
+use Rattle.pearl_top.specs.Transcript.{Close, Closed, Cut, closing, ended_of}
 use Rattle.pearl_top.proofs.RunEnds.{after, opening, ends_here, ends_when_done, ends_behind, EndsTelling, IsDone}
 
 -- the lines of two lists, one after the other
@@ -33,7 +33,7 @@ front_same setup told more all end e = rw (e, lines_of-append setup told more) (
 
 -- the whole of a run
 pub closed_text : (o : Object) (es : List Entry) (n : ℕ) → unsettled (after o es n) ≡ None → machine_next (after o es n) ≡ None →
-    IsTranscript (by_code o) es Closed (lines_of (setup_of o) (after o es n).core.told ++ machine_closing (setup_of o) (after o es n))
+    (by_code o).writes es Closed (lines_of (setup_of o) (after o es n).core.told ++ machine_closing (setup_of o) (after o es n))
 closed_text o es n settled no_mark = record {
   end = ended_of (after o es n).core (machine_offers (after o es n));
   ends = ends_here o es n settled no_mark;
@@ -42,7 +42,7 @@ closed_text o es n settled no_mark = record {
 
 -- a run that a refusal cuts short
 pub cut_text : (o : Object) (rules : RunsByRules o) (es : List Entry) (n : ℕ) (refusal : Refusal) → AreFitting (setup_of o) es → IsDone (after o es n) →
-    IsTranscript (by_code o) es (Cut refusal) (lines_of (setup_of o) (after o es n).core.told ++ refusal_line refusal)
+    (by_code o).writes es (Cut refusal) (lines_of (setup_of o) (after o es n).core.told ++ refusal_line refusal)
 cut_text o rules es n refusal fit done =
     let last : EndsTelling o es (after o es n).core.told = ends_when_done o rules es n fit done in record {
       end = last.end;
@@ -53,13 +53,13 @@ cut_text o rules es n refusal fit done =
 -- what was told so far, and what follows it in the transcript
 pub record HasRest (o : Object) (es : List Entry) (close : Close) (bytes : List ℕ) : Type 0 where
   pub rest : List ℕ
-  pub whole : IsTranscript (by_code o) es close (bytes ++ rest)
+  pub whole : (by_code o).writes es close (bytes ++ rest)
 
 -- the lines of what was told are a front of the transcript
-pub front_text : (o : Object) (rules : RunsByRules o) (es : List Entry) (told : List (ℕ × Report)) (close : Close) → AreFitting (setup_of o) es →
-    Breaks (started o) es told → HasRest o es close (lines_of (setup_of o) (opening o ++ told))
-front_text o rules es told close fit breaks =
-    let behind = ends_behind o rules es told fit breaks in
+pub front_text : (o : Object) (rules : RunsByRules o) (es left : List Entry) (seen : Seen) (told : List (ℕ × Report)) (close : Close) → AreFitting (setup_of o) es →
+    Handles (started o) es left seen told → HasRest o es close (lines_of (setup_of o) (opening o ++ told))
+front_text o rules es left seen told close fit handles =
+    let behind = ends_behind o rules es left seen told fit handles in
     let last : EndsTelling o es ((opening o ++ told) ++ behind.0) = behind.1 in record {
       rest = lines_of (setup_of o) behind.0 ++ closing (setup_of o) last.end close;
       whole = record {

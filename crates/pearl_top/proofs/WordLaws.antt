@@ -16,7 +16,7 @@ use Rattle.pearl_top.specs.declared.status.Status.{Status}
 use Rattle.pearl_top.specs.declared.status.Status.TheVariants.{Done, Usage, Refused, BadObject, BadJournal, ReadFault, WriteFault, NoMemory, TooLong, BadName}
 use Rattle.pearl_top.specs.BenchDue.{BenchDue}
 use Rattle.pearl_top.specs.CheckDue.{CheckDue, IsAccepted, IsUnaccepted}
-use Rattle.pearl_top.specs.Commands.{Command, Run, Check, Print, Compile, Exec, Listed, Bench, NoCommand, ReadsObject, names_of}
+use Rattle.pearl_top.specs.Commands.{Command, Run, Check, Print, Compile, Exec, Listed, Bench, Watch, NoCommand, ReadsObject, names_of}
 use Rattle.pearl_top.specs.CompileDue.{CompileDue, IsCompiled}
 use Rattle.pearl_top.specs.ObjectDue.{ExecDue, IsCodeOf, IsListed, IsNoObject, IsRefused, ListDue, ObjectDue}
 use Rattle.pearl_top.specs.Failures.{IsDue}
@@ -26,14 +26,15 @@ use Rattle.pearl_top.specs.RunDue.{IsSource, RunDue, SourceDue}
 use Rattle.pearl_top.specs.PrintDue.{IsPrinted, PrintDue}
 use Rattle.pearl_top.specs.Sources.{IsUnspelled}
 use Rattle.pearl_top.specs.Reading.{ASource, AnObject, MayHave, UnreadDue}
-use Rattle.pearl_top.specs.Ready.{IsReadyWith, RunsByRules}
+use Rattle.pearl_top.specs.Ready.{IsReadyWith, RunsByRules, start_of, started}
 use Rattle.pearl_top.specs.Runners.{by_code, by_rules}
-use Rattle.pearl_top.specs.Replay.{start_of, started}
 use Rattle.pearl_top.specs.Taken.{Ends, Finishes, OnlyDue}
+use Rattle.pearl_top.specs.WatchDue.{WatchDue}
 use Rattle.pearl_top.proofs.FileLaws.{at_file_unrisen}
 use Rattle.pearl_top.proofs.FromLaws.{from_held, from_read, from_refused, from_unread, from_unrisen, from_usage}
 use Rattle.pearl_top.proofs.FaithfulRuns.{journals_alike}
 use Rattle.pearl_top.proofs.TakenLaws.{ends_as, finishes_of}
+use Rattle.pearl_top.proofs.WatchLaws.{watch_read, watch_unrisen, watch_usage}
 
 -- AT THE SOURCE
 
@@ -131,6 +132,8 @@ unrisen (Compile source) files rose status bytes free due =
 unrisen (Listed object) files rose status bytes free due =
     at_file_unrisen AnObject (files object) (IsListed (files object)) (IsNoObject (files object)) (rose object) status bytes free due
 unrisen (Bench n) files rose status bytes free due = due
+unrisen (Watch object journal names) files rose status bytes free due =
+    watch_unrisen (files object) names (files journal) (rose object) (rose journal) status bytes free due
 
 -- where the status is none of want of memory, a read fault and a write fault, it is an outcome
 pub settles : (command : Command) (files : List ℕ → List ℕ) (rose : List ℕ → Type 0) (old new : Option (List ℕ)) (status : Status) →
@@ -184,6 +187,13 @@ exec_files object journal (first ∷ []) rose status bytes due = absurd due
 exec_files object journal (first ∷ second ∷ []) rose status bytes due = (first, second, due)
 exec_files object journal (first ∷ second ∷ third ∷ more) rose status bytes due = absurd due
 
+watch_files : (object journal : List ℕ) (names contents : List (List ℕ)) (rose : List ℕ → Type 0) (status : Status) (bytes : List ℕ) →
+    DueFor (Watch object journal names) contents rose status bytes → (first second : List ℕ) × WatchDue first names second (rose object) (rose journal) status bytes
+watch_files object journal names [] rose status bytes due = absurd due
+watch_files object journal names (first ∷ []) rose status bytes due = absurd due
+watch_files object journal names (first ∷ second ∷ []) rose status bytes due = (first, second, due)
+watch_files object journal names (first ∷ second ∷ third ∷ more) rose status bytes due = absurd due
+
 bench_due : (n : ℕ) (contents : List (List ℕ)) (rose : List ℕ → Type 0) (status : Status) (bytes : List ℕ) → DueFor (Bench n) contents rose status bytes →
     BenchDue n status bytes
 bench_due n [] rose status bytes due = due
@@ -217,6 +227,8 @@ usage_due (Print source) contents rose bytes due = absurd (let is = print_file s
 usage_due (Compile source) contents rose bytes due = absurd (let is = compile_file source contents rose Usage bytes due in is.1)
 usage_due (Listed object) contents rose bytes due = absurd (let is = list_file object contents rose Usage bytes due in is.1)
 usage_due (Bench n) contents rose bytes due = absurd (bench_due n contents rose Usage bytes due)
+usage_due (Watch object journal names) contents rose bytes due =
+    let is = watch_files object journal names contents rose Usage bytes due in absurd (watch_usage is.0 names is.1 (rose object) (rose journal) bytes is.2)
 
 none_due : (contents : List (List ℕ)) (rose : List ℕ → Type 0) (status : Status) (bytes : List ℕ) → DueFor NoCommand contents rose status bytes →
     OnlyDue Usage (refusal_line refusal.Usage) status bytes
@@ -230,6 +242,7 @@ object_due (Run source journal) contents rose bytes due =
     let is = run_files source journal contents rose BadObject bytes due in run_object is.0 is.1 (rose source) (rose journal) bytes is.2
 object_due (Exec object journal) contents rose bytes due = tt
 object_due (Listed object) contents rose bytes due = tt
+object_due (Watch object journal names) contents rose bytes due = tt
 object_due (Compile source) contents rose bytes due = let is = compile_file source contents rose BadObject bytes due in is.1
 object_due (Check source) contents rose bytes due = let is = check_file source contents rose BadObject bytes due in is.1
 object_due (Print source) contents rose bytes due = let is = print_file source contents rose BadObject bytes due in is.1
@@ -248,6 +261,9 @@ read_due (Run source journal) contents rose bytes due =
 read_due (Exec object journal) contents rose bytes due =
     let is = exec_files object journal contents rose ReadFault bytes due in
     some_rose object journal rose (exec_read is.0 is.1 (rose object) (rose journal) bytes is.2)
+read_due (Watch object journal names) contents rose bytes due =
+    let is = watch_files object journal names contents rose ReadFault bytes due in
+    some_rose object journal rose (watch_read is.0 names is.1 (rose object) (rose journal) bytes is.2)
 read_due (Compile source) contents rose bytes due =
     let is = compile_file source contents rose ReadFault bytes due in (0, source, omega arith, refl, is.1.0)
 read_due (Listed object) contents rose bytes due =

@@ -1,6 +1,7 @@
 -- Which words are a command, and which files a command reads.
-use Rattle.std.specs.Prelude.{◌≡◌, ℕ, zero, suc, ◌≤◌, if◌then◌else◌, List, [], ◌∷◌, codes, bytes_eq}
+use Rattle.std.specs.Prelude.{◌≡◌, ℕ, zero, suc, ◌≤◌, if◌then◌else◌, List, [], ◌∷◌, codes, bytes_eq, length, map, nat_le, string_bytes}
 use Rattle.std.specs.Fmt.{decimal}
+use Rattle.pearl_top.specs.declared.limits.TheConstants.{NAME_LIMIT}
 use Rattle.pearl_top.specs.declared.command.Command as code
 use Rattle.pearl_top.specs.declared.command.Command.TheVariants as borrowed
 
@@ -13,6 +14,7 @@ pub data Command : Type 0 where
   Exec : (object journal : List ℕ) → Command
   Listed : (object : List ℕ) → Command
   Bench : (n : ℕ) → Command
+  Watch : (object journal : List ℕ) → (names : List (List ℕ)) → Command
   NoCommand : Command
 
 -- the workload of the number that these digits spell, if it is one from 1 to n
@@ -32,15 +34,25 @@ of_one =
 abbrev pub of_two : List (List ℕ × (List ℕ → List ℕ → Command))
 of_two = (codes "run", Run) ∷ (codes "exec", Exec) ∷ []
 
+-- those that stand before two more and names behind these
+abbrev pub of_names : List (List ℕ × (List ℕ → List ℕ → List (List ℕ) → Command))
+of_names = (codes "watch", Watch) ∷ []
+
 -- what a word asks for, or else nothing
 abbrev pub asked : {A : Type 0} → A → List (List ℕ × A) → List ℕ → A
 asked nothing [] word = nothing
 asked nothing (row ∷ rows) word = if bytes_eq word row.0 then row.1 else asked nothing rows word
 
+-- there are at most 64 names
+abbrev pub unless_many : List (List ℕ) → Command → Command
+unless_many names command = if nat_le (length names) NAME_LIMIT then command else NoCommand
+
 -- the command of the words after the program's name; any others are no command
 abbrev pub command_of : List (List ℕ) → Command
 command_of (word ∷ name ∷ []) = asked (λ name. NoCommand) of_one word name
 command_of (word ∷ name ∷ second ∷ []) = asked (λ name second. NoCommand) of_two word name second
+command_of (word ∷ name ∷ second ∷ third ∷ more) =
+    unless_many (third ∷ more) (asked (λ name second names. NoCommand) of_names word name second (third ∷ more))
 command_of words = NoCommand
 
 -- the names of the files that a command reads, in order
@@ -52,6 +64,7 @@ names_of (Compile source) = source ∷ []
 names_of (Exec object journal) = object ∷ journal ∷ []
 names_of (Listed object) = object ∷ []
 names_of (Bench n) = []
+names_of (Watch object journal names) = object ∷ journal ∷ []
 names_of NoCommand = []
 
 -- the command reads an object
@@ -63,6 +76,7 @@ ReadsObject (Compile source) = ⊥
 ReadsObject (Exec object journal) = Unit {0}
 ReadsObject (Listed object) = Unit {0}
 ReadsObject (Bench n) = ⊥
+ReadsObject (Watch object journal names) = Unit {0}
 ReadsObject NoCommand = ⊥
 
 -- the code's command, which borrows the names, is this one
@@ -74,4 +88,5 @@ IsCommand (borrowed.Compile source) command = command ≡ Compile source.now
 IsCommand (borrowed.Exec object journal) command = command ≡ Exec object.now journal.now
 IsCommand (borrowed.List object) command = command ≡ Listed object.now
 IsCommand (borrowed.Bench n) command = (command ≡ Bench n) × (1 ≤ n) × (n ≤ 100)
+IsCommand (borrowed.Watch object journal names) command = command ≡ Watch object.now journal.now (map string_bytes names.now)
 IsCommand borrowed.None command = command ≡ NoCommand

@@ -6,11 +6,12 @@ use Rattle.pearl_program.specs.PlainPrograms.{PlainProg}
 use Rattle.pearl_instructions.specs.declared.object.Parts.{Parts as Object}
 use Rattle.pearl_instructions.specs.Setups.{setup_of}
 use Rattle.pearl_top.specs.declared.limits.TheConstants.{JOURNAL_LIMIT}
-use Rattle.pearl_top.specs.Commands.{Command, Run, Check, Print, Compile, Exec, Listed, Bench, NoCommand}
+use Rattle.pearl_top.specs.Commands.{Command, Run, Check, Print, Compile, Exec, Listed, Bench, Watch, NoCommand}
 use Rattle.pearl_top.specs.CheckDue.{BreaksNone}
 use Rattle.pearl_journal.specs.Entries.{All, entries}
 use Rattle.pearl_journal.specs.Lines.{journal_lines}
 use Rattle.pearl_meaning.specs.ProgramRuns.{setup_of as tables_of}
+use Rattle.pearl_watch.specs.Watched.{AreAccepted}
 use Rattle.pearl_bench.specs.Texts.{journal_of, source_of}
 use Rattle.pearl_top.specs.ObjectDue.{IsCodeOf, IsFileOf}
 use Rattle.pearl_top.specs.RunDue.{IsSource}
@@ -32,6 +33,11 @@ pub record CanExecute (object journal : List ℕ) : Type 0 where
   pub es : List Entry
   pub read : entries (setup_of o) (journal_lines journal) ≡ record { accepted = es; ending = All }
 
+-- and none of the names is refused
+pub record CanWatch (object journal : List ℕ) (names : List (List ℕ)) : Type 0 where
+  pub can : CanExecute object journal
+  pub accepted : AreAccepted can.o.leaves names
+
 -- the words are a command, and the files that they name are in order
 abbrev pub IsInOrder : Command → (List ℕ → List ℕ) → Type 0
 IsInOrder NoCommand files = ⊥
@@ -41,4 +47,5 @@ IsInOrder (Print source) files = (tree : Tree) × IsTree (files source) tree
 IsInOrder (Compile source) files = BreaksNone (files source)
 IsInOrder (Exec object journal) files = CanExecute (files object) (files journal)
 IsInOrder (Listed object) files = (o : Object) × IsFileOf (files object) o
+IsInOrder (Watch object journal names) files = CanWatch (files object) (files journal) names
 IsInOrder (Bench n) files = AreInOrder (source_of n) journal_of

@@ -10,8 +10,10 @@ use Rattle.pearl_object.specs.declared.fault.ReadFail.{ReadFail}
 use Rattle.pearl_object.specs.declared.fault.ReadFail.TheVariants as read
 use Rattle.pearl_verify.specs.declared.verify.VerifyFault.{VerifyFault}
 use Rattle.pearl_verify.specs.declared.verify.VerifyFault.TheVariants as verify
+use Rattle.pearl_watch.specs.declared.fault.WatchFault.{WatchFault}
+use Rattle.pearl_watch.specs.declared.fault.WatchFault.TheVariants as watch
 use Rattle.pearl_script.specs.declared.refusal.Refusal.{Refusal}
-use Rattle.pearl_script.specs.declared.refusal.Refusal.TheVariants.{Syntax, Source, Object, Unsound, Memory}
+use Rattle.pearl_script.specs.declared.refusal.Refusal.TheVariants.{Syntax, Source, Object, Unsound, Memory, Name}
 use Rattle.pearl_script.specs.Refusals.{refusal_line}
 use Rattle.pearl_top.specs.declared.failure.Failure.{Failure}
 use Rattle.pearl_top.specs.declared.failure.Failure.TheVariants.{Refused, WriteFault}
@@ -42,6 +44,11 @@ read_refusal read.NoMemory = Memory
 abbrev pub verify_refusal : VerifyFault → Refusal
 verify_refusal (verify.Unsound routine instruction rule) = Unsound routine instruction rule
 verify_refusal verify.NoMemory = Memory
+
+-- of names of which one can't be watched
+abbrev pub watch_refusal : WatchFault → Refusal
+watch_refusal (watch.BadName number) = Name number
+watch_refusal watch.NoMemory = Memory
 
 -- the failure is a refusal, whose line alone is due with its status
 abbrev pub IsDue : (Status → List ℕ → Type 0) → Failure → Type 0

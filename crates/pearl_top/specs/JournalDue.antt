@@ -9,13 +9,13 @@ use Rattle.pearl_journal.specs.Entries.{Ending, All, Bad, entries_from}
 use Rattle.pearl_journal.specs.Lines.{journal_lines, ended_lines}
 use Rattle.pearl_top.specs.Reading.{Sort, DueAt}
 use Rattle.pearl_top.specs.Runners.{Runner}
-use Rattle.pearl_top.specs.Transcript.{Close, Closed, Cut, IsTranscript}
+use Rattle.pearl_top.specs.Transcript.{Close, Closed, Cut}
 
 -- the entries of these lines, by the tables, end so, and what their run writes, with what closes it, are these bytes
 pub record IsRun (runner : Runner) (lines : List (List ℕ)) (ending : Ending) (close : Close) (bytes : List ℕ) : Type 0 where
   pub es : List Entry
   pub read : entries_from runner.setup runner.first lines ≡ record { accepted = es; ending = ending }
-  pub written : IsTranscript runner es close bytes
+  pub written : runner.writes es close bytes
 
 abbrev pub handled_if : Bool → List ℕ → List (List ℕ)
 handled_if true journal = journal_lines journal

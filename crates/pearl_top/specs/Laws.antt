@@ -24,7 +24,7 @@ use Rattle.pearl_top.specs.RunDue.{IsSource}
 use Rattle.pearl_top.specs.Complete.{IsInOrder}
 use Rattle.pearl_top.specs.Ready.{RunsByRules}
 use Rattle.pearl_top.specs.Runners.{by_code, by_rules}
-use Rattle.pearl_top.specs.Transcript.{Close, IsTranscript}
+use Rattle.pearl_top.specs.Transcript.{Close}
 
 -- a source means one program
 abbrev pub HasOneMeaning : Type 0
@@ -33,12 +33,12 @@ HasOneMeaning = (source : List ℕ) (p q : PlainProg) → IsSource source p → 
 -- a source writes one thing over the entries of a journal
 abbrev pub HasOneTranscript : Type 0
 HasOneTranscript = (source : List ℕ) (p q : PlainProg) → IsSource source p → IsSource source q → (es : List Entry) (close : Close) (bytes others : List ℕ) →
-    IsTranscript (by_rules p) es close bytes → IsTranscript (by_rules q) es close others → bytes ≡ others
+    (by_rules p).writes es close bytes → (by_rules q).writes es close others → bytes ≡ others
 
 -- an object that does what a program means writes the program's transcript over any entries that fit
 abbrev pub ObjectsWriteAlike : Type 0
 ObjectsWriteAlike = (p : PlainProg) (o : Object) → IsFaithfulTo p o → (es : List Entry) → AreFitting (setup_of o) es → (close : Close) (bytes : List ℕ) →
-    IsTranscript (by_code o) es close bytes → IsTranscript (by_rules p) es close bytes
+    (by_code o).writes es close bytes → (by_rules p).writes es close bytes
 
 -- a valid object runs as some task rules say, and its runs come to their ends
 abbrev pub ValidObjectsRun : Type 0

@@ -10,11 +10,13 @@ pub mod Commands
 pub mod Failures
 -- what a sink took in a call, measured against what was due
 pub mod Taken
--- what runs over the entries of a journal, and where that ends
-pub mod Runners
--- what a run over the entries of a journal writes
+-- what a run over the entries of a journal writes, by how it ends
 pub mod Transcript
--- how a machine goes over a journal
+-- what runs over the entries of a journal, and what it writes
+pub mod Runners
+-- what goes over the entries of a journal, and which laws it keeps
+pub mod Going
+-- how what goes over a journal does so
 pub mod Replay
 -- what is due at and after a journal, for whatever runs over it
 pub mod JournalDue
@@ -32,6 +34,8 @@ pub mod RunDue
 pub mod CompileDue
 -- what is due for an object that is executed or listed
 pub mod ObjectDue
+-- what is due for an object of which some leaves are watched
+pub mod WatchDue
 -- what is due for the workload of a number
 pub mod BenchDue
 -- which status and which bytes belong to some words and files
@@ -42,3 +46,5 @@ pub mod Complete
 pub mod Laws
 -- when a machine is ready to run from its start
 pub mod Ready
+-- a machine and a monitor, as what goes over a journal
+pub mod Followers

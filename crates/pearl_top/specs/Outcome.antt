@@ -6,12 +6,13 @@ use Rattle.pearl_top.specs.declared.status.Status.{Status}
 use Rattle.pearl_top.specs.declared.status.Status.TheVariants.{Usage, NoMemory}
 use Rattle.pearl_top.specs.BenchDue.{BenchDue}
 use Rattle.pearl_top.specs.CheckDue.{CheckDue}
-use Rattle.pearl_top.specs.Commands.{Command, Run, Check, Print, Compile, Exec, Listed, Bench, NoCommand, names_of}
+use Rattle.pearl_top.specs.Commands.{Command, Run, Check, Print, Compile, Exec, Listed, Bench, Watch, NoCommand, names_of}
 use Rattle.pearl_top.specs.CompileDue.{CompileDue}
 use Rattle.pearl_top.specs.ObjectDue.{ExecDue, ListDue}
 use Rattle.pearl_top.specs.PrintDue.{PrintDue}
 use Rattle.pearl_top.specs.RunDue.{RunDue}
 use Rattle.pearl_top.specs.Taken.{OnlyDue}
+use Rattle.pearl_top.specs.WatchDue.{WatchDue}
 
 -- What is due for a command, where these are the bytes of the files that it names, in order. `rose` tells of each name whether its
 -- count of faults rose.
@@ -24,6 +25,7 @@ DueFor (Compile source_name) (source ∷ []) rose = CompileDue source (rose sour
 DueFor (Exec object_name journal_name) (object ∷ journal ∷ []) rose = ExecDue object journal (rose object_name) (rose journal_name)
 DueFor (Listed object_name) (object ∷ []) rose = ListDue object (rose object_name)
 DueFor (Bench n) [] rose = BenchDue n
+DueFor (Watch object_name journal_name names) (object ∷ journal ∷ []) rose = WatchDue object names journal (rose object_name) (rose journal_name)
 DueFor _ contents rose = λ status bytes. ⊥
 
 -- the same where `files` tells the bytes of each name

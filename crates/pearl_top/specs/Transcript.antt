@@ -1,11 +1,20 @@
--- What a run over the entries of a journal writes.
+-- What a run over the entries of a journal writes, by how it ends.
 use Rattle.std.specs.Prelude.{◌≡◌, ℕ, List, ◌++◌}
-use Rattle.pearl_rules.specs.declared.entry.Entry.{Entry}
 use Rattle.pearl_rules.specs.declared.setup.Setup.{Setup}
+use Rattle.pearl_rules.specs.Core.{Core, Report}
+use Rattle.pearl_rules.specs.Pick.{Offered, states}
 use Rattle.pearl_script.specs.declared.refusal.Refusal.{Refusal}
 use Rattle.pearl_script.specs.Lines.{lines_of, close_line}
 use Rattle.pearl_script.specs.Refusals.{refusal_line}
-use Rattle.pearl_top.specs.Runners.{Ended, Runner}
+
+-- how a run ends: what was told, how each task stands, and the moment
+pub record Ended : Type 0 where
+  pub told : List (ℕ × Report)
+  pub stand : List (ℕ × Report)
+  pub moment : ℕ
+
+abbrev pub ended_of : Core → Offered → Ended
+ended_of core offers = record { told = core.told; stand = states core offers; moment = core.moment }
 
 -- how what is written ends: by the tasks' states and the closing line, or by the line of a refusal
 pub data Close : Type 0 where
@@ -16,8 +25,8 @@ abbrev pub closing : Setup → Ended → Close → List ℕ
 closing setup end Closed = lines_of setup end.stand ++ close_line end.moment
 closing setup end (Cut refusal) = refusal_line refusal
 
--- the lines of all that is told up to the end of the run over these entries, and what closes them
-pub record IsTranscript (runner : Runner) (es : List Entry) (close : Close) (bytes : List ℕ) : Type 0 where
+-- the lines of all that is told up to the end of a run that ends in such a way, and what closes them
+pub record IsTranscript (setup : Setup) (EndsSo : Ended → Type 0) (close : Close) (bytes : List ℕ) : Type 0 where
   pub end : Ended
-  pub ends : runner.ends es end
-  pub text : bytes ≡ lines_of runner.setup end.told ++ closing runner.setup end close
+  pub ends : EndsSo end
+  pub text : bytes ≡ lines_of setup end.told ++ closing setup end close

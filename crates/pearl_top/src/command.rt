@@ -2,26 +2,49 @@
 
 ghost use Rattle.std.specs.Prelude.{◌≡◌, List, bytes_eq, map, string_bytes};
 ghost use Rattle.std.specs.Fmt.{decimal};
-ghost use Rattle.pearl_top.specs.Commands.{NoCommand, asked, bench_of as bench_of_digits, command_of, of_one as of_one_word, of_two as of_two_words, IsCommand};
+ghost use Rattle.pearl_top.specs.Commands.{NoCommand, asked, bench_of as bench_of_digits, command_of, of_one as of_one_word, of_two as of_two_words, of_names as of_names_words, unless_many, IsCommand};
 
+use crate::limits::NAME_LIMIT;
 use itoa::Buffer;
 
 /// What the words ask for.
 pub enum Command<'a> {
     /// `run SOURCE JOURNAL`.
-    Run { source: &'a str, journal: &'a str },
+    Run {
+        source: &'a str,
+        journal: &'a str,
+    },
     /// `check SOURCE`.
-    Check { source: &'a str },
+    Check {
+        source: &'a str,
+    },
     /// `print SOURCE`.
-    Print { source: &'a str },
+    Print {
+        source: &'a str,
+    },
     /// `compile SOURCE`.
-    Compile { source: &'a str },
+    Compile {
+        source: &'a str,
+    },
     /// `exec OBJECT JOURNAL`.
-    Exec { object: &'a str, journal: &'a str },
+    Exec {
+        object: &'a str,
+        journal: &'a str,
+    },
     /// `list OBJECT`.
-    List { object: &'a str },
+    List {
+        object: &'a str,
+    },
     /// `bench N`, N from 1 to 100 without leading zeros.
-    Bench { n: u8 },
+    Bench {
+        n: u8,
+    },
+    /// `watch OBJECT JOURNAL NAME ..`, with 1 to 64 names.
+    Watch {
+        object: &'a str,
+        journal: &'a str,
+        names: &'a [String],
+    },
     /// The words are none of the listed forms.
     None,
 }
@@ -33,6 +56,12 @@ pub fn command_of_words(words: &[String]) -> Command<'_>
     match words {
         [word, name] => of_one(word.as_str(), name.as_str()),
         [word, name, second] => of_two(word.as_str(), name.as_str(), second.as_str()),
+        [word, name, second, more @ ..] => of_more(
+            word.as_str(),
+            name.as_str(),
+            second.as_str(),
+            more,
+        ),
         _ => Command::None,
     }
 }
@@ -69,6 +98,22 @@ fn of_two<'a>(word: &str, name: &'a str, second: &'a str) -> Command<'a>
         Command::Exec {
             object: name,
             journal: second,
+        }
+    } else {
+        Command::None
+    }
+}
+
+// The command of a word, two more, and any number behind these.
+fn of_more<'a>(word: &str, name: &'a str, second: &'a str, more: &'a [String]) -> Command<'a>
+    ensures { IsCommand result (unless_many (map string_bytes more.now)
+        (asked (λ name second names. NoCommand) of_names_words word.now name.now second.now (map string_bytes more.now))) }
+{
+    if word == "watch" && more.len() <= NAME_LIMIT {
+        Command::Watch {
+            object: name,
+            journal: second,
+            names: more,
         }
     } else {
         Command::None

@@ -1,7 +1,7 @@
 // Why a command was not carried out to its end.
 
 ghost use Rattle.std.specs.Prelude.{◌≡◌};
-ghost use Rattle.pearl_top.specs.Failures.{check_refusal, lex_refusal, parse_refusal, read_refusal, verify_refusal};
+ghost use Rattle.pearl_top.specs.Failures.{check_refusal, lex_refusal, parse_refusal, read_refusal, verify_refusal, watch_refusal};
 ghost use Rattle.pearl_top.specs.declared.failure.Failure.TheVariants as failure;
 ghost use Rattle.pearl_script.specs.declared.refusal.Refusal.TheVariants as refusal;
 
@@ -14,6 +14,7 @@ use pearl_parse_expr::fault::ParseFault;
 use pearl_script::refusal::Refusal;
 use pearl_tree::fault::RuleFault;
 use pearl_verify::verify::VerifyFault;
+use pearl_watch::fault::WatchFault;
 use std::alloc::AllocError;
 
 /// Why a command was not carried out to its end.
@@ -115,5 +116,16 @@ impl From<BadLine> for Failure {
             line: bad.line,
             code: bad.code,
         })
+    }
+}
+
+impl From<WatchFault> for Failure {
+    ghost from_gives = { λ fault e. e ≡ failure.Refused (watch_refusal fault) };
+
+    fn from(fault: WatchFault) -> Failure {
+        match fault {
+            WatchFault::BadName(number) => Failure::Refused(Refusal::Name(number)),
+            WatchFault::NoMemory => Failure::Refused(Refusal::Memory),
+        }
     }
 }

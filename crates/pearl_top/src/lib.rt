@@ -6,6 +6,7 @@ mod check;
 mod command;
 mod compile;
 mod failure;
+mod follower;
 pub mod laws;
 mod limits;
 mod load;

@@ -15,6 +15,7 @@ ghost use Rattle.pearl_top.specs.RunDue.{RunDue};
 ghost use Rattle.pearl_top.specs.PrintDue.{PrintDue};
 ghost use Rattle.pearl_top.specs.Reading.{MayHave};
 ghost use Rattle.pearl_top.specs.Taken.{Ends, Finishes, OnlyDue, Leaves};
+ghost use Rattle.pearl_top.specs.WatchDue.{WatchDue};
 
 use crate::bench::bench_line;
 use crate::check::{line_of, sizes_of};
@@ -22,7 +23,7 @@ use crate::command::{Command, command_of_words};
 use crate::compile::{compiled, machine_of};
 use crate::failure::Failure;
 use crate::limits::{OBJECT_LIMIT, SOURCE_LIMIT};
-use crate::object::{listing_in, machine_in};
+use crate::object::{listing_in, machine_in, monitor_in};
 use crate::print::canonical_text;
 use crate::read::read_whole;
 use crate::refuse::conclude;
@@ -114,6 +115,11 @@ fn carry_out<S: Shelf, K: Sink>(
         Command::Exec { object, journal } => exec(alloc, object, journal, shelf, sink),
         Command::List { object } => list(alloc, object, shelf, sink),
         Command::Bench { n } => bench(alloc, n, sink),
+        Command::Watch {
+            object,
+            journal,
+            names,
+        } => watch(alloc, object, journal, names, shelf, sink),
         Command::None => Err(Failure::Refused(Refusal::Usage)),
     }
 }
@@ -223,6 +229,30 @@ fn exec<S: Shelf, K: Sink>(
     let mut machine = machine_in(alloc, bytes.as_slice())?;
     let mut lines = Lines::new(alloc)?;
     replay(&mut machine, &mut lines, journal, shelf, sink)
+}
+
+// Carries out `watch OBJECT JOURNAL NAME ..`.
+fn watch<S: Shelf, K: Sink>(
+    alloc: Global,
+    object: &str,
+    journal: &str,
+    names: &[String],
+    shelf: &mut S,
+    sink: &mut K,
+) -> Result<(), Failure>
+    ensures ends { let rose = λ (name : List ℕ). CountRose (S.faults shelf.old name) (S.faults shelf.new name) in
+        let failed = WriteFailed (K.faults sink.old) (K.faults sink.new) (K.full sink.new) in
+        (first second : List ℕ) × MayHave (S.holds shelf.old) object.now first × MayHave (S.holds shelf.old) journal.now second
+        × Leaves (K.taken sink.old) (K.taken sink.new) failed
+        (WatchDue first (map string_bytes names.now) second (rose object.now) (rose journal.now)) result }
+    ensures held { S.holds shelf.new ≡ S.holds shelf.old }
+    ensures shelf_later { (name : List ℕ) → S.faults shelf.old name ≤ S.faults shelf.new name }
+    ensures sink_later { K.faults sink.old ≤ K.faults sink.new }
+{
+    let bytes = read_whole(alloc, shelf, object, OBJECT_LIMIT)?;
+    let mut monitor = monitor_in(alloc, bytes.as_slice(), names)?;
+    let mut lines = Lines::new(alloc)?;
+    replay(&mut monitor, &mut lines, journal, shelf, sink)
 }
 
 // Carries out `list OBJECT`.

@@ -1,7 +1,9 @@
 // Commands that read one file, and those that read an object and a journal, each of whose calls fails in turn.
 
-use crate::case::{CHECK, COMPILE, EXEC, Ended, LIST, PRINT, ROOM, RUN, end_of, owned, two_files};
-use crate::pieces::{READ, RUNS, Run, WRITTEN, journal_of};
+use crate::case::{
+    CHECK, COMPILE, EXEC, Ended, LIST, PRINT, ROOM, RUN, WATCH, end_of, owned, two_files,
+};
+use crate::pieces::{MONITORED, READ, RUNS, Run, WRITTEN, journal_of, transcript_of, written_of};
 use crate::run::FIRST;
 use pearl_io::{MemoryShelf, MemorySink};
 use pearl_top::status::Status;
@@ -121,6 +123,52 @@ fn executes_alike(alloc: Global, run: &Run) -> Result<bool, AllocError> {
         journal: journal.as_str(),
     };
     fails_alike(alloc, source, exec)
+}
+
+// Whether each call for what is written may fail where each line is one piece: all before it is taken.
+fn lines_may_fail(alloc: Global, of: Command, text: &str) -> Result<bool, AllocError> {
+    let mut taken = Vec::new(alloc);
+    let mut call: u64 = 0;
+    for line in text.split_inclusive('\n') {
+        for piece in line.as_bytes().chunks(WRITTEN) {
+            call = call.saturating_add(1);
+            let fault = broken_off(alloc, of, 0, call)?;
+            if !fault.is(Status::WriteFault, taken.as_slice()) {
+                return Ok(false);
+            }
+            taken.extend_from_slice(piece)?;
+        }
+    }
+    let last = broken_off(alloc, of, 0, call.saturating_add(1))?;
+    Ok(last.is(Status::Done, text.as_bytes()))
+}
+
+// Whether each call of a monitor may fail: those for the object, those for the journal, behind the lines that were read
+// whole, and those for what is written.
+fn monitor_may_fail(alloc: Global, run: &Run) -> Result<bool, AllocError> {
+    let journal = journal_of(alloc, run)?;
+    let object = end_of(alloc, COMPILE, run.source.as_bytes(), "", ROOM)?.bytes;
+    let of = Command {
+        words: WATCH,
+        bytes: object.as_slice(),
+        journal: journal.as_str(),
+    };
+    for before in 0..calls_for(journal.len()) {
+        let text = written_of(alloc, run, (before as usize).saturating_mul(READ))?;
+        let call = calls_for(object.len()).saturating_add(before);
+        let fault = broken_off(alloc, of, call.saturating_add(1), 0)?;
+        if !fault.is(Status::ReadFault, text.as_bytes()) {
+            return Ok(false);
+        }
+    }
+    let text = transcript_of(alloc, run)?;
+    Ok(first_other_fetch(alloc, of)?.is_none() && lines_may_fail(alloc, of, text.as_str())?)
+}
+
+#[test]
+fn each_call_of_a_monitor_may_fail(rt: HostRuntime) -> Result<(), Fail> {
+    assert!(rt; monitor_may_fail(rt.alloc(), &MONITORED)?);
+    Ok(())
 }
 
 #[test]

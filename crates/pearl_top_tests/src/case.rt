@@ -21,6 +21,9 @@ pub const COMPILE: &[&str] = &["compile", "s"];
 /// The words of an execution of s over j.
 pub const EXEC: &[&str] = &["exec", "s", "j"];
 
+/// The words of a monitor of x in s over j.
+pub const WATCH: &[&str] = &["watch", "s", "j", "x"];
+
 /// The words of a listing of s.
 pub const LIST: &[&str] = &["list", "s"];
 

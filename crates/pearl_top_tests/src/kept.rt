@@ -1,7 +1,8 @@
 // Objects that are kept in files: what `compile`, `exec` and `list` write.
 
 use crate::case::{
-    COMPILE, EXEC, Ended, LIST, PRINT, ROOM, RUN, Table, end_of, failed, first_executed_otherwise,
+    COMPILE, EXEC, Ended, LIST, PRINT, ROOM, RUN, Table, WATCH, end_of, failed,
+    first_executed_otherwise,
 };
 use crate::check::PLANT;
 use crate::run::FIRST;
@@ -25,11 +26,11 @@ pub static OTHER_WORDS: [&[&str]; 10] = [
     &["s", "exec", "j"],
 ];
 
-// The object of a module without anything.
-const EMPTY: [u8; 10] = [0x50, 0x52, 0x4c, 0x31, 0, 0, 0, 0, 0, 0];
+/// The object of a module without anything.
+pub const EMPTY: [u8; 10] = [0x50, 0x52, 0x4c, 0x31, 0, 0, 0, 0, 0, 0];
 
-// A task with a constant and a jump over nothing, behind which an operand is left.
-const JUMP: [u8; 26] = [
+/// A task with a constant and a jump over nothing, behind which an operand is left.
+pub const JUMP: [u8; 26] = [
     0x50, 0x52, 0x4c, 0x31, 0, 0, 0, 0, 0, 1, 1, 0x74, 0xff, 1, 1, 0, 1, 3, 0, 0, 0x1f, 2, 0x13, 2,
     0x19, 0,
 ];
@@ -184,7 +185,7 @@ fn faults_outside_end_a_command_on_objects(rt: HostRuntime) -> Result<(), Fail> 
     let alloc = rt.alloc();
     let object = compiled(alloc, FIRST)?.bytes;
     let read = b"error read\n".as_slice();
-    for words in [EXEC, LIST] {
+    for words in [EXEC, LIST, WATCH] {
         let fault = failed(alloc, words, object.as_slice(), "run 9\n", &[1], &[])?;
         assert!(rt; fault.is(Status::ReadFault, read));
         let fault = failed(alloc, words, object.as_slice(), "run 9\n", &[], &[1])?;
@@ -226,12 +227,12 @@ fn texts_objects_listings_and_summaries_are_one_piece(rt: HostRuntime) -> Result
 fn an_object_has_at_most_16777216_bytes(rt: HostRuntime) -> Result<(), Fail> {
     let alloc = rt.alloc();
     let mut bytes = vec![in alloc; 0; 16_777_216]?;
-    for words in [EXEC, LIST] {
+    for words in [EXEC, LIST, WATCH] {
         let ended = end_of(alloc, words, bytes.as_slice(), "", ROOM)?;
         assert!(rt; ended.is(Status::BadObject, b"error object 0\n".as_slice()));
     }
     bytes.push(0)?;
-    for words in [EXEC, LIST] {
+    for words in [EXEC, LIST, WATCH] {
         let ended = end_of(alloc, words, bytes.as_slice(), "", ROOM)?;
         assert!(rt; ended.is(Status::TooLong, b"error too long 16777217\n".as_slice()));
     }

@@ -52,4 +52,6 @@ mod timed;
 #[cfg(test)]
 mod typed;
 #[cfg(test)]
+mod watch;
+#[cfg(test)]
 mod whole;

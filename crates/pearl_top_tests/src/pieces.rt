@@ -91,6 +91,22 @@ pub static RUNS: [Run; 5] = [
     },
 ];
 
+/// A monitor of x, the source being that of its object, over a journal that is accepted.
+pub static MONITORED: Run = Run {
+    source: "MODULE;PROBLEM;DCL x FIXED;a:TASK MAIN;x:=x+1;AFTER 1 SEC RESUME;x:=9;END;MODEND",
+    begin: "0 0 value x 0 0\n",
+    lines: &[
+        ("# x\n", ""),
+        ("run 1\n", ""),
+        ("run 9\r\n", "2 0 value x 0 1\n"),
+        ("state\n", ""),
+        ("pass 1002 9\n", "1005 1000 value x 0 9\n"),
+        ("run 9", ""),
+    ],
+    status: Status::Done,
+    end: "1008 1002 close\n",
+};
+
 /// The lines of its journal.
 pub fn journal_of(alloc: Global, run: &Run) -> Result<String, AllocError> {
     let mut journal = String::new(alloc);
@@ -100,7 +116,8 @@ pub fn journal_of(alloc: Global, run: &Run) -> Result<String, AllocError> {
     Ok(journal)
 }
 
-fn transcript_of(alloc: Global, run: &Run) -> Result<String, AllocError> {
+/// All that is written of it.
+pub fn transcript_of(alloc: Global, run: &Run) -> Result<String, AllocError> {
     let mut transcript = String::from_str(alloc, run.begin)?;
     for (_, told) in run.lines {
         transcript.push_str(told)?;
@@ -193,8 +210,8 @@ fn a_write_may_fail_within_each_line(rt: HostRuntime) -> Result<(), Fail> {
     Ok(())
 }
 
-// What is written where the shelf gives so many bytes of the journal and then fails.
-fn written_of(alloc: Global, run: &Run, given: usize) -> Result<String, AllocError> {
+/// What is written where the shelf gives so many bytes of the journal and then fails.
+pub fn written_of(alloc: Global, run: &Run, given: usize) -> Result<String, AllocError> {
     let mut text = String::from_str(alloc, run.begin)?;
     let mut at: usize = 0;
     for (line, told) in run.lines {

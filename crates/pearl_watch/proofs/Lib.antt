@@ -10,3 +10,4 @@ mod Still
 mod Showing
 mod Whole
 mod Entering
+pub mod Offered

@@ -12,12 +12,10 @@ use Rattle.pearl_top.proofs.replay.carry_out_piece.Goals as goal
 
 pub lines-init : goal.lines-init
 lines-init g c = record {
-  carried = ([], refl, carried-none c.args.lines.now c.args.machine.now _);
+  carried = ([], refl, carried-none g.F.Follower.going c.laws.ensures.in_turn c.args.lines.now c.args.follower.now _ c.requires.rests);
   no_whole = c.requires.no_whole;
   unfinished = c.requires.unfinished;
   counted = omega arith;
-  taken = c.requires.taken;
-  object = refl;
   later = omega arith;
 }
 
@@ -27,11 +25,11 @@ returns-in_err-carry_out_line-clause-err g c =
     let n = c.feed-count.result in
     let left = c.lines.left.now in
     let p = err_from_is_err_and c.from_residual.result c.from_residual.ensures.1 in
-    rw (p.1, p.2) (subst (λ all. IsFailure c.in_err-carry_out_line.field-0.0 c.args.lines.now c.args.machine.now all c.carry_out_line.new.machine (g.K.Sink.taken c.args.sink.now)
+    rw (p.1, p.2) (subst (λ all. IsFailure g.F.Follower.going c.in_err-carry_out_line.field-0.0 c.args.lines.now c.args.follower.now all c.carry_out_line.new.follower (g.K.Sink.taken c.args.sink.now)
     (g.K.Sink.taken c.carry_out_line.new.sink) (WriteFailed (g.K.Sink.faults c.args.sink.now) (g.K.Sink.faults c.carry_out_line.new.sink) (g.K.Sink.full c.carry_out_line.new.sink)))
     (sym (more_front c.args.piece.now so_far.0 left n so_far.1))
-    (fails-behind c.args.lines.now c.args.machine.now c.carry_out_line.new.machine (so_far.0 ++ take n left) (drop n left) _ _ c.in_err-carry_out_line.field-0.0 _
-    (fails-line c.args.lines.now c.lines.lines c.feed-count.new.self c.args.machine.now c.lines.machine c.carry_out_line.new.machine so_far.0 (take n left) _ _ _
+    (fails-behind g.F.Follower.going c.laws.ensures.in_turn c.args.lines.now c.args.follower.now c.carry_out_line.new.follower (so_far.0 ++ take n left) (drop n left) _ _ c.in_err-carry_out_line.field-0.0 _
+    (fails-line g.F.Follower.going c.laws.ensures.in_turn c.args.lines.now c.lines.lines c.feed-count.new.self c.args.follower.now c.lines.follower c.carry_out_line.new.follower so_far.0 (take n left) _ _ _
     c.in_err-carry_out_line.field-0.0 _ _ (failed_since _ _ _ _ c.lines.invariant.later) so_far.2 c.feed-count.ensures.read c.feed-count.ensures.ended
     c.in_err-carry_out_line.ensures.err)))
 
@@ -44,7 +42,7 @@ lines-preserved g c =
       carried = (
         so_far.0 ++ take n left,
         more_front c.args.piece.now so_far.0 left n so_far.1 ∙ ap (λ x. (so_far.0 ++ take n left) ++ x) (sym (take_rest left n)),
-        carried-line c.args.lines.now c.lines.lines c.feed-count.new.self c.carry_out_line.new.lines c.args.machine.now c.lines.machine c.carry_out_line.new.machine so_far.0
+        carried-line g.F.Follower.going c.laws.ensures.in_turn c.args.lines.now c.lines.lines c.feed-count.new.self c.carry_out_line.new.lines c.args.follower.now c.lines.follower c.carry_out_line.new.follower so_far.0
             (take n left) _ _ _ so_far.2 c.feed-count.ensures.read c.feed-count.ensures.ended c.in_ok-carry_out_line.ensures.ok,
       );
       no_whole = c.in_ok-carry_out_line.ensures.no_whole;
@@ -60,8 +58,6 @@ lines-preserved g c =
         c.carry_out_line.ensures.counted,
         c.lines.invariant.counted,
       );
-      taken = c.in_ok-carry_out_line.ensures.all;
-      object = c.carry_out_line.ensures.object ∙ c.lines.invariant.object;
       later = omega (arith, c.carry_out_line.ensures.later);
     }
 
@@ -70,4 +66,4 @@ returns-clause-ok g c =
     let so_far = c.lines.invariant.carried in
     let all : c.args.piece.now ≡ so_far.0 =
     so_far.1 ∙ ap (λ x. so_far.0 ++ x) (none_left c.is_empty.result c.lines.left.now c.is_empty.ensures c.lines-test.false) ∙ append_nil so_far.0 in
-    subst (λ piece. Carried c.args.lines.now c.args.machine.now piece c.lines.lines c.lines.machine (g.K.Sink.taken c.args.sink.now) (g.K.Sink.taken c.lines.sink)) (sym all) so_far.2
+    subst (λ piece. Carried g.F.Follower.going c.args.lines.now c.args.follower.now piece c.lines.lines c.lines.follower (g.K.Sink.taken c.args.sink.now) (g.K.Sink.taken c.lines.sink)) (sym all) so_far.2

@@ -1,9 +1,9 @@
 use Rattle.std.proofs.Common.{[], ◌∷◌, List, ℕ, refl}
-use Rattle.std.specs.Prelude.{Err}
+use Rattle.std.specs.Prelude.{Err, map, string_bytes}
 use Rattle.pearl_io.specs.Outside.{CountRose, WriteFailed}
 use Rattle.pearl_script.specs.declared.refusal.Refusal.TheVariants as refusal
 use Rattle.pearl_top.specs.declared.failure.Failure.TheVariants as failure
-use Rattle.pearl_top.specs.Commands.{Run, Check, Print, Compile, Exec, Listed, Bench, NoCommand}
+use Rattle.pearl_top.specs.Commands.{Run, Check, Print, Compile, Exec, Listed, Bench, Watch, NoCommand}
 use Rattle.pearl_top.specs.Taken.{Leaves}
 use Rattle.pearl_top.proofs.TakenLaws.{takes_none}
 use Rattle.pearl_top.proofs.WordLaws.{due_as}
@@ -48,6 +48,14 @@ returns-in-Exec-clause-ends g c =
     let ends = c.exec.ensures.ends in
     due_as _ (Exec c.in-Exec.object.now c.in-Exec.journal.now) (g.S.Shelf.holds c.args.shelf.now) (ends.0 ∷ ends.1 ∷ []) rose
     (λ due. Leaves (g.K.Sink.taken c.args.sink.now) (g.K.Sink.taken c.exec.new.sink) failed due c.exec.result) c.in-Exec.ensures (ends.2, (ends.3, tt)) ends.4
+
+pub returns-in-Watch-clause-ends : goal.returns-in-Watch-clause-ends
+returns-in-Watch-clause-ends g c =
+    let rose : List ℕ → Type 0 = λ name. CountRose (g.S.Shelf.faults c.args.shelf.now name) (g.S.Shelf.faults c.watch.new.shelf name) in
+    let failed : Type 0 = WriteFailed (g.K.Sink.faults c.args.sink.now) (g.K.Sink.faults c.watch.new.sink) (g.K.Sink.full c.watch.new.sink) in
+    let ends = c.watch.ensures.ends in
+    due_as _ (Watch c.in-Watch.object.now c.in-Watch.journal.now (map string_bytes c.in-Watch.names.now)) (g.S.Shelf.holds c.args.shelf.now) (ends.0 ∷ ends.1 ∷ []) rose
+    (λ due. Leaves (g.K.Sink.taken c.args.sink.now) (g.K.Sink.taken c.watch.new.sink) failed due c.watch.result) c.in-Watch.ensures (ends.2, (ends.3, tt)) ends.4
 
 pub returns-in-List-clause-ends : goal.returns-in-List-clause-ends
 returns-in-List-clause-ends g c =

@@ -13,6 +13,7 @@ use Rattle.pearl_top.specs.RunDue.{RunDue, SourceDue}
 use Rattle.pearl_top.specs.Reading.{UnreadDue}
 use Rattle.pearl_top.specs.Runners.{by_code}
 use Rattle.pearl_top.proofs.Explained.{explained, may_have}
+use Rattle.pearl_top.proofs.LineLaws.{new_first, new_unread}
 use Rattle.pearl_top.proofs.TakenLaws.{is_due_as, leaves_as, leaves_due}
 use Rattle.pearl_top.proofs.WordLaws.{may_have_before, run_accepted, run_refused, run_unread}
 use Rattle.pearl_top.proofs.top.run.Goals as goal
@@ -73,8 +74,15 @@ returns-in_err-lines-clause-ends g c =
           (run_unread read.0 journal source_rose journal_rose NoMemory (refusal_line refusal.Memory) refl)),
     )
 
-pub replay-requires-clause-moment : goal.replay-requires-clause-moment
-replay-requires-clause-moment g c = ap (λ (seen : Seen). seen.state.core.moment) c.in_ok-machine.ensures.ok.2.ready.starts
+pub replay-requires-clause-starts : goal.replay-requires-clause-starts
+replay-requires-clause-starts g c = c.in_ok-machine.ensures.ok.2.ready
+
+pub replay-requires-clause-unread : goal.replay-requires-clause-unread
+replay-requires-clause-unread g c = new_unread c.in_ok-lines.lines c.in_ok-lines.ensures
+
+pub replay-requires-clause-first : goal.replay-requires-clause-first
+replay-requires-clause-first g c =
+    new_first c.in_ok-lines.lines _ c.in_ok-lines.ensures (ap (λ (seen : Seen). seen.state.core.moment) c.in_ok-machine.ensures.ok.2.ready.starts)
 
 pub returns-clause-ends : goal.returns-clause-ends
 returns-clause-ends g c =
@@ -85,7 +93,7 @@ returns-clause-ends g c =
     let failed : Type 0 = WriteFailed (g.K.Sink.faults c.args.sink.now) (g.K.Sink.faults c.replay.new.sink) (g.K.Sink.full c.replay.new.sink) in
     let read = c.in_ok-bytes.ensures.read in
     let ready = c.in_ok-machine.ensures.ok in
-    let ends = c.replay.ensures.ends ready.2.ready in (
+    let ends = c.replay.ensures.ends in (
       read.0,
       ends.0,
       read.1,
