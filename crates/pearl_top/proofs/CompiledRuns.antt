@@ -1,5 +1,5 @@
 -- What was compiled runs as its source does.
-use Rattle.std.proofs.Common.{◌≡◌, ◌≢◌, ◌≤◌, ℕ, List, length, ◌∙◌, subst, inl, inr}
+use Rattle.std.proofs.Common.{◌≢◌, ◌≤◌, ℕ, List, length, ◌∙◌, subst, inl, inr}
 use Rattle.pearl_program.specs.PlainPrograms.{PlainProg}
 use Rattle.pearl_instructions.specs.declared.object.Parts.{Parts as Object}
 use Rattle.pearl_fields.specs.Codec.{IsBytes}

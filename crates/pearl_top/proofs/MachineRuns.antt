@@ -1,11 +1,11 @@
 -- What a machine writes on its way over the entries of a journal.
-use Rattle.std.proofs.Common.{◌≡◌, ℕ, List, [], ◌++◌, Option, None, refl, ap, ap₂, sym, ◌∙◌, subst, append_assoc}
+use Rattle.std.proofs.Common.{◌≡◌, ℕ, List, [], ◌++◌, Option, refl, ap, ap₂, sym, ◌∙◌, subst, append_assoc}
 use Rattle.pearl_io.specs.Outside.{TakesFront}
 use Rattle.pearl_rules.specs.declared.entry.Entry.{Entry}
 use Rattle.pearl_rules.specs.declared.setup.Setup.{Setup}
 use Rattle.pearl_rules.specs.Core.{Report}
 use Rattle.pearl_rules.specs.Entries.{AreFitting}
-use Rattle.pearl_rules.specs.Runs.{next_mark, unsettled}
+use Rattle.pearl_rules.specs.Runs.{next_mark}
 use Rattle.pearl_instructions.specs.declared.object.Parts.{Parts as Object}
 use Rattle.pearl_instructions.specs.Setups.{setup_of}
 use Rattle.pearl_machine.specs.Seen.{Seen, retold, Goes, Handles}
@@ -16,7 +16,7 @@ use Rattle.pearl_script.specs.Lines.{lines_of}
 use Rattle.pearl_script.specs.Refusals.{refusal_line}
 use Rattle.pearl_top.specs.Followers.{Tells, TellsLast, machine_going}
 use Rattle.pearl_top.specs.Going.{GoesInTurn, WritesItsRun}
-use Rattle.pearl_top.specs.Ready.{IsReady, RunsByRules, started}
+use Rattle.pearl_top.specs.Ready.{IsReady, started}
 use Rattle.pearl_top.specs.Runners.{by_code}
 use Rattle.pearl_top.specs.Transcript.{Close, Closed, Cut}
 use Rattle.pearl_top.proofs.Endings.{breaks_off, closes, cuts, opening_lines}

@@ -1,5 +1,5 @@
 -- The number of a workload, one after another.
-use Rattle.std.proofs.Common.{◌≡◌, ◌+◌, ◌<◌, ◌≤◌, ℕ, suc, List, [], ◌∷◌, length, map, true, false, if◌then◌else◌, bytes_eq, refl, ap, sym, ◌∙◌, add-one, arith}
+use Rattle.std.proofs.Common.{◌≡◌, ◌+◌, ◌<◌, ℕ, List, [], ◌∷◌, length, map, true, false, if◌then◌else◌, bytes_eq, refl, ap, sym, ◌∙◌, add-one, arith}
 use Rattle.std.specs.Fmt.{decimal}
 use Rattle.pearl_top.specs.Commands.{Bench, NoCommand, bench_upto, command_of}
 

@@ -1,9 +1,9 @@
 -- An object's file: which object it has, or what is wrong with it, is determined.
-use Rattle.std.proofs.Common.{◌≡◌, ◌-◌, ◌<◌, ◌≤◌, ◌⊎◌, ℕ, List, Some, None, Result, Ok, Err, length, refl, ap, ap₂, sym, ◌∙◌, subst, inl, inr, arith}
+use Rattle.std.proofs.Common.{◌≡◌, ◌-◌, ◌<◌, ◌≤◌, ◌⊎◌, ℕ, List, Some, None, Result, Ok, Err, length, ap, ap₂, sym, ◌∙◌, subst, inl, inr, arith}
 use Rattle.std.proofs.lemmas.Bool.{cases_lt}
 use Rattle.std.proofs.lemmas.Option.{none-some, same_Some}
 use Rattle.pearl_instructions.specs.declared.object.Parts.{Parts as Object}
-use Rattle.pearl_instructions.specs.Valid.{IsValid, unsound}
+use Rattle.pearl_instructions.specs.Valid.{unsound}
 use Rattle.pearl_fields.specs.Codec.{whole_read}
 use Rattle.pearl_object.specs.Listing.{listing_of}
 use Rattle.pearl_object.specs.Objects.{object}

@@ -15,7 +15,7 @@ use Rattle.pearl_top.specs.Status.{status_of}
 use Rattle.pearl_journal.specs.Entries.{Ending, Entries, All, Bad, entries_from}
 use Rattle.pearl_journal.specs.Readings.{Reading}
 use Rattle.pearl_journal.proofs.Offered.{entries-fit}
-use Rattle.pearl_journal.specs.Lines.{ended_lines, journal_lines}
+use Rattle.pearl_journal.specs.Lines.{ended_lines}
 use Rattle.pearl_top.specs.declared.limits.TheConstants.{JOURNAL_LIMIT}
 use Rattle.pearl_top.specs.Going.{Going, GoesInTurn, WritesItsRun}
 use Rattle.pearl_top.specs.JournalDue.{handled, IsRun, JournalDue}

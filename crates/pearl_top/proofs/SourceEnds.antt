@@ -17,7 +17,6 @@ use Rattle.pearl_check.specs.Checks as checks
 use Rattle.pearl_top.specs.declared.failure.Failure.{Failure}
 use Rattle.pearl_top.specs.declared.failure.Failure.TheVariants as failure
 use Rattle.pearl_top.specs.declared.limits.TheConstants.{SOURCE_LIMIT}
-use Rattle.pearl_top.specs.declared.status.Status.{Status}
 use Rattle.pearl_top.specs.declared.status.Status.TheVariants.{Done}
 use Rattle.pearl_top.specs.CheckDue.{IsUnaccepted}
 use Rattle.pearl_top.specs.CompileDue.{CompileDue, IsCompiled}

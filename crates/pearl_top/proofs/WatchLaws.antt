@@ -1,5 +1,5 @@
 -- What is due for an object of which some leaves are watched: how it comes to be due, and that it is one thing.
-use Rattle.std.proofs.Common.{◌≡◌, ◌≢◌, ◌<◌, ◌≤◌, ◌⊎◌, ℕ, List, [], Err, true, false, length, refl, ap, ap₂, sym, ◌∙◌, subst, inl, inr, arith, true≢false}
+use Rattle.std.proofs.Common.{◌≡◌, ◌≢◌, ◌<◌, ◌≤◌, ◌⊎◌, ℕ, List, [], refl, ap, ap₂, sym, ◌∙◌, subst, inl, inr, arith, true≢false}
 use Rattle.std.proofs.lemmas.Bool.{cases_lt}
 use Rattle.pearl_rules.specs.declared.entry.Entry.{Entry}
 use Rattle.pearl_rules.specs.Runs.{unsettled}
@@ -16,7 +16,7 @@ use Rattle.pearl_watch.specs.declared.fault.WatchFault.TheVariants as fault
 use Rattle.pearl_watch.specs.Lines.{begun}
 use Rattle.pearl_watch.specs.Monitored.{Monitored, Watches}
 use Rattle.pearl_watch.specs.Monitored as monitored
-use Rattle.pearl_watch.specs.Watched.{AreAccepted, IsCause, IsFirstRefused, is_refused}
+use Rattle.pearl_watch.specs.Watched.{AreAccepted, IsCause, IsFirstRefused}
 use Rattle.pearl_top.specs.declared.failure.Failure.{Failure}
 use Rattle.pearl_top.specs.declared.failure.Failure.TheVariants as failure
 use Rattle.pearl_top.specs.declared.limits.TheConstants.{OBJECT_LIMIT}

@@ -14,7 +14,7 @@ use Rattle.pearl_script.specs.declared.refusal.Refusal.{Refusal}
 use Rattle.pearl_script.specs.Lines.{close_line}
 use Rattle.pearl_script.specs.Refusals.{refusal_line}
 use Rattle.pearl_watch.specs.declared.watched.Watched.{Watched}
-use Rattle.pearl_watch.specs.Changes.{change_lines, core_lines, last_line, mark_cores, shown, step_lines}
+use Rattle.pearl_watch.specs.Changes.{change_lines, last_line, shown, step_lines}
 use Rattle.pearl_watch.specs.Lines.{Watching}
 use Rattle.pearl_watch.specs.Monitored.{IsTold, IsWatchText, Monitored, Shows, Watches, first_lines}
 use Rattle.pearl_watch.specs.Monitored as monitored

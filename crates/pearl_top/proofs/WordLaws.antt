@@ -9,8 +9,6 @@ use Rattle.pearl_faithful.specs.Faithful.{IsFaithfulTo}
 use Rattle.pearl_machine.specs.Seen.{Seen}
 use Rattle.pearl_script.specs.declared.refusal.Refusal.TheVariants as refusal
 use Rattle.pearl_script.specs.Refusals.{refusal_line}
-use Rattle.pearl_top.specs.declared.failure.Failure.{Failure}
-use Rattle.pearl_top.specs.declared.failure.Failure.TheVariants as failure
 use Rattle.pearl_top.specs.declared.limits.TheConstants.{SOURCE_LIMIT, OBJECT_LIMIT}
 use Rattle.pearl_top.specs.declared.status.Status.{Status}
 use Rattle.pearl_top.specs.declared.status.Status.TheVariants.{Done, Usage, Refused, BadObject, BadJournal, ReadFault, WriteFault, NoMemory, TooLong, BadName}
@@ -19,7 +17,6 @@ use Rattle.pearl_top.specs.CheckDue.{CheckDue, IsAccepted, IsUnaccepted}
 use Rattle.pearl_top.specs.Commands.{Command, Run, Check, Print, Compile, Exec, Listed, Bench, Watch, NoCommand, ReadsObject, names_of}
 use Rattle.pearl_top.specs.CompileDue.{CompileDue, IsCompiled}
 use Rattle.pearl_top.specs.ObjectDue.{ExecDue, IsCodeOf, IsListed, IsNoObject, IsRefused, ListDue, ObjectDue}
-use Rattle.pearl_top.specs.Failures.{IsDue}
 use Rattle.pearl_top.specs.JournalDue.{JournalDue}
 use Rattle.pearl_top.specs.Outcome.{Due, DueFor, IsOutcome}
 use Rattle.pearl_top.specs.RunDue.{IsSource, RunDue, SourceDue}

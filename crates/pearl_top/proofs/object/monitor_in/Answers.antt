@@ -1,5 +1,7 @@
 use Rattle.std.proofs.Common.{ap, map, subst, string_bytes, sym}
 use Rattle.std.proofs.lemmas.Result.{err_from_is_err_and}
+use Rattle.pearl_top.specs.declared.failure.Failure.TheVariants as failure
+use Rattle.pearl_top.specs.Failures.{verify_refusal}
 use Rattle.pearl_top.specs.Ready.{RunsByRules}
 use Rattle.pearl_top.proofs.ObjectEnds.{invalid, unexecuted}
 use Rattle.pearl_top.proofs.WatchLaws.{at_names, at_object, can_be_watched, is_watching}
@@ -14,7 +16,7 @@ returns-in_err-object-clause-err c =
 pub returns-in_err-code-clause-err : goal.returns-in_err-code-clause-err
 returns-in_err-code-clause-err c =
     let e = err_from_is_err_and c.from_residual-in_err-code.result c.from_residual-in_err-code.ensures.1 in
-    rw (e.1, e.2) (at_object c.args.file.now (map string_bytes c.args.names.now) _
+    rw (e.1, e.2) (at_object c.args.file.now (map string_bytes c.args.names.now) (failure.Refused (verify_refusal c.in_err-code.field-0.0))
     (invalid c.args.file.now c.in_ok-object.object c.in_err-code.field-0.0 c.in_ok-object.ensures.ok c.in_err-code.ensures.err))
 
 pub returns-in_err-monitor-clause-err : goal.returns-in_err-monitor-clause-err

@@ -43,7 +43,7 @@ returns-in_err-carry_out_piece-clause-ends g c =
 pub returns-then-count-left-clause-ends : goal.returns-then-count-left-clause-ends
 returns-then-count-left-clause-ends g c =
     let inv = c.pieces.invariant in
-    ends_long g.F.Follower.going c.laws.ensures.in_turn c.args.lines.now c.requires.unread _ (g.S.Shelf.holds c.pieces.shelf) c.args.journal.now c.fetch.new.into _ _ c.pieces.place c.in-Ok.count c.min.result c.pieces.lines c.carry_out_piece.new.lines
+    ends_long g.F.Follower.going c.laws.ensures.in_turn c.args.lines.now c.requires.unread (g.S.Shelf.holds c.args.shelf.now) (g.S.Shelf.holds c.pieces.shelf) c.args.journal.now c.fetch.new.into _ _ c.pieces.place c.in-Ok.count c.min.result c.pieces.lines c.carry_out_piece.new.lines
     c.args.follower.now c.pieces.follower c.carry_out_piece.new.follower _ _ _ ⊥ ⊥ inv.held c.in-Ok.ensures.piece (omega arith) (omega (arith, inv.within)) refl
     (piece_size c.fetch.new.into _ c.min.result (omega (arith, c.in-Ok.ensures.bound, c.fetch.auto.into))) c.in_ok-carry_out_piece.ensures.no_whole inv.progress c.in_ok-carry_out_piece.ensures.ok
 
