@@ -15,8 +15,9 @@ use Rattle.pearl_rules.specs.declared.row.Activation.{Activation}
 use Rattle.pearl_rules.specs.declared.row.TaskRow.{TaskRow}
 use Rattle.pearl_rules.specs.declared.series.Series.{Series}
 use Rattle.pearl_rules.specs.declared.setup.Setup.{Setup}
-use Rattle.pearl_rules.specs.Core.{Core, Channel, Switch, Bytes, Values, Outward}
+use Rattle.pearl_rules.specs.Core.{Core, Channel, Switch, Bytes, Values, Outward, declared_of}
 use Rattle.pearl_rules.specs.Plans.{no_end, priorities}
+use Rattle.pearl_rules.specs.Slots.{HasKinds, HasCounts, HasUrgencies, HasTimes, HasLast}
 use Rattle.pearl_records.specs.declared.record.EndRecord.{EndRecord}
 use Rattle.pearl_records.specs.declared.record.EndRecord.TheVariants.{Never, Until, During}
 use Rattle.pearl_records.specs.declared.record.SeriesRecord.{SeriesRecord}
@@ -194,3 +195,15 @@ core_made setup core = record {
 -- the same core, which has told nothing
 abbrev pub untold : Core → Core
 untold core = record core { told = [] }
+
+-- WHICH CORES ARE RECORDED
+
+-- A core over these tables as each one of a run is, up to the last moment that there is: each value is of its kind, there are the
+-- declared semaphores and tasks, counts, priorities and plans are lawful, and who acted last is a task.
+pub record IsRecordable (setup : Setup) (core : Core) : Type 0 where
+  pub kinds : HasKinds setup core
+  pub counts : HasCounts setup core
+  pub declared : map declared_of core.tasks ≡ map (λ task. task.priority) setup.tasks
+  pub urgent : HasUrgencies core
+  pub times : HasTimes setup core
+  pub last : HasLast core

@@ -1,6 +1,6 @@
 -- What the record of a core must be so that a run over these tables can go on from it: rules N2, N3 and N4, each of which takes
 -- those before it for granted.
-use Rattle.std.specs.Prelude.{◌≡◌, ℕ, ◌<◌, ◌≤◌, ◌^◌, ◌==◌, List, [], ◌∷◌, Option, None, IsSome, IfSome, length, slice_get}
+use Rattle.std.specs.Prelude.{◌≡◌, ℕ, ◌<◌, ◌≤◌, ◌^◌, ◌==◌, List, [], ◌∷◌, None, IsSome, IfSome, length, slice_get}
 use Rattle.std.specs.List.{AllByRecursion, AllZip, filter, flat_map}
 use Rattle.pearl_value.specs.declared.kind.Kind.{Kind}
 use Rattle.pearl_value.specs.declared.cell.Cell.{Cell}

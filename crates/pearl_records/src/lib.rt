@@ -2,4 +2,6 @@
 // core of a record.
 #![tactic(auto)]
 
+pub mod laws;
 pub mod record;
+pub mod rows;
