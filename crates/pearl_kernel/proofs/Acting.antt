@@ -21,7 +21,7 @@ use Rattle.pearl_kernel.specs.declared.changes.Changed.{Changed}
 use Rattle.pearl_kernel.specs.declared.changes.Changed.TheVariants.{Nothing}
 use Rattle.pearl_kernel.specs.Changes.{ChangesOnly, Stirs, renewed, IsRenewedAt, AreRenewed, AreRenewedIf}
 use Rattle.pearl_kernel.specs.Touched.{Reach, Own, Other, Waiters, All, IsUntouched, KeepsOthers, changed_by, Leaves, IsThere, IsRenewed}
-use Rattle.pearl_kernel.proofs.Lawful.{lawful-after}
+use Rattle.pearl_kernel.proofs.Lawful.{ActsKeep, lawful-after}
 use Rattle.pearl_kernel.proofs.Naming.{names-all}
 use Rattle.pearl_kernel.proofs.Places.{kept-other, some-before, some-dropped}
 use Rattle.pearl_kernel.proofs.Entries.{possible-same, possible-unless, entry-same, renewed-is}
@@ -172,14 +172,14 @@ pub record IsActed (setup : Setup) (k new : Kept) (own : ℕ) (a : Action) : Typ
   pub before : IsLawful setup k
   pub lawful : IsLawful setup (done k own a)
 
-pub acted : (setup : Setup) (k mid new : Kept) (own : ℕ) (a : Action) → IsLawful setup k → own < length k.core.tasks →
+pub acted : ActsKeep → (setup : Setup) (k mid new : Kept) (own : ℕ) (a : Action) → IsLawful setup k → own < length k.core.tasks →
     offered k own ≡ Some a → mid ≡ record { core = k.core; offers = slice_set k.offers own None } →
     new ≡ record { core = (effect mid.core own a).core; offers = dropped (effect mid.core own a).ended mid.offers } →
     IsActed setup k new own a
-acted setup k mid new own a before there offer m n = record {
+acted keeps setup k mid new own a before there offer m n = record {
   is = done-is k mid new own a m n;
   before = before;
-  lawful = lawful-after setup k own a there (before.fits own a offer) before;
+  lawful = lawful-after keeps setup k own a there offer before;
 }
 
 -- WHAT CHANGES NO OFFER

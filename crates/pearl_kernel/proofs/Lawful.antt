@@ -1,6 +1,7 @@
 -- What happens leaves a lawful kernel: an action, an interrupt, milliseconds, a clock that is set.
 use Rattle.std.proofs.Common.{◌≡◌, ℕ, ◌+◌, ◌<◌, ◌≤◌, List, Option, Some, None, length, slice_get, slice_set}
-use Rattle.std.proofs.Common.{IfSome, MatchOption, zero, suc, [], ◌∷◌, drop, sym, subst, ◌∙◌, length-set}
+use Rattle.std.proofs.Common.{IsTrue, IfSome, MatchOption, zero, suc, [], ◌∷◌, Bool, true, false, drop, refl, sym, subst, ◌∙◌, length-set}
+use Rattle.std.proofs.lemmas.Option.{none-some}
 use Rattle.std.specs.List.{AllByRecursion, AllZip}
 use Rattle.pearl_rules.specs.declared.action.Action.{Action}
 use Rattle.pearl_rules.specs.declared.action.Action.TheVariants as action
@@ -11,7 +12,7 @@ use Rattle.pearl_rules.specs.declared.row.Plan.{Plan}
 use Rattle.pearl_value.specs.declared.device.Device.{Device}
 use Rattle.pearl_value.specs.declared.device.Device.TheVariants as device
 use Rattle.pearl_rules.specs.declared.setup.Setup.{Setup}
-use Rattle.pearl_rules.specs.Core.{Core, Channel, Switch, Bytes, Values, Outward, Report, Happened}
+use Rattle.pearl_rules.specs.Core.{Core, Channel, Switch, Bytes, Values, Outward, Report, Happened, is_active}
 use Rattle.pearl_rules.specs.Devices.{interrupted, arrived}
 use Rattle.pearl_rules.specs.Effect.{effect}
 use Rattle.pearl_rules.specs.Entries.{EntryFits, last_moment_of_all}
@@ -24,7 +25,8 @@ use Rattle.pearl_rules.proofs.Offered.{millisecond-length, millisecond-kinds, ar
 use Rattle.pearl_rules.proofs.Offered.{effect-urgencies, millisecond-urgencies, arrived-urgencies, effect-plans}
 use Rattle.pearl_rules.proofs.Offered.{millisecond-plans, arrived-plans, Closed, ClosedAtEnds, IsFree, Brings, Starts}
 use Rattle.pearl_rules.proofs.Offered.{any_kept, effect-free, arrived-kept, interrupted-kept, millisecond-kept}
-use Rattle.pearl_kernel.specs.Kept.{Kept, done, taken, IsReportOf, IsToldNext, NamesWhatIsThere, IsLawful}
+use Rattle.pearl_records.specs.Records.{IsRecordable}
+use Rattle.pearl_kernel.specs.Kept.{Kept, offered, done, taken, IsReportOf, IsToldNext, NamesWhatIsThere, IsLawful}
 use Rattle.pearl_rules.specs.Laws.{passed}
 use Rattle.pearl_kernel.specs.Timing.{IsQuiet}
 use Rattle.pearl_kernel.proofs.Passing.{passed-quiet}
@@ -73,12 +75,46 @@ brings_any core other = tt
 
 -- LAWFUL KERNELS
 
+-- what an action, a millisecond and whatever comes in leave of a core that can be recorded can be recorded
+abbrev pub ActsKeep : Type 0
+ActsKeep = (setup : Setup) (core : Core) (own : ℕ) (action : Action) → own < length core.tasks → IsTrue (is_active core own) →
+    Fits setup action → IsRecordable setup core → IsRecordable setup (effect core own action).core
+
+abbrev pub PassesKeep : Type 0
+PassesKeep = (setup : Setup) (core : Core) → core.moment + 1 ≤ last_moment_of_all → IsRecordable setup core →
+    IsRecordable setup (millisecond core)
+
+abbrev pub ArrivesKeep : Type 0
+ArrivesKeep = (setup : Setup) (core : Core) (come : Entry) → IsFitting setup come → IsRecordable setup core →
+    IsRecordable setup (arrived core come)
+
+pub recordable : (setup : Setup) (k : Kept) → IsLawful setup k → IsRecordable setup k.core
+recordable setup k lawful = record {
+  kinds = lawful.kinds;
+  counts = record { as_many = lawful.counts; small = lawful.counted };
+  declared = lawful.declared;
+  urgent = lawful.urgent;
+  times = record { moment = lawful.moment; lawful = lawful.plans; rows = lawful.timed };
+  last = lawful.last;
+}
+
+-- a task that has offered something is active
+pub active-own : (setup : Setup) (k : Kept) (own : ℕ) (a : Action) → IsLawful setup k → offered k own ≡ Some a →
+    is_active k.core own ≡ true
+active-own setup k own a lawful offer = by_test (is_active k.core own) refl
+  where
+    by_test : (b : Bool) → is_active k.core own ≡ b → is_active k.core own ≡ true
+    by_test true e = e
+    by_test false e = absurd (none-some a (sym (lawful.quiet own e) ∙ offer))
+
 has_counts : (setup : Setup) (k : Kept) → IsLawful setup k → HasCounts setup k.core
 has_counts setup k lawful = record { as_many = lawful.counts; small = lawful.counted }
 
-pub lawful-after : (setup : Setup) (k : Kept) (own : ℕ) (a : Action) → own < length k.core.tasks → Fits setup a →
-    IsLawful setup k → IsLawful setup (done k own a)
-lawful-after setup k own a there fits lawful =
+pub lawful-after : ActsKeep → (setup : Setup) (k : Kept) (own : ℕ) (a : Action) → own < length k.core.tasks →
+    offered k own ≡ Some a → IsLawful setup k → IsLawful setup (done k own a)
+lawful-after keeps setup k own a there offer lawful =
+    let fits = lawful.fits own a offer in
+    let new = keeps setup k.core own a there (active-own setup k own a lawful offer) fits (recordable setup k lawful) in
     let after = effect k.core own a in
     let left = slice_set k.offers own None in
     let size = effect-length k.core own a in
@@ -92,17 +128,21 @@ lawful-after setup k own a there fits lawful =
       plans = effect-plans setup k.core own a lawful.plans fits;
       moment = effect-free AnyPriority AnyPlan IsNear near_closed near_free near_ends k.core own a (brings_any k.core a)
           lawful.moment;
+      timed = new.times.rows;
+      declared = new.declared;
+      last = new.last;
       same = dropped-length after.ended left ∙ length-set k.offers own None ∙ lawful.same ∙ sym size;
       quiet = quiet-after left k.core own a (quiet-less k.core.tasks k.offers own lawful.quiet);
       fits = λ t b e. lawful.fits t b (some-before k.offers own t b (some-dropped after.ended left t b e));
       told = reports-after setup k.core own a (subst (λ n. own < n) lawful.tasks there) lawful.tasks fits lawful.told;
     }
 
-pub lawful-interrupt : (setup : Setup) (k : Kept) (device : ℕ) → IsInterrupt (slice_get setup.devices device) →
+pub lawful-interrupt : ArrivesKeep → (setup : Setup) (k : Kept) (device : ℕ) → IsInterrupt (slice_get setup.devices device) →
     IsLawful setup k → IsLawful setup (record k { core = interrupted k.core device })
-lawful-interrupt setup k device is lawful =
+lawful-interrupt keeps setup k device is lawful =
     let irpt = entry.Irpt device in
     let fits : IsFitting setup irpt = (0, is) in
+    let new = keeps setup k.core irpt fits (recordable setup k lawful) in
     let size = arrived-length k.core irpt in
     let counts = arrived-counts setup k.core irpt (has_counts setup k lawful) in
     record {
@@ -113,16 +153,20 @@ lawful-interrupt setup k device is lawful =
       urgent = arrived-urgencies k.core irpt lawful.urgent;
       plans = arrived-plans setup k.core irpt lawful.plans fits;
       moment = interrupted-kept AnyPriority AnyPlan IsNear near_closed k.core device lawful.moment;
+      timed = new.times.rows;
+      declared = new.declared;
+      last = new.last;
       same = lawful.same ∙ sym size;
       quiet = quiet-interrupted k.offers k.core device lawful.quiet;
       fits = lawful.fits;
       told = reports-interrupted setup k.core device lawful.tasks is lawful.told;
     }
 
-pub lawful-arrived : (setup : Setup) (k : Kept) (come : Entry) → EntryFits setup k.core.moment come → IsLawful setup k →
+pub lawful-arrived : ArrivesKeep → (setup : Setup) (k : Kept) (come : Entry) → EntryFits setup k.core.moment come → IsLawful setup k →
     IsLawful setup (record k { core = arrived k.core come })
-lawful-arrived setup k come comes lawful =
+lawful-arrived keeps setup k come comes lawful =
     let fits : IsFitting setup come = (k.core.moment, comes) in
+    let new = keeps setup k.core come fits (recordable setup k lawful) in
     let size = arrived-length k.core come in
     let counts = arrived-counts setup k.core come (has_counts setup k lawful) in
     record {
@@ -133,15 +177,19 @@ lawful-arrived setup k come comes lawful =
       urgent = arrived-urgencies k.core come lawful.urgent;
       plans = arrived-plans setup k.core come lawful.plans fits;
       moment = arrived-kept AnyPriority AnyPlan IsNear near_closed near_free k.core come (λ time e. lawful.moment) lawful.moment;
+      timed = new.times.rows;
+      declared = new.declared;
+      last = new.last;
       same = lawful.same ∙ sym size;
       quiet = quiet-arrived k.offers k.core come lawful.quiet;
       fits = lawful.fits;
       told = reports-arrived setup k.core come k.core.moment lawful.tasks comes lawful.told;
     }
 
-pub lawful-millisecond : (setup : Setup) (k : Kept) → k.core.moment + 1 ≤ last_moment_of_all → IsLawful setup k →
+pub lawful-millisecond : PassesKeep → (setup : Setup) (k : Kept) → k.core.moment + 1 ≤ last_moment_of_all → IsLawful setup k →
     IsLawful setup (record k { core = millisecond k.core })
-lawful-millisecond setup k later lawful =
+lawful-millisecond keeps setup k later lawful =
+    let new = keeps setup k.core later (recordable setup k lawful) in
     let size = millisecond-length k.core in
     let counts = millisecond-counts setup k.core (has_counts setup k lawful) in
     record {
@@ -152,6 +200,9 @@ lawful-millisecond setup k later lawful =
       urgent = millisecond-urgencies k.core lawful.urgent;
       plans = millisecond-plans setup k.core lawful.plans;
       moment = millisecond-kept AnyPriority AnyPlan IsNear near_closed k.core later;
+      timed = new.times.rows;
+      declared = new.declared;
+      last = new.last;
       same = lawful.same ∙ sym size;
       quiet = quiet-millisecond k.offers k.core lawful.quiet;
       fits = lawful.fits;
@@ -160,11 +211,12 @@ lawful-millisecond setup k later lawful =
 
 -- another moment, another clock, another task that acted last, or what is told
 lawful_with : (setup : Setup) (k : Kept) (moment clock : ℕ) (last : Option ℕ) (told : List (ℕ × Report)) →
-    moment ≤ last_moment_of_all → clock < 86400000 → AllByRecursion (IsReportOf setup) told → IsLawful setup k →
+    moment ≤ last_moment_of_all → clock < 86400000 → IfSome last (λ t. t < length k.core.tasks) →
+    AllByRecursion (IsReportOf setup) told → IsLawful setup k →
     IsLawful setup (record k {
       core = record k.core { moment = moment; clock = clock; last = last; told = told };
     })
-lawful_with setup k moment clock last told near is all lawful = record {
+lawful_with setup k moment clock last told near is acted all lawful = record {
   tasks = lawful.tasks;
   counts = lawful.counts;
   counted = lawful.counted;
@@ -172,6 +224,9 @@ lawful_with setup k moment clock last told near is all lawful = record {
   urgent = lawful.urgent;
   plans = record { plans = lawful.plans.plans; clock = is };
   moment = near;
+  timed = lawful.timed;
+  declared = lawful.declared;
+  last = acted;
   same = lawful.same;
   quiet = lawful.quiet;
   fits = lawful.fits;
@@ -181,7 +236,7 @@ lawful_with setup k moment clock last told near is all lawful = record {
 pub lawful-moment : (setup : Setup) (k : Kept) (moment : ℕ) → moment ≤ last_moment_of_all → IsLawful setup k →
     IsLawful setup (record k { core = record k.core { moment = moment } })
 lawful-moment setup k moment near lawful =
-    lawful_with setup k moment k.core.clock k.core.last k.core.told near lawful.plans.clock lawful.told lawful
+    lawful_with setup k moment k.core.clock k.core.last k.core.told near lawful.plans.clock lawful.last lawful.told lawful
 
 pub lawful-passed : (setup : Setup) (k : Kept) (n : ℕ) → k.core.moment + n ≤ last_moment_of_all → IsQuiet k.core n →
     IsLawful setup k → IsLawful setup (record k { core = passed n k.core })
@@ -192,17 +247,17 @@ lawful-passed setup k n later quiet lawful =
 pub lawful-clock : (setup : Setup) (k : Kept) (time : ℕ) → time < 86400000 → IsLawful setup k →
     IsLawful setup (record k { core = record k.core { clock = time } })
 lawful-clock setup k time is lawful =
-    lawful_with setup k k.core.moment time k.core.last k.core.told lawful.moment is lawful.told lawful
+    lawful_with setup k k.core.moment time k.core.last k.core.told lawful.moment is lawful.last lawful.told lawful
 
-pub lawful-last : (setup : Setup) (k : Kept) (last : Option ℕ) → IsLawful setup k →
+pub lawful-last : (setup : Setup) (k : Kept) (last : Option ℕ) → IfSome last (λ t. t < length k.core.tasks) → IsLawful setup k →
     IsLawful setup (record k { core = record k.core { last = last } })
-lawful-last setup k last lawful =
-    lawful_with setup k k.core.moment k.core.clock last k.core.told lawful.moment lawful.plans.clock lawful.told lawful
+lawful-last setup k last acted lawful =
+    lawful_with setup k k.core.moment k.core.clock last k.core.told lawful.moment lawful.plans.clock acted lawful.told lawful
 
 lawful_told : (setup : Setup) (k : Kept) (told : List (ℕ × Report)) → AllByRecursion (IsReportOf setup) told →
     IsLawful setup k → IsLawful setup (record k { core = record k.core { told = told } })
 lawful_told setup k told all lawful =
-    lawful_with setup k k.core.moment k.core.clock k.core.last told lawful.moment lawful.plans.clock all lawful
+    lawful_with setup k k.core.moment k.core.clock k.core.last told lawful.moment lawful.plans.clock lawful.last all lawful
 
 -- the oldest event is taken
 pub lawful-taken : (setup : Setup) (k new : Kept) (taken : Option Event) →

@@ -1,6 +1,7 @@
 mod Events
 mod Places
 mod Rows
+mod Made
 mod Planned
 mod Passing
 mod OneTask

@@ -52,6 +52,9 @@ lawful-offering setup k task a unsettled fits lawful = record {
   urgent = lawful.urgent;
   plans = lawful.plans;
   moment = lawful.moment;
+  timed = lawful.timed;
+  declared = lawful.declared;
+  last = lawful.last;
   same = length-set k.offers task (Some a) ∙ lawful.same;
   quiet = λ t e. by_task t task (offered (offering k task a) t ≡ None)
       (λ same. absurd (true≢false (sym (subst (λ u. is_active k.core u ≡ true) (sym same) (active k task unsettled))

@@ -1,13 +1,13 @@
 -- The best task of the set is the one that the rules pick.
 use Rattle.std.proofs.Common.{◌≡◌, ℕ, zero, suc, ◌<◌, ◌≤◌, List, Bool, true, false, Option, Some, None, length, nat_lt}
-use Rattle.std.proofs.Common.{nat_eq, ◌||◌, ◌&&◌, option_map, cond, refl, sym, ap, ap₂, subst, ◌∙◌, arith}
+use Rattle.std.proofs.Common.{true≢false, nat_eq, ◌||◌, ◌&&◌, option_map, cond, refl, sym, ap, ap₂, subst, ◌∙◌, arith}
 use Rattle.std.specs.Option.{option_eq}
 use Rattle.std.proofs.lemmas.Option.{slice_get_within}
 use Rattle.pearl_rules.specs.Core.{Core}
 use Rattle.pearl_rules.specs.Pick.{is_eligible, is_as_urgent, can_turn, priority_of, is_last_of, goes_before, better_if}
 use Rattle.pearl_rules.specs.Pick.{better, pick_first, pick}
 use Rattle.pearl_ready.specs.Best as set
-use Rattle.pearl_rules.proofs.Offered.{picked}
+use Rattle.pearl_rules.proofs.Offered.{picked, eligible_within}
 use Rattle.pearl_kernel.specs.Kept.{Kept, offered}
 use Rattle.pearl_kernel.specs.Eligible.{entry, number_if, IsSetOf}
 
@@ -102,3 +102,12 @@ can-turn-is k t best e b is mine its there =
     by_tests false y h m o i = absurd (there m)
     by_tests true false h m o i = absurd cc
     by_tests true true h m o i = ap₂ (λ p q. option_eq nat_eq p q) m i
+
+-- a task that can have its turn is one
+pub turn-there : (k : Kept) (t : ℕ) (b : Bool) → b ≡ can_turn k.core (offered k) t → b ≡ true → t < length k.core.tasks
+turn-there k t b is e =
+    eligible_within k.core (offered k) t (first (is_eligible k.core (offered k) t) (is_as_urgent k.core (pick k.core (offered k)) t) (sym is ∙ e))
+  where
+    first : (x y : Bool) → (x && y) ≡ true → x ≡ true
+    first true y e = refl
+    first false y e = absurd (true≢false (sym e))

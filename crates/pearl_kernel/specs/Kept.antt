@@ -7,13 +7,15 @@ use Rattle.pearl_rules.specs.declared.action.Action.{Action}
 use Rattle.pearl_rules.specs.declared.event.Event.{Event}
 use Rattle.pearl_rules.specs.declared.event.Event.TheVariants as event
 use Rattle.pearl_rules.specs.declared.setup.Setup.{Setup}
-use Rattle.pearl_rules.specs.Core.{Core, Report, Happened, Shows, is_active, opening}
+use Rattle.pearl_rules.specs.Core.{Core, Report, Happened, Shows, is_active, declared_of, opening}
 use Rattle.pearl_rules.specs.Effect.{Effect, Reply, Hears, Ends, effect}
 use Rattle.pearl_rules.specs.Pick.{Offered, pick}
 use Rattle.pearl_rules.specs.Runs.{dropped, kept_at}
 use Rattle.pearl_rules.specs.Entries.{last_moment_of_all}
-use Rattle.pearl_rules.specs.Slots.{Fits, HasKinds, HasUrgencies, HasPlans}
+use Rattle.pearl_rules.specs.Slots.{Fits, HasKinds, HasUrgencies, HasPlans, IsTimedRow, HasLast}
 use Rattle.pearl_value.specs.Counts.{IsPreset}
+use Rattle.pearl_records.specs.declared.record.CoreRecord.{CoreRecord}
+use Rattle.pearl_records.specs.Records.{core_made}
 use Rattle.pearl_exchange.specs.declared.heard.Beside.{Beside}
 use Rattle.pearl_exchange.specs.Heard.{answer_of}
 use Rattle.pearl_kernel.specs.declared.kernel.Acted.{Acted}
@@ -30,6 +32,10 @@ offered k t = kept_at k.offers t
 -- a kernel at the start of a run
 abbrev pub at_start : Setup → Kept
 at_start setup = record { core = opening setup; offers = replicate (length setup.tasks) None }
+
+-- a kernel that is made of a record
+abbrev pub from_record : Setup → CoreRecord → Kept
+from_record setup core = record { core = core_made setup core; offers = replicate (length setup.tasks) None }
 
 -- events with the moment at which they happened
 abbrev pub stamped : ℕ → List Event → List (ℕ × Report)
@@ -64,8 +70,9 @@ IsReportOf setup (moment, Shows task shown) = ⊥
 
 -- The kernel is one of these tables: it has their tasks, slots, semaphores and devices, and its moment is one that there
 -- is. No count is above the greatest one, each slot and each input holds values of its kind, priorities are from 1 to 255,
--- and plans are lawful. A task that isn't active has offered nothing, and what is offered fits the tables. What is
--- still to be told happened, and names what is there.
+-- and plans are lawful and have their series. Tasks have their declared priorities, and who acted last is one. A task
+-- that isn't active has offered nothing, and what is offered fits the tables. What is still to be told happened, and
+-- names what is there.
 pub record IsLawful (setup : Setup) (k : Kept) : Type 0 where
   pub tasks : length k.core.tasks ≡ length setup.tasks
   pub counts : length k.core.counts ≡ length setup.semaphores
@@ -74,6 +81,9 @@ pub record IsLawful (setup : Setup) (k : Kept) : Type 0 where
   pub urgent : HasUrgencies k.core
   pub plans : HasPlans setup k.core
   pub moment : k.core.moment ≤ last_moment_of_all
+  pub timed : AllByRecursion IsTimedRow k.core.tasks
+  pub declared : map declared_of k.core.tasks ≡ map (λ task. task.priority) setup.tasks
+  pub last : HasLast k.core
   pub same : length k.offers ≡ length k.core.tasks
   pub quiet : (t : ℕ) → is_active k.core t ≡ false → offered k t ≡ None
   pub fits : (t : ℕ) (action : Action) → offered k t ≡ Some action → Fits setup action

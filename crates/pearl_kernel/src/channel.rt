@@ -1,8 +1,10 @@
 // How a device stands.
 
-ghost use Rattle.std.specs.Prelude.{◌≡◌, ◌≤◌, ◌++◌, All, Some, IfOk, IsTrue, drop, length, nat_le, nat_lt, slice_get, if◌then◌else◌};
+ghost use Rattle.std.specs.Prelude.{◌≡◌, ◌≤◌, [], ◌∷◌, ◌++◌, All, Some, IfOk, IsTrue, MatchOption, drop, length, nat_le, nat_lt, slice_get, if◌then◌else◌};
 ghost use Rattle.pearl_value.specs.WellFormed.{IsTyped};
-ghost use Rattle.pearl_rules.specs.Core.{Switch, Bytes, first_channel};
+ghost use Rattle.pearl_records.specs.Records.{switch_in, bytes_in as bytes_recorded, values_in as values_recorded};
+ghost use Rattle.pearl_records.specs.States.{WaitsTyped, WaitsOf};
+ghost use Rattle.pearl_rules.specs.Core.{Switch, Bytes, Values, Outward, first_channel};
 ghost use Rattle.pearl_rules.specs.Devices.{is_on, bytes_in, values_in, terminal_room, input_room};
 ghost use Rattle.pearl_rules.specs.Pick.{is_some_value};
 ghost use Rattle.pearl_kernel.specs.Channels.{HasBytes, HasValuesFor, IsFor, behind, taken_in, without_oldest};
@@ -13,6 +15,8 @@ use pearl_port::terminal::Terminal;
 use pearl_value::cell::Cell;
 use pearl_value::conversion::convert;
 use pearl_value::device::Device;
+use pearl_value::kind::Kind;
+use pearl_value::listing::Listing;
 use std::alloc::{AllocError, Global};
 use std::marker::Model;
 
@@ -59,6 +63,69 @@ impl Channel {
             Device::Output { .. } => Waiting::Outward,
         };
         Ok(Channel { waiting })
+    }
+
+    /// A terminal at which these bytes wait. It takes all the memory that it will ever need.
+    pub fn terminal(alloc: Global, pending: &[u8]) -> Result<Channel, AllocError>
+        requires { WaitsTyped pending.now }
+        ensures { IfOk result (λ channel. channel ≡ Bytes pending.now) }
+    {
+        let mut terminal = Terminal::new(alloc)?;
+        terminal.add(pending);
+        let waiting = Waiting::Bytes(terminal);
+        Ok(Channel { waiting })
+    }
+
+    /// An input at which these values wait. It takes all the memory that it will ever need.
+    pub fn input(alloc: Global, kind: Kind, pending: &[Cell]) -> Result<Channel, AllocError>
+        requires { WaitsOf kind pending.now }
+        ensures { IfOk result (λ channel. channel ≡ Values kind pending.now) }
+    {
+        let mut input = Input::new(alloc, kind, ROOM)?;
+        for value in pending {
+            input.offer(value);
+        }
+        let waiting = Waiting::Values(input);
+        Ok(Channel { waiting })
+    }
+
+    /// A device from which nothing comes in.
+    pub fn outward() -> Channel
+        ensures { result ≡ Outward }
+    {
+        let waiting = Waiting::Outward;
+        Channel { waiting }
+    }
+
+    /// Whether an interrupt is let through, and nothing of another device.
+    pub fn switched(&self) -> Option<bool>
+        ensures { MatchOption result (switch_in self.now ≡ []) (λ enabled. switch_in self.now ≡ enabled ∷ []) }
+    {
+        match &self.waiting {
+            Waiting::Switch(enabled) => Some(*enabled),
+            _ => None,
+        }
+    }
+
+    /// The bytes that wait at a terminal, and nothing of another device.
+    pub fn typed(&self) -> Option<&[u8]>
+        ensures { MatchOption result (bytes_recorded self.now ≡ []) (λ pending. bytes_recorded self.now ≡ pending.now ∷ []) }
+    {
+        match &self.waiting {
+            Waiting::Bytes(terminal) => Some(terminal.waiting()),
+            _ => None,
+        }
+    }
+
+    /// Copies of the values that wait at an input, and nothing of another device.
+    pub fn values(&self, alloc: Global) -> Result<Option<Listing<Cell>>, AllocError>
+        ensures { IfOk result (λ copied. MatchOption copied (values_recorded self.now ≡ [])
+            (λ pending. values_recorded self.now ≡ pending ∷ [])) }
+    {
+        match &self.waiting {
+            Waiting::Values(input) => Ok(Some(copied(alloc, input)?)),
+            _ => Ok(None),
+        }
     }
 
     /// An interrupt that is let through or masked.
@@ -154,6 +221,17 @@ impl Channel {
             _ => None,
         }
     }
+}
+
+// The values that wait at an input.
+fn copied(alloc: Global, input: &Input) -> Result<Listing<Cell>, AllocError>
+    ensures { IfOk result (λ values. values ≡ input.now.items) }
+{
+    let mut values = Vec::with_capacity(alloc, input.len())?;
+    for at in 0..input.len() {
+        values.push(input.item(at))?;
+    }
+    Ok(Listing::new(values))
 }
 
 // A value comes in, converted to the input's kind, where there is room.

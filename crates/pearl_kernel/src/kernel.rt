@@ -15,7 +15,9 @@ ghost use Rattle.pearl_rules.specs.Pick.{pick, turned, can_turn as can_turn_in, 
 ghost use Rattle.pearl_rules.specs.Slots.{Fits};
 ghost use Rattle.pearl_rules.specs.Tables.{IsSetup, IsInterrupt};
 ghost use Rattle.pearl_exchange.specs.Offers.{action_of};
-ghost use Rattle.pearl_kernel.specs.Kept.{at_start, offered as offered_of, taken, IsLawful, IsToldNext, Marks, NamesWhatIsThere};
+ghost use Rattle.pearl_records.specs.States.{IsRecord};
+ghost use Rattle.pearl_records.specs.Records.{record_of, core_made, untold};
+ghost use Rattle.pearl_kernel.specs.Kept.{at_start, from_record, offered as offered_of, taken, IsLawful, IsToldNext, Marks, NamesWhatIsThere};
 ghost use Rattle.pearl_kernel.specs.Kept.{is_unsettled as is_unsettled_in, IsFirst, AllSettled};
 ghost use Rattle.pearl_kernel.specs.Eligible.{possible, entry};
 ghost use Rattle.pearl_rules.specs.Laws.{passed};
@@ -26,6 +28,11 @@ use crate::standing::Standing;
 use crate::state::State;
 use pearl_exchange::heard::{Beside, Heard};
 use pearl_exchange::offer::Offer;
+use pearl_records::laws::{
+    cores_stay_recordable, made_cores_are_recordable, records_make_the_same_core,
+    what_is_recorded_is_lawful,
+};
+use pearl_records::record::CoreRecord;
 use pearl_rules::entry::Entry;
 use pearl_rules::event::{Event, Shown};
 use pearl_rules::row::Mode;
@@ -82,6 +89,39 @@ impl Kernel {
         })
     }
 
+    /// The kernel that is made of a record, over some tables. It takes all the memory that the run needs.
+    pub fn from_record(
+        alloc: Global,
+        setup: &Setup,
+        core: &CoreRecord,
+    ) -> Result<Kernel, AllocError>
+        requires setup { IsSetup setup.now }
+        requires record { IsRecord setup.now core.now }
+        ensures restored { IfOk result (λ k. k ≡ from_record setup.now core.now) }
+        ensures lawful { IfOk result (IsLawful setup.now) }
+    {
+        made_cores_are_recordable();
+        let state = State::from_record(alloc, setup, core)?;
+        let standing = Standing::new(alloc, state.tasks())?;
+        let acting = Box::new(alloc, Offer::new())?;
+        Ok(Kernel {
+            state,
+            standing,
+            acting,
+        })
+    }
+
+    /// What is recorded of the core: of what is still to be told nothing is, nor of what tasks have offered.
+    pub fn recorded(&self, alloc: Global) -> Result<CoreRecord, AllocError>
+        ensures record { IfOk result (λ core. core ≡ record_of self.now.core) }
+        ensures lawful { IfOk result (λ core. (setup : Tables.Setup) → IsLawful setup self.now →
+            IsRecord setup core × (core_made setup core ≡ untold self.now.core)) }
+    {
+        records_make_the_same_core();
+        what_is_recorded_is_lawful();
+        self.state.recorded(alloc)
+    }
+
     /// The first active task that has offered nothing.
     pub fn unsettled(&self) -> Option<u32>
         ensures { MatchOption result (AllSettled self.now) (IsFirst self.now) }
@@ -108,6 +148,7 @@ impl Kernel {
         ensures acted { Marks self.old self.new result beside.new }
         ensures lawful { (setup : Tables.Setup) → IsLawful setup self.old → IsLawful setup self.new }
     {
+        cores_stay_recordable();
         let Some(task) = self.picked() else {
             return Acted::Idle;
         };
@@ -181,6 +222,7 @@ impl Kernel {
         ensures arrived { self.new ≡ record self.old { core = arrived self.old.core (Irpt device) } }
         ensures lawful { (setup : Tables.Setup) → IsLawful setup self.old → IsLawful setup self.new }
     {
+        cores_stay_recordable();
         let changed = self.state.interrupted(device);
         self.standing.renew_if(&self.state, changed);
     }
@@ -194,6 +236,7 @@ impl Kernel {
         ensures lawful { (setup : Tables.Setup) → IsLawful setup self.old →
             EntryFits setup self.old.core.moment entry.now → IsLawful setup self.new }
     {
+        cores_stay_recordable();
         let changed = self.state.arrive(entry);
         self.standing.renew_if(&self.state, changed);
     }
@@ -205,6 +248,7 @@ impl Kernel {
         ensures passed { self.new ≡ record self.old { core = millisecond self.old.core } }
         ensures lawful { (setup : Tables.Setup) → IsLawful setup self.old → IsLawful setup self.new }
     {
+        cores_stay_recordable();
         self.state.set_moment(self.state.now() + 1);
         serve_due(&mut self.state, &mut self.standing);
     }

@@ -5,7 +5,8 @@
 //! ([`Kernel::unsettled`], [`Kernel::offered`]); then [`Kernel::act`] does the action of the one whose turn it is, and
 //! [`Kernel::next_event`] hands out what it told. Between actions milliseconds pass ([`Kernel::tick`], [`Kernel::skip`])
 //! and interrupts occur ([`Kernel::interrupt`]); the plans that fire then serve. What comes in at terminals and inputs
-//! waits there ([`Kernel::input`]).
+//! waits there ([`Kernel::input`]). The core can be recorded ([`Kernel::recorded`]), and a kernel be made of the record
+//! ([`Kernel::from_record`]).
 #![tactic(auto)]
 
 mod alike;
@@ -21,6 +22,7 @@ mod mirror;
 mod opening;
 mod perform;
 mod plans;
+mod recorded;
 mod standing;
 mod state;
 mod timing;

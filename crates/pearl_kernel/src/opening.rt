@@ -70,8 +70,8 @@ pub fn no_progress(alloc: Global, count: usize) -> Result<Vec<Progress>, AllocEr
     Ok(progress)
 }
 
-/// The first value of each slot.
-pub fn first_values(alloc: Global, first: &[Cell]) -> Result<Vec<Cell>, AllocError>
+/// The same values once more.
+pub fn copied_values(alloc: Global, first: &[Cell]) -> Result<Vec<Cell>, AllocError>
     ensures { IfOk result (λ slots. slots.items ≡ first.now) }
 {
     let mut slots = Vec::with_capacity(alloc, first.len())?;

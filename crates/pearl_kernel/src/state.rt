@@ -22,7 +22,10 @@ ghost use Rattle.pearl_value.specs.Kinds.{IsKind};
 ghost use Rattle.pearl_exchange.specs.Offers.{action_of};
 ghost use Rattle.pearl_kernel.specs.Channels.{HasSwitch, HasBytes, HasValuesFor, taken_in_of};
 ghost use Rattle.pearl_scan.specs.Answers.{told};
-ghost use Rattle.pearl_kernel.specs.Kept.{at_start, offered as offered_of, taken, IsToldNext};
+ghost use Rattle.pearl_records.specs.States.{AllEnd, IsRecord};
+ghost use Rattle.pearl_records.specs.Records.{record_of};
+ghost use Rattle.pearl_rules.specs.Tables.{IsSetup};
+ghost use Rattle.pearl_kernel.specs.Kept.{at_start, from_record, offered as offered_of, taken, IsToldNext};
 ghost use Rattle.pearl_kernel.specs.Kept.{is_silent as is_silent_in, AllSettled, IsFirst as IsFirstUnsettled};
 ghost use Rattle.pearl_kernel.specs.Names.{Names};
 ghost use Rattle.pearl_kernel.specs.Timing.{timetable};
@@ -37,7 +40,11 @@ use crate::gets::{add_at, ask_each, ask_first, bytes_of, drop_at, items_of};
 use crate::happened::Told;
 use crate::mirror::{keep_request, keep_row};
 use crate::opening::{
-    copied_formats, first_channels, first_rows, first_values, no_offers, no_progress, tell_starts,
+    copied_formats, copied_values, first_channels, first_rows, no_offers, no_progress, tell_starts,
+};
+use crate::recorded::{
+    channels_made, counts_made, counts_recorded, inputs_recorded, switches_recorded,
+    terminals_recorded, timer_of,
 };
 use crate::unsettled::{first_bits, is_awake, put};
 use arrayvec::ArrayVec;
@@ -45,6 +52,8 @@ use pearl_bits::words::{first, lower};
 use pearl_cells::put::put_copy;
 use pearl_exchange::offer::{Offer, What};
 use pearl_format::item::Item;
+use pearl_records::record::CoreRecord;
+use pearl_records::rows::{rows_made, rows_recorded};
 use pearl_rules::event::Event;
 use pearl_rules::row::{Mode, TaskRow};
 use pearl_rules::setup::Setup;
@@ -122,7 +131,7 @@ impl State {
         let timer = Timer::new(alloc, tasks.len())?;
         let offers = no_offers(alloc, tasks.len())?;
         let unsettled = first_bits(alloc, rows.as_slice())?;
-        let slots = first_values(alloc, setup.slots.as_slice())?;
+        let slots = copied_values(alloc, setup.slots.as_slice())?;
         let semas = Semas::new(alloc, setup.semaphores.as_slice(), tasks.len())?;
         let channels = first_channels(alloc, setup.devices.as_slice())?;
         let formats = copied_formats(alloc, setup.formats.as_slice())?;
@@ -143,6 +152,68 @@ impl State {
             moment: 0,
             clock: 0,
             events,
+        })
+    }
+
+    /// The state that is made of a record, over some tables. Nothing is told, and nothing is offered.
+    pub fn from_record(alloc: Global, setup: &Setup, core: &CoreRecord) -> Result<State, AllocError>
+        requires setup { IsSetup setup.now }
+        requires record { IsRecord setup.now core.now }
+        ensures { IfOk result (λ s. s ≡ from_record setup.now core.now) }
+    {
+        let tasks = setup.tasks.as_slice().len();
+        let rows = rows_made(alloc, setup, core.tasks.as_slice())?;
+        let timer = timer_of(alloc, rows.as_slice())?;
+        let offers = no_offers(alloc, tasks)?;
+        let unsettled = first_bits(alloc, rows.as_slice())?;
+        let slots = copied_values(alloc, core.slots.as_slice())?;
+        let counts = counts_made(alloc, core.counts.as_slice())?;
+        let semas = Semas::new(alloc, counts.as_slice(), tasks)?;
+        let channels = channels_made(alloc, setup, core)?;
+        let formats = copied_formats(alloc, setup.formats.as_slice())?;
+        let progress = no_progress(alloc, tasks)?;
+        let events = Told::new(alloc)?;
+        let last = match core.last {
+            None => None,
+            Some(task) => Some(task as usize),
+        };
+        Ok(State {
+            rows,
+            timer,
+            offers,
+            unsettled,
+            slots,
+            semas,
+            channels,
+            formats,
+            progress,
+            last,
+            moment: core.moment,
+            clock: core.clock as u32,
+            events,
+        })
+    }
+
+    /// What is recorded of the core.
+    pub fn recorded(&self, alloc: Global) -> Result<CoreRecord, AllocError>
+        ensures record { IfOk result (λ core. core ≡ record_of self.now.core) }
+        ensures ends { IfOk result AllEnd }
+    {
+        let channels = self.channels.as_slice();
+        let last = match self.last {
+            None => None,
+            Some(task) => Some(task as u64),
+        };
+        Ok(CoreRecord {
+            moment: self.moment,
+            clock: self.clock as u64,
+            last,
+            slots: Listing::new(copied_values(alloc, self.slots.as_slice())?),
+            counts: counts_recorded(alloc, self.semas.counts())?,
+            switches: switches_recorded(alloc, channels)?,
+            terminals: terminals_recorded(alloc, channels)?,
+            inputs: inputs_recorded(alloc, channels)?,
+            tasks: rows_recorded(alloc, self.rows.as_slice())?,
         })
     }
 

@@ -1,6 +1,6 @@
 // The values that came in at an input of any kind, as cells.
 
-ghost use Rattle.std.specs.Prelude.{◌≡◌, ◌↔◌, ◌≤◌, Some, IsFalse, IfOk, if◌then◌else◌, length, slice_get};
+ghost use Rattle.std.specs.Prelude.{◌≡◌, ◌↔◌, ◌<◌, ◌≤◌, Some, IsFalse, IfOk, if◌then◌else◌, length, slice_get};
 ghost use Rattle.pearl_port.specs.Families.{family_of};
 ghost use Rattle.pearl_port.specs.Inputs.{as_cells, family_of_kind};
 ghost use Rattle.pearl_port.specs.Pending.{empty, IsFull, joined, served};
@@ -85,6 +85,20 @@ impl Input {
         }
     }
 
+    /// One of those that wait; the oldest one has the number 0.
+    pub fn item(&self, at: usize) -> Cell
+        requires { at < length self.now.items }
+        ensures { slice_get self.now.items at ≡ Some result }
+    {
+        match &self.port {
+            AnyPort::Fixed(port) => item_cell(port, at),
+            AnyPort::Bits(port) => item_cell(port, at),
+            AnyPort::Chars(port) => item_cell(port, at),
+            AnyPort::Clock(port) => item_cell(port, at),
+            AnyPort::Span(port) => item_cell(port, at),
+        }
+    }
+
     /// A value of the input's family comes in: it waits behind all others, or, where the input is full, it is dropped
     /// and nothing changes. The answer tells whether it waits.
     pub fn offer(&mut self, value: &Cell) -> bool
@@ -129,6 +143,14 @@ fn offer_cell<T: Carried + Drop>(port: &mut Port<T>, value: &Cell) -> bool
     }
 }
 
+// One of the values that wait, as a cell.
+fn item_cell<T: Carried + Drop>(port: &Port<T>, at: usize) -> Cell
+    requires { at < length (as_cells T.cell_of port.now).items }
+    ensures { slice_get (as_cells T.cell_of port.now).items at ≡ Some result }
+{
+    port.item(at).to_cell()
+}
+
 // The oldest value is taken, as a cell.
 fn next_cell<T: Carried + Drop>(port: &mut Port<T>) -> Option<Cell>
     ensures oldest { result ≡ slice_get (as_cells T.cell_of port.old).items 0 }
@@ -150,6 +172,7 @@ mod tests {
         assert!(rt; input.offer(&Cell::Span(8)));
         assert!(rt; !input.offer(&Cell::Span(9)));
         assert_eq!(rt; input.len(), 2);
+        assert!(rt; matches!(input.item(1), Cell::Span(8)));
         assert!(rt; matches!(input.next(), Some(Cell::Span(-5))));
         assert!(rt; matches!(input.next(), Some(Cell::Span(8))));
         assert!(rt; input.next().is_none());

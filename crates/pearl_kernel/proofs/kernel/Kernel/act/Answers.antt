@@ -69,7 +69,7 @@ renew-requires-clause-tasks c =
     let t = c.in-Some.task in
     let a = (action_of c.deref.result.now) in
     let there = subst (λ (k : Kept). t < length k.core.tasks) (sym c.self.view_is) c.in-Some.ensures.there in
-    let new = acted of.0 s c.take_offer.new.self c.act-done.new.self t a of.1 there
+    let new = acted c.cores_stay_recordable.ensures.acts of.0 s c.take_offer.new.self c.act-done.new.self t a of.1 there
     (taken c.self.inside.state c.in-Some.task _ _ (c.take_offer.ensures.taken c.if-not-take_offer.false) c.deref.ensures) c.take_offer.ensures.rest c.act-done.ensures.state in
     subst (λ (k : Kept). IsOfTasks k c.self.inside.standing) (sym new.is)
     (still-of of.0 s (done s t a) c.self.inside.standing of.1 new.lawful c.self.invariant)
@@ -81,7 +81,7 @@ renew-requires-clause-own c =
     let t = c.in-Some.task in
     let a = (action_of c.deref.result.now) in
     let there = subst (λ (k : Kept). t < length k.core.tasks) (sym c.self.view_is) c.in-Some.ensures.there in
-    let new = acted of.0 s c.take_offer.new.self c.act-done.new.self t a of.1 there
+    let new = acted c.cores_stay_recordable.ensures.acts of.0 s c.take_offer.new.self c.act-done.new.self t a of.1 there
     (taken c.self.inside.state c.in-Some.task _ _ (c.take_offer.ensures.taken c.if-not-take_offer.false) c.deref.ensures) c.take_offer.ensures.rest c.act-done.ensures.state in
     subst (λ (k : Kept). t < length k.core.tasks) (sym new.is)
     (subst (λ n. t < n) (of.1.tasks ∙ sym new.lawful.tasks) there)
@@ -93,7 +93,7 @@ renew-requires-clause-there c =
     let t = c.in-Some.task in
     let a = (action_of c.deref.result.now) in
     let there = subst (λ (k : Kept). t < length k.core.tasks) (sym c.self.view_is) c.in-Some.ensures.there in
-    let new = acted of.0 s c.take_offer.new.self c.act-done.new.self t a of.1 there
+    let new = acted c.cores_stay_recordable.ensures.acts of.0 s c.take_offer.new.self c.act-done.new.self t a of.1 there
     (taken c.self.inside.state c.in-Some.task _ _ (c.take_offer.ensures.taken c.if-not-take_offer.false) c.deref.ensures) c.take_offer.ensures.rest c.act-done.ensures.state in
     let touched = reach_of c.as_slice-list.result.now c.act-done.result.touched in
     let same = c.as_slice-list.ensures.value ∙ ap (λ (o : Offer). o.list.items) (c.deref-2.ensures ∙ sym c.deref.ensures) in
@@ -110,7 +110,7 @@ invariant_of-self-2 c =
     let t = c.in-Some.task in
     let a = (action_of c.deref.result.now) in
     let there = subst (λ (k : Kept). t < length k.core.tasks) (sym c.self.view_is) c.in-Some.ensures.there in
-    let new = acted of.0 s c.take_offer.new.self c.act-done.new.self t a of.1 there
+    let new = acted c.cores_stay_recordable.ensures.acts of.0 s c.take_offer.new.self c.act-done.new.self t a of.1 there
     (taken c.self.inside.state c.in-Some.task _ _ (c.take_offer.ensures.taken c.if-not-take_offer.false) c.deref.ensures) c.take_offer.ensures.rest c.act-done.ensures.state in
     let standing = c.self.inside.standing in
     let touched = reach_of c.as_slice-list.result.now c.act-done.result.touched in
@@ -132,6 +132,6 @@ returns-clause-lawful c = λ setup lawful.
     let a = (action_of c.deref.result.now) in
     let before = subst (λ (k : Kept). IsLawful setup k) (sym c.self.view_is) lawful in
     let there = subst (λ (k : Kept). t < length k.core.tasks) (sym c.self.view_is) c.in-Some.ensures.there in
-    let new = acted setup s c.take_offer.new.self c.act-done.new.self t a before there
+    let new = acted c.cores_stay_recordable.ensures.acts setup s c.take_offer.new.self c.act-done.new.self t a before there
     (taken c.self.inside.state c.in-Some.task _ _ (c.take_offer.ensures.taken c.if-not-take_offer.false) c.deref.ensures) c.take_offer.ensures.rest c.act-done.ensures.state in
     subst (λ (k : Kept). IsLawful setup k) (sym new.is) new.lawful

@@ -18,7 +18,7 @@ renew_if-requires c =
     let before = subst (λ (k : Kept). IsLawful f.0 k) (sym c.self.view_is) f.1 in
     let fits = subst (λ (k : Kept). EntryFits f.0 k.core.moment c.args.entry.now) (sym c.self.view_is) f.2 in
     let lawful = subst (λ (k : Kept). IsLawful f.0 k) (sym c.arrive-changed.ensures.arrived)
-    (lawful-arrived f.0 s c.args.entry.now fits before) in
+    (lawful-arrived c.cores_stay_recordable.ensures.arrives f.0 s c.args.entry.now fits before) in
     still-of f.0 s c.arrive-changed.new.self c.self.inside.standing before lawful c.self.invariant
 
 pub invariant_of-self : goal.invariant_of-self
@@ -28,7 +28,7 @@ invariant_of-self c =
     let before = subst (λ (k : Kept). IsLawful f.0 k) (sym c.self.view_is) f.1 in
     let fits = subst (λ (k : Kept). EntryFits f.0 k.core.moment c.args.entry.now) (sym c.self.view_is) f.2 in
     let lawful = subst (λ (k : Kept). IsLawful f.0 k) (sym c.arrive-changed.ensures.arrived)
-    (lawful-arrived f.0 s.state c.args.entry.now fits before) in
+    (lawful-arrived c.cores_stay_recordable.ensures.arrives f.0 s.state c.args.entry.now fits before) in
     kept-stirred f.0 s.state c.arrive-changed.new.self s.standing c.renew_if.new.self c.arrive-changed.result before lawful
     (ap (λ (k : Kept). k.offers) c.arrive-changed.ensures.arrived) c.arrive-changed.ensures.stirs c.self.invariant c.renew_if.ensures
 
@@ -45,4 +45,4 @@ returns-clause-lawful c = λ setup lawful comes.
     let s = c.self.inside.state in
     let before = subst (λ (k : Kept). IsLawful setup k) (sym c.self.view_is) lawful in
     let fits = subst (λ (k : Kept). EntryFits setup k.core.moment c.args.entry.now) (sym c.self.view_is) comes in
-    subst (λ (k : Kept). IsLawful setup k) (sym c.arrive-changed.ensures.arrived) (lawful-arrived setup s c.args.entry.now fits before)
+    subst (λ (k : Kept). IsLawful setup k) (sym c.arrive-changed.ensures.arrived) (lawful-arrived c.cores_stay_recordable.ensures.arrives setup s c.args.entry.now fits before)

@@ -16,7 +16,7 @@ renew_if-requires c =
     let f = c.requires.there in
     let before = subst (λ (k : Kept). IsLawful f.0 k) (sym c.self.view_is) f.1 in
     let lawful = subst (λ (k : Kept). IsLawful f.0 k) (sym c.interrupted-changed.ensures.occurs)
-    (lawful-interrupt f.0 s c.args.device f.2 before) in
+    (lawful-interrupt c.cores_stay_recordable.ensures.arrives f.0 s c.args.device f.2 before) in
     still-of f.0 s c.interrupted-changed.new.self c.self.inside.standing before lawful c.self.invariant
 
 pub invariant_of-self : goal.invariant_of-self
@@ -25,7 +25,7 @@ invariant_of-self c =
     let f = c.requires.there in
     let before = subst (λ (k : Kept). IsLawful f.0 k) (sym c.self.view_is) f.1 in
     let lawful = subst (λ (k : Kept). IsLawful f.0 k) (sym c.interrupted-changed.ensures.occurs)
-    (lawful-interrupt f.0 s.state c.args.device f.2 before) in
+    (lawful-interrupt c.cores_stay_recordable.ensures.arrives f.0 s.state c.args.device f.2 before) in
     kept-stirred f.0 s.state c.interrupted-changed.new.self s.standing c.renew_if.new.self c.interrupted-changed.result before lawful
     (ap (λ (k : Kept). k.offers) c.interrupted-changed.ensures.occurs) c.interrupted-changed.ensures.stirs c.self.invariant c.renew_if.ensures
 
@@ -37,4 +37,4 @@ returns-clause-lawful c = λ setup lawful.
     let before = subst (λ (k : Kept). IsLawful setup k) (sym c.self.view_is) lawful in
     let is = same-interrupt f.0.devices setup.devices s.core.channels c.args.device first.kinds.channels
     before.kinds.channels f.2 in
-    subst (λ (k : Kept). IsLawful setup k) (sym c.interrupted-changed.ensures.occurs) (lawful-interrupt setup s c.args.device is before)
+    subst (λ (k : Kept). IsLawful setup k) (sym c.interrupted-changed.ensures.occurs) (lawful-interrupt c.cores_stay_recordable.ensures.arrives setup s c.args.device is before)

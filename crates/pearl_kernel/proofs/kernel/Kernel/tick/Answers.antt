@@ -25,7 +25,7 @@ invariant_of-self c =
     let is = millisecond-is s c.set_moment.new.self c.serve_due.new.state c.now.result (c.now.result + 1) c.now.ensures refl c.set_moment.ensures c.serve_due.ensures.served in
     record {
       few = subst (λ (k : Kept). length k.core.tasks ≤ 200) (sym is) (few-still s.core c.self.invariant.few);
-      lawful = (of.0, subst (λ (k : Kept). IsLawful of.0 k) (sym is) (lawful-millisecond of.0 s later of.1));
+      lawful = (of.0, subst (λ (k : Kept). IsLawful of.0 k) (sym is) (lawful-millisecond c.cores_stay_recordable.ensures.passes of.0 s later of.1));
       stand = c.serve_due.ensures.stand;
     }
 
@@ -42,4 +42,4 @@ returns-clause-lawful c = λ setup lawful.
     let later = subst (λ (k : Kept). k.core.moment + 1 ≤ last_moment_of_all) (sym c.self.view_is) c.requires.later in
     let before = subst (λ (k : Kept). IsLawful setup k) (sym c.self.view_is) lawful in
     let is = millisecond-is s c.set_moment.new.self c.serve_due.new.state c.now.result (c.now.result + 1) c.now.ensures refl c.set_moment.ensures c.serve_due.ensures.served in
-    subst (λ (k : Kept). IsLawful setup k) (sym is) (lawful-millisecond setup s later before)
+    subst (λ (k : Kept). IsLawful setup k) (sym is) (lawful-millisecond c.cores_stay_recordable.ensures.passes setup s later before)

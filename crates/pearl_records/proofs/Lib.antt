@@ -1,0 +1,4 @@
+mod Channels
+mod RowLaws
+mod Cores
+mod Making
