@@ -1,0 +1,5 @@
+mod Turned
+mod Alike
+mod Forth
+mod Back
+mod Again
