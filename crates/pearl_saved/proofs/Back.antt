@@ -42,17 +42,17 @@ record LeafAt (leaves : List Leaf) (kind : Kind) (slot : ℕ) : Type 0 where
 leaf_at : (leaves : List Leaf) (slot : ℕ) (kind : Kind) → slot_kind leaves slot ≡ Some kind → LeafAt leaves kind slot
 leaf_at [] slot kind e = absurd cc
 leaf_at (leaf ∷ leaves) slot kind e = elim (cases_lt slot leaf.slots) [
-    | inl less ↦
-        let one : Some leaf.kind ≡ Some kind = sym (chosen (nat_lt slot leaf.slots) true (lt-ltb slot leaf.slots less)) ∙ e in
-        let s : leaf.kind ≡ kind = cc in
-        record { number = 0; leaf = leaf; there = refl; of = s; from = omega arith; up_to = omega (arith, less) }
-    | inr more ↦
-        let rest : slot_kind leaves (slot - leaf.slots) ≡ Some kind = sym (chosen (nat_lt slot leaf.slots) false (le-ltb slot leaf.slots more)) ∙ e in
-        let r = leaf_at leaves (slot - leaf.slots) kind rest in
-        let low = r.from in
-        let high = r.up_to in
-        record { number = suc r.number; leaf = r.leaf; there = r.there; of = r.of; from = omega (arith, more, low); up_to = omega (arith, more, high) }
-  ]
+  | inl less ↦
+      let one : Some leaf.kind ≡ Some kind = sym (chosen (nat_lt slot leaf.slots) true (lt-ltb slot leaf.slots less)) ∙ e in
+      let s : leaf.kind ≡ kind = cc in
+      record { number = 0; leaf = leaf; there = refl; of = s; from = omega arith; up_to = omega (arith, less) }
+  | inr more ↦
+      let rest : slot_kind leaves (slot - leaf.slots) ≡ Some kind = sym (chosen (nat_lt slot leaf.slots) false (le-ltb slot leaf.slots more)) ∙ e in
+      let r = leaf_at leaves (slot - leaf.slots) kind rest in
+      let low = r.from in
+      let high = r.up_to in
+      record { number = suc r.number; leaf = r.leaf; there = r.there; of = r.of; from = omega (arith, more, low); up_to = omega (arith, more, high) }
+]
   where
     chosen : (a b : Bool) → a ≡ b
         → (if a then Some leaf.kind else slot_kind leaves (slot - leaf.slots)) ≡ (if b then Some leaf.kind else slot_kind leaves (slot - leaf.slots))
@@ -148,7 +148,7 @@ module _ (o : Object) where
       let shape = drop c.callee.params (shape_before o g.routine c.code g.place) in
       subst (Alike o (routines_of (g ∷ lower))) (sym (stack_more g lower))
       (one_more_alike o (routines_of lower) (stack_record lower) (frame_record g) c.code alike c.routine
-          (cells_of (routines_of lower) (stack_record lower) alike g c.code shape c.stands).kinds)
+      (cells_of (routines_of lower) (stack_record lower) alike g c.code shape c.stands).kinds)
 
   calling : (p : ℕ) (g : Frame) (lower : List Frame) → Below o p (g ∷ lower) → (c : IsAtCall o p (frame_record g))
       × AllByRecursion (RefersWell o (stack_record lower)) (frame_record g).cells
@@ -181,10 +181,13 @@ module _ (o : Object) where
       append_none [] = refl
       append_none (y ∷ ys) = ap (λ zs. y ∷ zs) (append_none ys)
   refer_more lower (y ∷ xs) x h cells operands =
-      let same : lower ++ (y ∷ xs) ≡ (lower ++ y ∷ []) ++ xs = sym (append_assoc lower (y ∷ []) xs) in
-      (h.0, h.1, refer_more (lower ++ y ∷ []) xs x h.2
-          (subst (λ l. AllByRecursion (RefersWell o l) x.cells) same cells)
-          (subst (λ l. AllByRecursion (RefersWell o (l ++ x ∷ [])) x.operands) same operands))
+      let same : lower ++ (y ∷ xs) ≡ (lower ++ y ∷ []) ++ xs = sym (append_assoc lower (y ∷ []) xs) in (
+        h.0,
+        h.1,
+        refer_more (lower ++ y ∷ []) xs x h.2
+            (subst (λ l. AllByRecursion (RefersWell o l) x.cells) same cells)
+            (subst (λ l. AllByRecursion (RefersWell o (l ++ x ∷ [])) x.operands) same operands),
+      )
 
   below_refer : (p : ℕ) (lower : List Frame) → Below o p lower → AllRefer o [] (stack_record lower)
   below_refer p [] b = tt
@@ -205,7 +208,7 @@ module _ (o : Object) where
       let r = frame_recorded (routines_of lower) (stack_record lower) alike f top.code shape top.routine top.stands in
       let task : lowest f lower ≡ length o.procedures + t = omega (arith, lowest_is f lower top.below, h.task) in
       let whole = descend f lower (frame_record f) [] top.below
-          (refl, record { code = top.code; routine = top.routine; place = top.place; stands = r.stands }) refl in (
+      (refl, record { code = top.code; routine = top.routine; place = top.place; stands = r.stands }) refl in (
         subst (λ frames. IsStackOf o (length o.procedures + t) frames) (sym (stack_more f lower))
             (subst (λ p. IsStackOf o p (stack_record lower ++ frame_record f ∷ [])) task whole),
         subst (AllRefer o []) (sym (stack_more f lower)) (refer_more [] (stack_record lower) (frame_record f) (below_refer f.routine lower top.below) r.cells r.operands),

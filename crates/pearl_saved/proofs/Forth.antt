@@ -102,15 +102,17 @@ module _ (o : Object) where
       let rs = routines_of (map frame_made below) in
       let shape = drop at.callee.params (shape_before o f.routine at.code f.place) in
       climb above.routine (f ∷ below) (lower ++ f ∷ []) (above ∷ more)
-      (one_more_alike o rs lower f at.code alike at.routine at.stands.cells)
-      (record {
-        callee = at.callee;
-        called = at.called;
-        code = at.code;
-        routine = at.routine;
-        place = at.place;
-        stands = stands rs lower alike f at.code shape at.routine at.stands refers.0 refers.1;
-      }, subst (λ r. Below o r (map frame_made below)) (sym is.0) b)
+      (one_more_alike o rs lower f at.code alike at.routine at.stands.cells) (
+        record {
+          callee = at.callee;
+          called = at.called;
+          code = at.code;
+          routine = at.routine;
+          place = at.place;
+          stands = stands rs lower alike f at.code shape at.routine at.stands refers.0 refers.1;
+        },
+        subst (λ r. Below o r (map frame_made below)) (sym is.0) b,
+      )
       is.2 refers.2
 
   -- frames on a stack leave it its task's
