@@ -27,6 +27,8 @@ mod rules;
 #[cfg(test)]
 mod saved_rules;
 #[cfg(test)]
+mod saved_runs;
+#[cfg(test)]
 mod scans;
 #[cfg(test)]
 mod snapshots;

@@ -12,9 +12,13 @@ mod Making
 mod Acting
 mod Passing
 mod Loading
+mod Members
+mod Filling
+mod Resuming
 mod Entering
 mod Last
 mod Calls
+mod Recording
 mod Moments
 mod Slots
 mod Marked

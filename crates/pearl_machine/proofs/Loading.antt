@@ -25,7 +25,7 @@ use Rattle.pearl_machine.proofs.Acting.{stand_refreshed}
 abbrev pub first_kept : Setup → Kept
 first_kept setup = record { core = opening setup; offers = replicate (length setup.tasks) None }
 
-none_at : {X : Type 0} (n i : ℕ) → kept_at {X = X} (replicate n None) i ≡ None
+pub none_at : {X : Type 0} (n i : ℕ) → kept_at {X = X} (replicate n None) i ≡ None
 none_at zero i = refl
 none_at (suc n) zero = refl
 none_at (suc n) (suc i) = none_at n i

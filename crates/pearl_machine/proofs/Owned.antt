@@ -27,7 +27,7 @@ use Rattle.pearl_instructions.proofs.Offered.{offers_is}
 use Rattle.pearl_solo.specs.Answered.{CanHear}
 use Rattle.pearl_machine.specs.declared.part.Part.{Part}
 use Rattle.pearl_machine.specs.Known.{Known}
-use Rattle.pearl_machine.specs.Parts.{HasMemory, HasMemories, IsShallow, first_part, is_going, start_of}
+use Rattle.pearl_machine.specs.Parts.{HasMemory, HasMemories, IsShallow, first_part, is_going, stack_in, start_of}
 use Rattle.pearl_machine.proofs.Listed.{get_here, get_elsewhere}
 
 -- MEMORY
@@ -110,6 +110,14 @@ pub first_still : (tasks : List Task) (parts : List Part) (most : ℕ) → parts
 first_still tasks parts most is t = ap (λ ps. is_going (slice_get ps t)) is ∙ (ap is_going (slice_get-map (first_part most) tasks t) ∙ by_task (slice_get tasks t))
   where
     by_task : (x : Option Task) → is_going (option_map (first_part most) x) ≡ false
+    by_task None = refl
+    by_task (Some task) = refl
+
+pub first_empty : (tasks : List Task) (parts : List Part) (most : ℕ) → parts ≡ map (first_part most) tasks → (t : ℕ) → (stack_in (slice_get parts t)).frames ≡ []
+first_empty tasks parts most is t =
+    ap (λ ps. (stack_in (slice_get ps t)).frames) is ∙ (ap (λ part. (stack_in part).frames) (slice_get-map (first_part most) tasks t) ∙ by_task (slice_get tasks t))
+  where
+    by_task : (x : Option Task) → (stack_in (option_map (first_part most) x)).frames ≡ []
     by_task None = refl
     by_task (Some task) = refl
 

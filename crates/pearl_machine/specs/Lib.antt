@@ -10,3 +10,5 @@ pub mod Told
 pub mod Ready
 -- one mark of a run, and what each active task does behind it
 pub mod Marked
+-- what is saved of a machine, and the machine that goes on from what was saved
+pub mod Resumed

@@ -10,6 +10,7 @@ pub mod laws;
 mod lines;
 mod machine;
 mod part;
+mod saved;
 mod tables;
 
 pub use machine::Machine;

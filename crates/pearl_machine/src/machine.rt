@@ -18,11 +18,15 @@ ghost use Rattle.pearl_script.specs.Lines.{close_line as line_of_close, lines_of
 ghost use Rattle.pearl_kernel.specs.Timing.{IsQuiet};
 ghost use Rattle.pearl_machine.specs.Seen.{Seen, Handles, SettledBy, ActedBy, Makes, TakesNext};
 ghost use Rattle.pearl_machine.specs.Seen.{NobodyActs, Skips, PassesSome, picked, retold};
+ghost use Rattle.pearl_records.specs.States.{AllEnd};
+ghost use Rattle.pearl_saved.specs.Rules.{IsMachineState};
+ghost use Rattle.pearl_machine.specs.Resumed.{saved_of, resumed, before_offers};
 ghost use Rattle.pearl_machine.specs.Told.{IsCutOff, IsCutBehind, IsCutInLastMark};
 
 use crate::known::laws_hold;
 use crate::lines::{known_pick, state_of};
 use crate::part::{Part, answer_part, new_parts, settle_part, step_part};
+use crate::saved::{filled_parts, saved_stacks};
 use crate::tables::setup;
 use arrayvec::ArrayVec;
 use pearl_exchange::heard::Beside;
@@ -32,6 +36,8 @@ use pearl_io::{Sink, WriteFault, put_all};
 use pearl_kernel::{Acted, Kernel};
 use pearl_rules::entry::Entry;
 use pearl_rules::setup::Setup;
+use pearl_saved::laws::{stacks_are_split, stacks_come_back};
+use pearl_saved::saved::Saved;
 use pearl_script::transcript::{close_line, event_line};
 use pearl_solo::stepped::Gave;
 use pearl_value::cell::Cell;
@@ -85,6 +91,38 @@ impl Machine {
             beside: Beside::new(),
             due,
         })
+    }
+
+    /// The machine that goes on from a saved state of an object. It takes all the memory that the run needs.
+    pub fn restored(alloc: Global, object: Valid, saved: Saved) -> Result<Machine, AllocError>
+        requires state { IsMachineState object saved }
+        requires ends { AllEnd saved.core }
+        ensures { IfOk result (λ machine. machine ≡ resumed object saved) }
+    {
+        laws_hold(&object);
+        stacks_are_split();
+        let setup = setup(alloc, &object)?;
+        let kernel = Kernel::from_record(alloc, &setup, &saved.core)?;
+        let rows = saved.core.tasks.as_slice();
+        let parts = filled_parts(alloc, &object, rows, saved.stacks.as_slice())?;
+        let offer = Box::new(alloc, Offer::new())?;
+        let due = kernel.tasks();
+        Ok(Machine {
+            code: object,
+            setup,
+            kernel,
+            parts,
+            offer,
+            beside: Beside::new(),
+            due,
+        })
+    }
+
+    /// The object.
+    pub fn object(&self) -> &Valid
+        ensures { result.now ≡ self.now.object }
+    {
+        &self.code
     }
 
     /// The tables of the object.
@@ -257,6 +295,41 @@ impl Machine {
         settle_part(&self.code, &mut self.parts, task, &mut self.offer);
         self.kernel.offered(task, &mut self.offer);
         true
+    }
+
+    /// What is saved of the machine. Every active task goes on to its next action first, which doesn't change the core.
+    pub fn saved(&mut self, alloc: Global) -> Result<Saved, AllocError>
+        requires taken { self.old.state.core.told ≡ [] }
+        ensures object { self.new.object ≡ self.old.object }
+        ensures core { self.new.state.core ≡ self.old.state.core }
+        ensures settled { unsettled self.new.state ≡ None }
+        ensures still { unsettled self.old.state ≡ None → self.new ≡ self.old }
+        ensures handles { (from : List Entry) → Handles self.old from from self.new [] }
+        ensures saved { IfOk result (λ saved. saved ≡ saved_of self.new.state) }
+        // The run can go on from it,
+        ensures state { IfOk result (IsMachineState self.new.object) }
+        ensures ends { IfOk result (λ saved. AllEnd saved.core) }
+        // with the same core and the same stacks.
+        ensures again { IfOk result (λ saved. resumed self.new.object saved ≡ before_offers self.new) }
+    {
+        self.settle();
+        self.record(alloc)
+    }
+
+    // What is saved of it, where each active task has offered its action.
+    fn record(&self, alloc: Global) -> Result<Saved, AllocError>
+        requires settled { unsettled self.now.state ≡ None }
+        requires taken { self.now.state.core.told ≡ [] }
+        ensures saved { IfOk result (λ saved. saved ≡ saved_of self.now.state) }
+        ensures state { IfOk result (IsMachineState self.now.object) }
+        ensures ends { IfOk result (λ saved. AllEnd saved.core) }
+        ensures again { IfOk result (λ saved. resumed self.now.object saved ≡ before_offers self.now) }
+    {
+        stacks_are_split();
+        stacks_come_back();
+        let core = self.kernel.recorded(alloc)?;
+        let stacks = saved_stacks(alloc, self.parts.as_slice(), core.tasks.as_slice())?;
+        Ok(Saved { core, stacks })
     }
 
     // Every active task goes on to its next action.

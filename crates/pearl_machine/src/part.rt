@@ -1,6 +1,6 @@
 //! The row of the tasks' stacks.
 
-ghost use Rattle.std.specs.Prelude.{◌≡◌, ℕ, ◌+◌, ◌≤◌, ◌<◌, ◌^◌, Bool, true, false, Some, None, IfSome, IfOk, length, map, slice_get, slice_set};
+ghost use Rattle.std.specs.Prelude.{◌≡◌, ℕ, ◌+◌, ◌≤◌, ◌<◌, ◌^◌, [], Bool, true, false, Some, None, IfSome, IfOk, length, map, slice_get, slice_set};
 ghost use Rattle.std.specs.List.{AllByRecursion};
 ghost use Rattle.pearl_rules.specs.Slots.{Fits};
 ghost use Rattle.pearl_instructions.specs.Rows.{row};
@@ -196,6 +196,7 @@ pub fn new_parts(alloc: Global, code: &Valid) -> Result<Vec<Part>, NoMemory>
     ensures each { IfOk result (λ parts. length parts.items ≡ length code.now.tasks) }
     ensures memory { IfOk result (λ parts. HasMemories code.now parts.items) }
     ensures still { IfOk result (λ parts. (t : ℕ) → is_going (slice_get parts.items t) ≡ false) }
+    ensures empty { IfOk result (λ parts. (t : ℕ) → (stack_in (slice_get parts.items t)).frames ≡ []) }
 {
     laws_hold(code);
     let object = code.object();

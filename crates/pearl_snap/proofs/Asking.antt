@@ -17,11 +17,11 @@ use Rattle.pearl_instructions.specs.declared.object.Parts.{Parts as Object}
 use Rattle.pearl_instructions.specs.Objects.{routine_at}
 use Rattle.pearl_instructions.specs.Valid.{shape_before}
 use Rattle.pearl_verify.specs.Shapes.{shape_in, shape_at}
-use Rattle.pearl_snap.specs.declared.record.TaskRecord.{TaskRecord}
-use Rattle.pearl_snap.specs.declared.saved.SavedCell.{SavedCell}
-use Rattle.pearl_snap.specs.declared.saved.FrameRecord.{FrameRecord}
+use Rattle.pearl_records.specs.declared.record.TaskRecord.{TaskRecord}
+use Rattle.pearl_saved.specs.declared.saved.SavedCell.{SavedCell}
+use Rattle.pearl_saved.specs.declared.saved.FrameRecord.{FrameRecord}
 use Rattle.pearl_snap.specs.declared.stack_rule.Asked.{Asked}
-use Rattle.pearl_snap.specs.Rules.{kind_held, AreOf, HoldsHeld, IsAtPlace, IsAtCall, IsStackOf, HasStack, HasStacks}
+use Rattle.pearl_saved.specs.Rules.{kind_held, AreOf, HoldsHeld, IsAtPlace, IsAtCall, IsStackOf, HasStack, HasStacks}
 use Rattle.pearl_snap.specs.Asking.{HasShape, IsMet, AreMet, Asks}
 
 -- ---- lists of kinds that lie the other way round

@@ -3,7 +3,7 @@ use Rattle.std.proofs.Common.{◌≡◌, ℕ, suc, ◌+◌, ◌<◌, List, [], �
 use Rattle.std.proofs.lemmas.List.{take_more}
 use Rattle.std.specs.List.{AllByRecursion}
 use Rattle.pearl_value.specs.declared.cell.Cell.{Cell}
-use Rattle.pearl_snap.specs.declared.saved.FrameRecord.{FrameRecord}
+use Rattle.pearl_saved.specs.declared.saved.FrameRecord.{FrameRecord}
 use Rattle.pearl_snap.specs.Leads.{Leads, AllLead}
 
 -- the stack's references lead to values exactly if those of the frames from here on do

@@ -14,11 +14,12 @@ use Rattle.pearl_object.specs.Lists.{alone}
 use Rattle.pearl_object.specs.Codes.{code as code_part}
 use Rattle.pearl_object.specs.Objects.{procedure, task, parts, object, object_bytes}
 use Rattle.pearl_object.proofs.Offered.{object_fits}
-use Rattle.pearl_snap.specs.declared.saved.Saved.{Saved}
+use Rattle.pearl_saved.specs.declared.saved.Saved.{Saved}
 use Rattle.pearl_snap.specs.States.{saved}
 use Rattle.pearl_snap.specs.Snapshots.{front, snapshot, snapshot_bytes}
-use Rattle.pearl_snap.specs.Rules.{IsMachineState}
-use Rattle.pearl_snap.specs.Restoring.{AllEnd, IsSnapshot}
+use Rattle.pearl_saved.specs.Rules.{IsMachineState}
+use Rattle.pearl_records.specs.States.{AllEnd}
+use Rattle.pearl_snap.specs.Restoring.{IsSnapshot}
 use Rattle.pearl_snap.proofs.Spelling.{AreCounted, state_fits}
 
 abbrev IsCounted : Code → Type 0
@@ -63,7 +64,7 @@ object_counted o s lawful are =
     are_counted o (object_fits o lawful (bytes_behind n b (bytes_before (n ++ b) (saved.bytes s) behind)))
 
 -- the bytes that are written of a state of an object are those of a snapshot
-pub is_snapshot : (bytes : List ℕ) (o : Object) (s : Saved) → IsBytes bytes → IsObject o → bytes ≡ snapshot_bytes o s → IsMachineState o s → AllEnd s → IsSnapshot bytes o s
+pub is_snapshot : (bytes : List ℕ) (o : Object) (s : Saved) → IsBytes bytes → IsObject o → bytes ≡ snapshot_bytes o s → IsMachineState o s → AllEnd s.core → IsSnapshot bytes o s
 is_snapshot bytes o s are lawful same is ends = record {
   object = lawful;
   state = state_fits o s lawful (object_counted o s lawful (subst IsBytes same are)) is ends;

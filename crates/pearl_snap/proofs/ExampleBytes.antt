@@ -5,7 +5,7 @@ use Rattle.pearl_fields.specs.Codec.{number_bytes, digits, number_read, number_i
 use Rattle.pearl_object.specs.Kinds.{kind}
 use Rattle.pearl_object.specs.Literals.{literal, value_of}
 use Rattle.pearl_object.specs.Objects.{parts, object}
-use Rattle.pearl_snap.specs.declared.saved.Saved.{Saved}
+use Rattle.pearl_saved.specs.declared.saved.Saved.{Saved}
 use Rattle.pearl_snap.specs.Lists.{maybe_number}
 use Rattle.pearl_snap.specs.Cells.{target, reference, cell}
 use Rattle.pearl_snap.specs.Plans.{continuation, activation}

@@ -8,16 +8,19 @@ use Rattle.pearl_instructions.specs.declared.instr.Instr.TheVariants.{RefCell, C
 use Rattle.pearl_instructions.specs.declared.object.Code.{Code}
 use Rattle.pearl_instructions.specs.declared.object.Procedure.{Procedure}
 use Rattle.pearl_instructions.specs.declared.object.Parts.{Parts as Object}
-use Rattle.pearl_snap.specs.declared.record.CoreRecord.{CoreRecord}
-use Rattle.pearl_snap.specs.declared.record.Standing.TheVariants.{Active}
-use Rattle.pearl_snap.specs.declared.record.PlanRecord.{PlanRecord}
-use Rattle.pearl_snap.specs.declared.record.EndRecord.TheVariants.{Never}
-use Rattle.pearl_snap.specs.declared.saved.Target.TheVariants.{Own}
-use Rattle.pearl_snap.specs.declared.saved.SavedCell.{SavedCell}
-use Rattle.pearl_snap.specs.declared.saved.SavedCell.TheVariants.{Value, Variable}
-use Rattle.pearl_snap.specs.declared.saved.FrameRecord.{FrameRecord}
+use Rattle.pearl_instructions.specs.Setups.{setup_of}
+use Rattle.pearl_records.specs.declared.record.CoreRecord.{CoreRecord}
+use Rattle.pearl_records.specs.declared.record.Standing.TheVariants.{Active}
+use Rattle.pearl_records.specs.declared.record.PlanRecord.{PlanRecord}
+use Rattle.pearl_records.specs.declared.record.EndRecord.TheVariants.{Never}
+use Rattle.pearl_saved.specs.declared.saved.Target.TheVariants.{Own}
+use Rattle.pearl_saved.specs.declared.saved.SavedCell.{SavedCell}
+use Rattle.pearl_saved.specs.declared.saved.SavedCell.TheVariants.{Value, Variable}
+use Rattle.pearl_saved.specs.declared.saved.FrameRecord.{FrameRecord}
 use Rattle.pearl_value.specs.WellFormed.{IsValue, IsValueOf}
-use Rattle.pearl_snap.specs.Rules.{HasParts, HasNumbers, HasPlans, IsPlan, IsHeld, IsAtCall, IsAtPlace, HasStacks, IsStackOf, AllRefer, own_kind, Names}
+use Rattle.pearl_records.specs.States.{HasNumbers, HasSpans, IsPlan}
+use Rattle.pearl_saved.specs.Rules.{IsHeld, IsAtCall, IsAtPlace, HasStacks, IsStackOf, AllRefer, own_kind, Names}
+use Rattle.pearl_snap.specs.Parts.{HasParts}
 
 -- a variable n of two slots, a procedure with a reference, and a task that calls it with its cell
 abbrev returning : Code
@@ -80,7 +83,7 @@ parts_are = record {
   tasks = refl;
 }
 
-numbers_are : HasNumbers small standing
+numbers_are : HasNumbers (setup_of small) standing
 numbers_are = record {
   moment = omega arith;
   clock = omega arith;
@@ -88,7 +91,7 @@ numbers_are = record {
   priorities = ((((omega arith, omega arith), ((omega arith, omega arith), tt), omega arith), tt), tt);
 }
 
-plans_are : HasPlans small standing
+plans_are : HasSpans (setup_of small) standing
 plans_are = (record { dormant = λ e. refl; goes_on = tt; starts = tt }, tt)
 
 five_is : IsValue (cell.Fixed 31 (pos 5))
@@ -127,5 +130,5 @@ above h = let e : own_kind (lowest ∷ []) 1 0 ≡ Some (kind.Fixed 31) = h 0 (o
 abbrev idle : PlanRecord
 idle = record { when = None; after = 5; period = 0; end = Never; series = None }
 
-no_series : IsPlan small idle → ⊥
+no_series : IsPlan (setup_of small) idle → ⊥
 no_series h = let e = h.begun refl in cc

@@ -5,15 +5,16 @@ mod Reading
 mod Shorter
 mod ExampleStates
 mod ExampleBytes
+mod Tables
 mod Alls
 mod Zips
 mod Values
+mod Ends
 mod References
 mod Climbing
 mod Asking
 mod Restored
 mod Fitting
 mod Sorts
-mod Depths
 mod Spelling
 mod Counted

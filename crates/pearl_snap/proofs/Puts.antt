@@ -3,9 +3,9 @@ use Rattle.std.proofs.Common.{◌≡◌, ℕ, zero, suc, ◌+◌, ◌≤◌, ◌
 use Rattle.std.proofs.lemmas.List.{append-nil, take_all}
 use Rattle.std.specs.Prelude.{min}
 use Rattle.pearl_fields.specs.Codec.{number_bytes, all_bytes}
-use Rattle.pearl_snap.specs.declared.record.Standing.TheVariants.{Active}
-use Rattle.pearl_snap.specs.declared.record.TaskRecord.{TaskRecord}
-use Rattle.pearl_snap.specs.declared.saved.FrameRecord.{FrameRecord}
+use Rattle.pearl_records.specs.declared.record.Standing.TheVariants.{Active}
+use Rattle.pearl_records.specs.declared.record.TaskRecord.{TaskRecord}
+use Rattle.pearl_saved.specs.declared.saved.FrameRecord.{FrameRecord}
 use Rattle.pearl_snap.specs.Tasks.{active_tag, acting, task}
 use Rattle.pearl_snap.specs.States.{tasks_of, tasks}
 

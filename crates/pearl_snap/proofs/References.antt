@@ -14,16 +14,17 @@ use Rattle.pearl_instructions.specs.declared.object.Leaf.{Leaf}
 use Rattle.pearl_instructions.specs.declared.object.Code.{Code}
 use Rattle.pearl_instructions.specs.declared.object.Parts.{Parts as Object}
 use Rattle.pearl_instructions.specs.Objects.{first_slot}
-use Rattle.pearl_snap.specs.declared.record.Standing.{Standing}
-use Rattle.pearl_snap.specs.declared.record.Standing.TheVariants.{Dormant, Active}
-use Rattle.pearl_snap.specs.declared.record.TaskRecord.{TaskRecord}
-use Rattle.pearl_snap.specs.declared.saved.Target.{Target}
-use Rattle.pearl_snap.specs.declared.saved.Target.TheVariants.{Slot, Own}
-use Rattle.pearl_snap.specs.declared.saved.SavedCell.{SavedCell}
-use Rattle.pearl_snap.specs.declared.saved.SavedCell.TheVariants.{Value, Variable, Array}
-use Rattle.pearl_snap.specs.declared.saved.FrameRecord.{FrameRecord}
-use Rattle.pearl_snap.specs.declared.saved.Saved.{Saved}
-use Rattle.pearl_snap.specs.Rules.{HasParts, kind_held, AreOf, Stands, IsStackOf, HasStack, HasStacks, own_kind, AreSlots, Names, RefersWell, AllRefer}
+use Rattle.pearl_records.specs.declared.record.Standing.{Standing}
+use Rattle.pearl_records.specs.declared.record.Standing.TheVariants.{Dormant, Active}
+use Rattle.pearl_records.specs.declared.record.TaskRecord.{TaskRecord}
+use Rattle.pearl_saved.specs.declared.saved.Target.{Target}
+use Rattle.pearl_saved.specs.declared.saved.Target.TheVariants.{Slot, Own}
+use Rattle.pearl_saved.specs.declared.saved.SavedCell.{SavedCell}
+use Rattle.pearl_saved.specs.declared.saved.SavedCell.TheVariants.{Value, Variable, Array}
+use Rattle.pearl_saved.specs.declared.saved.FrameRecord.{FrameRecord}
+use Rattle.pearl_saved.specs.declared.saved.Saved.{Saved}
+use Rattle.pearl_saved.specs.Rules.{kind_held, AreOf, Stands, IsStackOf, HasStack, HasStacks, own_kind, AreSlots, Names, RefersWell, AllRefer}
+use Rattle.pearl_snap.specs.Parts.{HasParts}
 use Rattle.pearl_snap.specs.Leads.{kind_at, Leads, AllLead}
 use Rattle.pearl_snap.proofs.Zips.{parted}
 

@@ -10,12 +10,14 @@ use Rattle.pearl_snap.specs.declared.fault.ReadFail.{ReadFail}
 use Rattle.pearl_snap.specs.declared.fault.ReadFail.TheVariants as fail
 use Rattle.pearl_snap.specs.declared.fault.SnapFault.{SnapFault}
 use Rattle.pearl_snap.specs.declared.fault.SnapFault.TheVariants.{BadBytes, BadState, NoMemory}
-use Rattle.pearl_snap.specs.declared.saved.Saved.{Saved}
+use Rattle.pearl_saved.specs.declared.saved.Saved.{Saved}
 use Rattle.pearl_snap.specs.declared.snapshot.Snapshot.{Snapshot}
 use Rattle.pearl_snap.specs.States.{saved}
 use Rattle.pearl_snap.specs.Snapshots.{snapshot_bytes, IsThis, IsBad}
-use Rattle.pearl_snap.specs.Rules.{Rule, IsLeastBroken}
+use Rattle.pearl_saved.specs.Rules.{Rule, IsLeastBroken}
+use Rattle.pearl_records.specs.States.{AllEnd}
 use Rattle.pearl_snap.specs.Restoring.{cause_of, IsSnapshot, IsRestored, IsCause, Restores}
+use Rattle.pearl_snap.proofs.Ends.{fits_ends}
 
 -- where an object isn't valid, that is the least rule on a state of it which is broken
 pub unsound_breaks : (o : Object) (s : Saved) (f : VerifyFault) (r i rule : ℕ) → f ≡ Unsound r i rule → IsLeast o f → IsLeastBroken o s 1
@@ -37,6 +39,10 @@ module _ (bytes : List ℕ) (o : Object) (s : Saved) (is : IsSnapshot bytes o s)
   pub comes_back : (r : Result (Object × Saved) SnapFault) → Restores o s r → IfOk r (IsRestored bytes)
   comes_back (Ok p) h = subst (IsRestored bytes) (sym h.0) (is, h.1)
   comes_back (Err fault) h = tt
+
+  pub still_ends : (r : Result (Object × Saved) SnapFault) → Restores o s r → IfOk r (λ p. AllEnd p.1.core)
+  still_ends (Ok p) h = subst (λ (q : Object × Saved). AllEnd q.1.core) (sym h.0) (fits_ends s is.state)
+  still_ends (Err fault) h = tt
 
   pub has_cause : (r : Result (Object × Saved) SnapFault) → Restores o s r → IfErr r (IsCause bytes)
   has_cause (Ok p) h = tt

@@ -12,7 +12,8 @@ use Rattle.pearl_instructions.specs.declared.object.Leaf.{Leaf}
 use Rattle.pearl_instructions.specs.declared.object.Parts.{Parts as Object}
 use Rattle.pearl_instructions.specs.Objects.{first_slot}
 use Rattle.pearl_instructions.specs.Lawful.{IsObject}
-use Rattle.pearl_snap.specs.Rules.{slot_kinds, count_of_sort, kind_coming_in, input_kinds}
+use Rattle.pearl_records.specs.States.{count_of_sort, kind_coming_in, input_kinds}
+use Rattle.pearl_snap.specs.Parts.{slot_kinds}
 
 -- ---- slots
 
@@ -112,7 +113,7 @@ module _ (sort : ℕ) where
         ]
       ]
 
-pub few_of_sort : (o : Object) (sort : ℕ) → IsObject o → count_of_sort o sort ≤ 99
+pub few_of_sort : (o : Object) (sort : ℕ) → IsObject o → count_of_sort o.devices sort ≤ 99
 few_of_sort o sort h = few_of_all sort o.devices h.devices h.rising
 
 as_many_in : (ds : List Device) → length (flat_map kind_coming_in ds) ≡ length (filter (λ d. sort_rank d == 2) ds)
@@ -122,5 +123,5 @@ as_many_in (Terminal n direction ∷ ds) = as_many_in ds
 as_many_in (Input n of ∷ ds) = ap suc (as_many_in ds)
 as_many_in (Output n of ∷ ds) = as_many_in ds
 
-pub few_inputs : (o : Object) → IsObject o → length (input_kinds o) ≤ 99
+pub few_inputs : (o : Object) → IsObject o → length (input_kinds o.devices) ≤ 99
 few_inputs o h = let few = few_of_sort o 2 h in omega (arith, few, as_many_in o.devices)

@@ -18,6 +18,7 @@ use Rattle.pearl_instructions.specs.declared.object.Leaf.{Leaf}
 use Rattle.pearl_instructions.specs.declared.object.Code.{Code}
 use Rattle.pearl_instructions.specs.declared.object.Parts.{Parts as Object}
 use Rattle.pearl_instructions.specs.Objects.{routine_at}
+use Rattle.pearl_instructions.specs.Setups.{entry_of, setup_of}
 use Rattle.pearl_instructions.specs.Lawful.{IsLeaf, IsObject}
 use Rattle.pearl_instructions.specs.declared.instr.Instr.TheVariants.{Call}
 use Rattle.pearl_instructions.specs.Valid.{shape_before, IsValid}
@@ -25,30 +26,33 @@ use Rattle.pearl_object.specs.Literals.{literal}
 use Rattle.pearl_object.specs.Operands.{flag}
 use Rattle.pearl_snap.specs.declared.states.Free.{Free}
 use Rattle.pearl_snap.specs.declared.states.CellRoom.{CellRoom}
-use Rattle.pearl_snap.specs.declared.record.Standing.{Standing}
-use Rattle.pearl_snap.specs.declared.record.Standing.TheVariants.{Dormant, Active}
-use Rattle.pearl_snap.specs.declared.record.EndRecord.{EndRecord}
-use Rattle.pearl_snap.specs.declared.record.EndRecord.TheVariants.{Never, Until, During}
-use Rattle.pearl_snap.specs.declared.record.SeriesRecord.{SeriesRecord}
-use Rattle.pearl_snap.specs.declared.record.PlanRecord.{PlanRecord}
-use Rattle.pearl_snap.specs.declared.record.ActivationRecord.{ActivationRecord}
-use Rattle.pearl_snap.specs.declared.record.TaskRecord.{TaskRecord}
-use Rattle.pearl_snap.specs.declared.saved.Target.{Target}
-use Rattle.pearl_snap.specs.declared.saved.Target.TheVariants.{Slot, Own}
-use Rattle.pearl_snap.specs.declared.saved.SavedCell.{SavedCell}
-use Rattle.pearl_snap.specs.declared.saved.SavedCell.TheVariants.{Value, Variable, Array}
-use Rattle.pearl_snap.specs.declared.saved.FrameRecord.{FrameRecord}
-use Rattle.pearl_snap.specs.declared.saved.Saved.{Saved}
+use Rattle.pearl_records.specs.declared.record.Standing.{Standing}
+use Rattle.pearl_records.specs.declared.record.Standing.TheVariants.{Dormant, Active}
+use Rattle.pearl_records.specs.declared.record.EndRecord.{EndRecord}
+use Rattle.pearl_records.specs.declared.record.EndRecord.TheVariants.{Never, Until, During}
+use Rattle.pearl_records.specs.declared.record.SeriesRecord.{SeriesRecord}
+use Rattle.pearl_records.specs.declared.record.PlanRecord.{PlanRecord}
+use Rattle.pearl_records.specs.declared.record.ActivationRecord.{ActivationRecord}
+use Rattle.pearl_records.specs.declared.record.TaskRecord.{TaskRecord}
+use Rattle.pearl_saved.specs.declared.saved.Target.{Target}
+use Rattle.pearl_saved.specs.declared.saved.Target.TheVariants.{Slot, Own}
+use Rattle.pearl_saved.specs.declared.saved.SavedCell.{SavedCell}
+use Rattle.pearl_saved.specs.declared.saved.SavedCell.TheVariants.{Value, Variable, Array}
+use Rattle.pearl_saved.specs.declared.saved.FrameRecord.{FrameRecord}
+use Rattle.pearl_saved.specs.declared.saved.Saved.{Saved}
 use Rattle.pearl_snap.specs.Lists.{free, any_byte}
 use Rattle.pearl_snap.specs.Cells.{target, reference, cell}
 use Rattle.pearl_snap.specs.Plans.{end, series, maybe_series, plan, continuation, started, activation}
 use Rattle.pearl_snap.specs.Tasks.{frame, all_cells, after_frame, frames as frames_part, acting, task as task_part}
 use Rattle.pearl_snap.specs.States.{tasks_of, rows_of, stacks_of, typed, values, saved_fields, made_saved, saved}
-use Rattle.pearl_snap.specs.Rules.{HasParts, HasNumbers, HasPlans, WaitsTyped, WaitsOf, IsUrgent, HasUrgencies, IsEnd, IsSeries, IsPlan, IsPlanned, kind_held, AreOf, IsHeld, Stands, IsStackOf, HasStack, HasStacks, value_kind, own_kind, Names, RefersWell, AllRefer, IsMachineState}
-use Rattle.pearl_snap.specs.Restoring.{EndsSooner, HasEnds, AllEnd}
+use Rattle.pearl_records.specs.States.{HasNumbers, HasSpans, WaitsTyped, WaitsOf, IsUrgent, HasUrgencies, IsEnd, IsSeries, IsPlan, IsPlanned}
+use Rattle.pearl_saved.specs.Rules.{kind_held, AreOf, IsHeld, Stands, IsStackOf, HasStack, HasStacks, value_kind, own_kind, Names, RefersWell, AllRefer, IsMachineState}
+use Rattle.pearl_snap.specs.Parts.{HasParts}
+use Rattle.pearl_records.specs.States.{EndsSooner, EndSooner, AllEnd}
 use Rattle.pearl_snap.proofs.Fitting.{maybe_fits, kind_fits, value_fits, kind_stands, counted_fits, each_fits}
 use Rattle.pearl_snap.proofs.Sorts.{slots_few, slot_few, zip_length, few_of_sort, few_inputs}
-use Rattle.pearl_snap.proofs.Depths.{used, used_all, frames_few}
+use Rattle.pearl_snap.proofs.Tables.{parts_alike}
+use Rattle.pearl_saved.proofs.Offered.{used, used_all, frames_few}
 use Rattle.pearl_snap.proofs.Asking.{turned}
 use Rattle.pearl_snap.proofs.References.{back_all}
 
@@ -77,23 +81,23 @@ module _ (o : Object) (lawful : IsObject o) where
     | inr none ↦ absurd (subst IsInterrupt none.1 h)
   ]
 
-  plan_fits : (p : PlanRecord) → IsPlan o p → EndsSooner p → plan.fits p
+  plan_fits : (p : PlanRecord) → IsPlan (setup_of o) p → EndsSooner p → plan.fits p
   unfolding plan
   plan_fits p h ends =
       let after = h.after in
       let period = h.period in
       ((maybe_fits p.when (when_fits p.when h.when), (omega (arith, after), (omega (arith, period), (end_fits p.end h.end, maybe_series_fits p.series h.series ends)))), refl)
 
-  continuation_fits : (p : Option PlanRecord) → IfSome p (IsPlan o) → IfSome p EndsSooner → continuation.fits p
+  continuation_fits : (p : Option PlanRecord) → IfSome p (IsPlan (setup_of o)) → IfSome p EndsSooner → continuation.fits p
   unfolding continuation
   continuation_fits None h ends = ((omega arith, refl), refl)
   continuation_fits (Some p) h ends = ((omega arith, refl), (plan_fits p h ends, refl))
 
-  started_fits : (a : ActivationRecord) → IsPlan o a.plan → IsUrgency a.priority → EndsSooner a.plan → started.fits a
+  started_fits : (a : ActivationRecord) → IsPlan (setup_of o) a.plan → IsUrgency a.priority → EndsSooner a.plan → started.fits a
   unfolding started
   started_fits a h urgent ends = ((plan_fits a.plan h ends, (omega (arith, urgent.1), refl)), refl)
 
-  activation_fits : (a : Option ActivationRecord) → IfSome a (λ start. IsPlan o start.plan) → IfSome a (λ start. IsUrgency start.priority) → IfSome a (λ start. EndsSooner start.plan) → activation.fits a
+  activation_fits : (a : Option ActivationRecord) → IfSome a (λ start. IsPlan (setup_of o) start.plan) → IfSome a (λ start. IsUrgency start.priority) → IfSome a (λ start. EndsSooner start.plan) → activation.fits a
   unfolding activation
   activation_fits None h urgent ends = ((omega arith, refl), refl)
   activation_fits (Some a) h urgent ends = ((omega arith, refl), (started_fits a h urgent ends, refl))
@@ -283,12 +287,12 @@ module _ (o : Object) (lawful : IsObject o) (counted : AreCounted o) where
     task_fits t (Active priority true kept) on starts stack urgent h refer c a =
         ((omega arith, refl), (acting_fits priority kept on starts stack urgent c a (stack_fits (length o.procedures + t) stack h refer), refl))
 
-    row_fits : (t : ℕ) (row : TaskRecord) (stack : List FrameRecord) → HasUrgencies row → IsPlanned o row → HasEnds row → HasStack o t row.standing stack → AllRefer o [] stack → task_part.fits (record { row = row; frames = stack })
+    row_fits : (t : ℕ) (row : TaskRecord) (stack : List FrameRecord) → HasUrgencies row → IsPlanned (setup_of o) row → EndSooner row → HasStack o t row.standing stack → AllRefer o [] stack → task_part.fits (record { row = row; frames = stack })
     row_fits t row stack urgent planned ends h refer =
         task_fits t row.standing row.continuation row.activation stack urgent.0 h refer
         (continuation_fits o lawful row.continuation planned.goes_on ends.0) (activation_fits o lawful row.activation planned.starts urgent.1 ends.1)
 
-    rows_fit : (t : ℕ) (rows : List TaskRecord) (stacks : List (List FrameRecord)) → AllByRecursion HasUrgencies rows → AllByRecursion (IsPlanned o) rows → AllByRecursion HasEnds rows → HasStacks o t rows stacks → AllByRecursion (AllRefer o []) stacks
+    rows_fit : (t : ℕ) (rows : List TaskRecord) (stacks : List (List FrameRecord)) → AllByRecursion HasUrgencies rows → AllByRecursion (IsPlanned (setup_of o)) rows → AllByRecursion EndSooner rows → HasStacks o t rows stacks → AllByRecursion (AllRefer o []) stacks
         → rolled_fit (λ (s : Free). task_part) (λ s x. s) free (tasks_of rows stacks)
     rows_fit t [] [] urgent planned ends h refer = tt
     rows_fit t [] (stack ∷ stacks) urgent planned ends h refer = absurd h
@@ -358,14 +362,14 @@ unfolding flag
 flag_fits true = ((omega arith, refl), refl)
 flag_fits false = ((omega arith, refl), refl)
 
-pub state_fits : (o : Object) (s : Saved) → IsObject o → AreCounted o → IsMachineState o s → AllEnd s → saved.fits s
+pub state_fits : (o : Object) (s : Saved) → IsObject o → AreCounted o → IsMachineState o s → AllEnd s.core → saved.fits s
 unfolding saved
 state_fits o s lawful counted is ends =
     let c = s.core in
     let valid : IsValid o = is 1 in
-    let parts : HasParts o c = is 2 in
-    let numbers : HasNumbers o c = is 3 in
-    let plans : HasPlans o c = is 4 in
+    let parts : HasParts o c = (parts_alike o c lawful).0 (is 2) in
+    let numbers : HasNumbers (setup_of o) c = is 3 in
+    let plans : HasSpans (setup_of o) c = is 4 in
     let stand : HasStacks o 0 c.tasks s.stacks = is 5 in
     let refer : AllByRecursion (AllRefer o []) s.stacks = is 6 in
     let pairs = together o 0 c.tasks s.stacks stand in
@@ -383,7 +387,7 @@ state_fits o s lawful counted is ends =
         (
           omega (arith, clock),
           (
-            maybe_fits c.last (last_fits c.last numbers.last few),
+            maybe_fits c.last (last_fits c.last (last_task c.last numbers.last) few),
             (
               each_fits (literal None) IsValue value_fits 65536 c.slots (omega arith) (omega (arith, slots_few o lawful, zip_length IsValueOf _ c.slots parts.slots)) (values_of _ c.slots parts.slots),
               (
@@ -407,6 +411,10 @@ state_fits o s lawful counted is ends =
       put_back s pairs.rows_are pairs.stacks_are,
     )
   where
+    last_task : (last : Option ℕ) → IfSome last (λ task. task < length (map entry_of o.tasks)) → IfSome last (λ task. task < length o.tasks)
+    last_task None h = tt
+    last_task (Some n) h = omega (arith, h, length-map o.tasks entry_of)
+
     last_fits : (last : Option ℕ) → IfSome last (λ task. task < length o.tasks) → length o.tasks ≤ 200 → IfSome last (λ n. n < 2 ^ 64 - 1)
     last_fits None h few = tt
     last_fits (Some n) h few = omega (arith, h, few)

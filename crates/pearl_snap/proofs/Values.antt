@@ -17,17 +17,18 @@ use Rattle.pearl_object.specs.Literals.{literal, value_of}
 use Rattle.pearl_snap.specs.declared.states.Free.{Free}
 use Rattle.pearl_snap.specs.declared.states.CellRoom.{CellRoom}
 use Rattle.pearl_snap.specs.declared.states.SavedTask.{SavedTask}
-use Rattle.pearl_snap.specs.declared.record.Standing.{Standing}
-use Rattle.pearl_snap.specs.declared.record.Standing.TheVariants.{Dormant, Active}
-use Rattle.pearl_snap.specs.declared.saved.SavedCell.{SavedCell}
-use Rattle.pearl_snap.specs.declared.saved.SavedCell.TheVariants.{Value, Variable, Array}
-use Rattle.pearl_snap.specs.declared.saved.FrameRecord.{FrameRecord}
-use Rattle.pearl_snap.specs.declared.saved.Saved.{Saved}
+use Rattle.pearl_records.specs.declared.record.Standing.{Standing}
+use Rattle.pearl_records.specs.declared.record.Standing.TheVariants.{Dormant, Active}
+use Rattle.pearl_saved.specs.declared.saved.SavedCell.{SavedCell}
+use Rattle.pearl_saved.specs.declared.saved.SavedCell.TheVariants.{Value, Variable, Array}
+use Rattle.pearl_saved.specs.declared.saved.FrameRecord.{FrameRecord}
+use Rattle.pearl_saved.specs.declared.saved.Saved.{Saved}
 use Rattle.pearl_snap.specs.Lists.{free, each_in}
 use Rattle.pearl_snap.specs.Cells.{cell}
 use Rattle.pearl_snap.specs.Tasks.{frame, after_frame, all_cells, standing_tag, task_arms, acting, task}
 use Rattle.pearl_snap.specs.States.{stacks_of, tasks_of, saved}
-use Rattle.pearl_snap.specs.Rules.{HoldsValues, IsHeld, HoldsHeld, FramesHold}
+use Rattle.pearl_saved.specs.Rules.{IsHeld, HoldsHeld}
+use Rattle.pearl_snap.specs.Parts.{HoldsValues, FramesHold}
 
 both_true : (a b : Bool) → (a && b) ≡ true → (a ≡ true) × (b ≡ true)
 both_true true b h = (refl, h)

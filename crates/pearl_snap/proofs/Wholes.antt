@@ -6,10 +6,10 @@ use Rattle.pearl_object.proofs.Offered.{flag_told, bounds_told, kind_told, liter
 use Rattle.pearl_object.specs.Kinds.{kind}
 use Rattle.pearl_object.specs.Literals.{literal}
 use Rattle.pearl_object.specs.Operands.{bounds, flag}
-use Rattle.pearl_snap.specs.declared.saved.Target.TheVariants.{Slot, Own}
-use Rattle.pearl_snap.specs.declared.saved.SavedCell.TheVariants.{Value, Variable, Array}
-use Rattle.pearl_snap.specs.declared.saved.FrameRecord.{FrameRecord}
-use Rattle.pearl_snap.specs.declared.record.EndRecord.TheVariants.{Never, Until, During}
+use Rattle.pearl_saved.specs.declared.saved.Target.TheVariants.{Slot, Own}
+use Rattle.pearl_saved.specs.declared.saved.SavedCell.TheVariants.{Value, Variable, Array}
+use Rattle.pearl_saved.specs.declared.saved.FrameRecord.{FrameRecord}
+use Rattle.pearl_records.specs.declared.record.EndRecord.TheVariants.{Never, Until, During}
 use Rattle.pearl_snap.specs.declared.states.Free.{Free}
 use Rattle.pearl_snap.specs.declared.states.CellRoom.{CellRoom}
 use Rattle.pearl_snap.specs.declared.states.SavedTask.{SavedTask}

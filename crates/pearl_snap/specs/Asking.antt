@@ -4,9 +4,9 @@ use Rattle.std.specs.List.{AllByRecursion}
 use Rattle.pearl_value.specs.declared.kind.CellKind.{CellKind}
 use Rattle.pearl_instructions.specs.declared.object.Parts.{Parts as Object}
 use Rattle.pearl_verify.specs.Shapes.{shape_at}
-use Rattle.pearl_snap.specs.declared.saved.FrameRecord.{FrameRecord}
+use Rattle.pearl_saved.specs.declared.saved.FrameRecord.{FrameRecord}
 use Rattle.pearl_snap.specs.declared.stack_rule.Asked.{Asked}
-use Rattle.pearl_snap.specs.Rules.{AreOf}
+use Rattle.pearl_saved.specs.Rules.{AreOf}
 
 abbrev pub HasShape : Option (List CellKind) → (arguments : ℕ) → FrameRecord → Type 0
 HasShape None arguments f = ⊥

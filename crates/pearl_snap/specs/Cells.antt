@@ -7,12 +7,12 @@ use Rattle.pearl_fields.specs.Codec.{Codec, number, shaped, pair, tagged}
 use Rattle.pearl_object.specs.Kinds.{kind}
 use Rattle.pearl_object.specs.Literals.{literal}
 use Rattle.pearl_object.specs.Operands.{bounds}
-use Rattle.pearl_snap.specs.declared.saved.Target.{Target}
-use Rattle.pearl_snap.specs.declared.saved.Target.TheVariants.{Slot, Own}
-use Rattle.pearl_snap.specs.declared.saved.Reference.{Reference}
-use Rattle.pearl_snap.specs.declared.saved.ArrayReference.{ArrayReference}
-use Rattle.pearl_snap.specs.declared.saved.SavedCell.{SavedCell}
-use Rattle.pearl_snap.specs.declared.saved.SavedCell.TheVariants.{Value, Variable, Array}
+use Rattle.pearl_saved.specs.declared.saved.Target.{Target}
+use Rattle.pearl_saved.specs.declared.saved.Target.TheVariants.{Slot, Own}
+use Rattle.pearl_saved.specs.declared.saved.Reference.{Reference}
+use Rattle.pearl_saved.specs.declared.saved.ArrayReference.{ArrayReference}
+use Rattle.pearl_saved.specs.declared.saved.SavedCell.{SavedCell}
+use Rattle.pearl_saved.specs.declared.saved.SavedCell.TheVariants.{Value, Variable, Array}
 use Rattle.pearl_snap.specs.Lists.{each_in}
 
 -- ---- references

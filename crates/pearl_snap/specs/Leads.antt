@@ -5,12 +5,12 @@ use Rattle.std.specs.List.{AllByRecursion}
 use Rattle.pearl_value.specs.declared.kind.Kind.{Kind}
 use Rattle.pearl_value.specs.declared.cell.Cell.{Cell}
 use Rattle.pearl_value.specs.Cells.{kind_of}
-use Rattle.pearl_snap.specs.declared.saved.Target.{Target}
-use Rattle.pearl_snap.specs.declared.saved.Target.TheVariants.{Slot, Own}
-use Rattle.pearl_snap.specs.declared.saved.SavedCell.{SavedCell}
-use Rattle.pearl_snap.specs.declared.saved.SavedCell.TheVariants.{Value, Variable, Array}
-use Rattle.pearl_snap.specs.declared.saved.FrameRecord.{FrameRecord}
-use Rattle.pearl_snap.specs.Rules.{own_kind}
+use Rattle.pearl_saved.specs.declared.saved.Target.{Target}
+use Rattle.pearl_saved.specs.declared.saved.Target.TheVariants.{Slot, Own}
+use Rattle.pearl_saved.specs.declared.saved.SavedCell.{SavedCell}
+use Rattle.pearl_saved.specs.declared.saved.SavedCell.TheVariants.{Value, Variable, Array}
+use Rattle.pearl_saved.specs.declared.saved.FrameRecord.{FrameRecord}
+use Rattle.pearl_saved.specs.Rules.{own_kind}
 
 -- the kind of the value there
 abbrev pub kind_at : List Cell → List FrameRecord → Target → Option Kind

@@ -10,8 +10,8 @@ pub mod Tasks
 pub mod States
 -- how a snapshot is spelled, and what its bytes are read as
 pub mod Snapshots
--- what a state must be so that a run can go on from it: rules N1 to N6
-pub mod Rules
+-- what is tested of a state that was read: N2 over the leaves of an object, and that it holds values
+pub mod Parts
 -- what references lead to, where a state keeps N2 and N5
 pub mod Leads
 -- what the frames of a state ask of the shapes before their places

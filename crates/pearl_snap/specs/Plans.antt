@@ -1,11 +1,11 @@
 -- How plans are spelled.
 use Rattle.std.specs.Prelude.{ℕ, List, [], ◌∷◌, Option, Some, None}
 use Rattle.pearl_fields.specs.Codec.{Codec, number, nothing, shaped, pair, tagged}
-use Rattle.pearl_snap.specs.declared.record.EndRecord.{EndRecord}
-use Rattle.pearl_snap.specs.declared.record.EndRecord.TheVariants.{Never, Until, During}
-use Rattle.pearl_snap.specs.declared.record.SeriesRecord.{SeriesRecord}
-use Rattle.pearl_snap.specs.declared.record.PlanRecord.{PlanRecord}
-use Rattle.pearl_snap.specs.declared.record.ActivationRecord.{ActivationRecord}
+use Rattle.pearl_records.specs.declared.record.EndRecord.{EndRecord}
+use Rattle.pearl_records.specs.declared.record.EndRecord.TheVariants.{Never, Until, During}
+use Rattle.pearl_records.specs.declared.record.SeriesRecord.{SeriesRecord}
+use Rattle.pearl_records.specs.declared.record.PlanRecord.{PlanRecord}
+use Rattle.pearl_records.specs.declared.record.ActivationRecord.{ActivationRecord}
 use Rattle.pearl_snap.specs.Lists.{any_byte, maybe_number}
 
 -- ---- ends

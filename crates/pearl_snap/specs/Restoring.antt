@@ -7,12 +7,12 @@ use Rattle.pearl_snap.specs.declared.fault.ReadFail.{ReadFail}
 use Rattle.pearl_snap.specs.declared.fault.ReadFail.TheVariants as fail
 use Rattle.pearl_snap.specs.declared.fault.SnapFault.{SnapFault}
 use Rattle.pearl_snap.specs.declared.fault.SnapFault.TheVariants.{BadBytes, BadState, NoMemory}
-use Rattle.pearl_snap.specs.declared.record.PlanRecord.{PlanRecord}
-use Rattle.pearl_snap.specs.declared.record.TaskRecord.{TaskRecord}
-use Rattle.pearl_snap.specs.declared.saved.Saved.{Saved}
+use Rattle.pearl_records.specs.declared.record.PlanRecord.{PlanRecord}
+use Rattle.pearl_records.specs.declared.record.TaskRecord.{TaskRecord}
+use Rattle.pearl_saved.specs.declared.saved.Saved.{Saved}
 use Rattle.pearl_snap.specs.States.{saved}
 use Rattle.pearl_snap.specs.Snapshots.{snapshot_bytes, IsBadAt}
-use Rattle.pearl_snap.specs.Rules.{IsMachineState, IsLeastBroken}
+use Rattle.pearl_saved.specs.Rules.{IsMachineState, IsLeastBroken}
 use Rattle.pearl_snap.specs.Numbers.{number}
 
 -- these are the bytes of an object and a state
@@ -20,16 +20,6 @@ pub record IsSnapshot (bytes : List ℕ) (o : Object) (s : Saved) : Type 0 where
   pub object : IsObject o
   pub state : saved.fits s
   pub same : bytes ≡ snapshot_bytes o s
-
--- no series lasts up to 2^64 - 1, which as a last moment has no spelling of its own
-abbrev pub EndsSooner : PlanRecord → Type 0
-EndsSooner plan = IfSome plan.series (λ series. IfSome series.last (λ last. last < 2 ^ 64 - 1))
-
-abbrev pub HasEnds : TaskRecord → Type 0
-HasEnds row = IfSome row.continuation EndsSooner × IfSome row.activation (λ start. EndsSooner start.plan)
-
-abbrev pub AllEnd : Saved → Type 0
-AllEnd s = AllByRecursion HasEnds s.core.tasks
 
 -- the bytes were those of an object and a state of it
 abbrev pub IsRestored : List ℕ → Object × Saved → Type 0

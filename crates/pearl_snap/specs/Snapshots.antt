@@ -8,7 +8,7 @@ use Rattle.pearl_fields.specs.Codec.{◌>>=◌, Seen, Codec, number_bytes, numbe
 use Rattle.pearl_object.specs.Objects.{object}
 use Rattle.pearl_snap.specs.declared.fault.ReadFail.{ReadFail}
 use Rattle.pearl_snap.specs.declared.fault.ReadFail.TheVariants.{BadBytes, NoMemory}
-use Rattle.pearl_snap.specs.declared.saved.Saved.{Saved}
+use Rattle.pearl_saved.specs.declared.saved.Saved.{Saved}
 use Rattle.pearl_snap.specs.declared.snapshot.Snapshot.{Snapshot}
 use Rattle.pearl_snap.specs.States.{saved}
 

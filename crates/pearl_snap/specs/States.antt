@@ -6,9 +6,9 @@ use Rattle.pearl_fields.specs.Codec.{Seen, Codec, number, shaped, pair}
 use Rattle.pearl_fields.specs.Reads.{Fails}
 use Rattle.pearl_object.specs.Literals.{literal}
 use Rattle.pearl_object.specs.Operands.{flag}
-use Rattle.pearl_snap.specs.declared.record.TaskRecord.{TaskRecord}
-use Rattle.pearl_snap.specs.declared.saved.FrameRecord.{FrameRecord}
-use Rattle.pearl_snap.specs.declared.saved.Saved.{Saved}
+use Rattle.pearl_records.specs.declared.record.TaskRecord.{TaskRecord}
+use Rattle.pearl_saved.specs.declared.saved.FrameRecord.{FrameRecord}
+use Rattle.pearl_saved.specs.declared.saved.Saved.{Saved}
 use Rattle.pearl_snap.specs.declared.states.SavedTask.{SavedTask}
 use Rattle.pearl_snap.specs.declared.states.TaskLists.{TaskLists}
 use Rattle.pearl_snap.specs.Lists.{each_in, any_byte, maybe_number}

@@ -1,12 +1,12 @@
 -- How tasks are spelled, with their stacks.
 use Rattle.std.specs.Prelude.{ℕ, ◌-◌, Bool, true, false, List, [], ◌∷◌, length, Option}
 use Rattle.pearl_fields.specs.Codec.{Codec, number, shaped, pair, tagged, counted}
-use Rattle.pearl_snap.specs.declared.record.Standing.{Standing}
-use Rattle.pearl_snap.specs.declared.record.Standing.TheVariants.{Dormant, Active}
-use Rattle.pearl_snap.specs.declared.record.PlanRecord.{PlanRecord}
-use Rattle.pearl_snap.specs.declared.record.ActivationRecord.{ActivationRecord}
-use Rattle.pearl_snap.specs.declared.saved.SavedCell.{SavedCell}
-use Rattle.pearl_snap.specs.declared.saved.FrameRecord.{FrameRecord}
+use Rattle.pearl_records.specs.declared.record.Standing.{Standing}
+use Rattle.pearl_records.specs.declared.record.Standing.TheVariants.{Dormant, Active}
+use Rattle.pearl_records.specs.declared.record.PlanRecord.{PlanRecord}
+use Rattle.pearl_records.specs.declared.record.ActivationRecord.{ActivationRecord}
+use Rattle.pearl_saved.specs.declared.saved.SavedCell.{SavedCell}
+use Rattle.pearl_saved.specs.declared.saved.FrameRecord.{FrameRecord}
 use Rattle.pearl_snap.specs.declared.states.CellRoom.{CellRoom}
 use Rattle.pearl_snap.specs.declared.states.SavedTask.{SavedTask}
 use Rattle.pearl_snap.specs.Lists.{each_in, any_byte}

@@ -6,7 +6,6 @@ ghost use Rattle.pearl_fields.specs.Reads.{Reads};
 ghost use Rattle.pearl_snap.specs.Cells.{target, target_arms, reference, array, cell, cell_arms};
 
 use crate::parts::listed;
-use crate::saved::{ArrayReference, Reference, SavedCell, Target};
 use crate::states::Free;
 use pearl_fields::fault::ReadFault;
 use pearl_fields::part::{Part, put_list};
@@ -16,6 +15,7 @@ use pearl_instructions::instr::Bounds;
 use pearl_object::kinds::{put_kind, read_kind};
 use pearl_object::literals::{put_literal, read_literal};
 use pearl_object::operands::{put_bounds, read_bounds};
+use pearl_saved::saved::{ArrayReference, Reference, SavedCell, Target};
 use std::alloc::{AllocError, Global};
 
 // The bounds of a dimension.

@@ -7,12 +7,16 @@ ghost use Rattle.pearl_value.specs.Devices.{sort_rank};
 ghost use Rattle.pearl_value.specs.WellFormed.{IsTyped, IsValue, IsValueOf};
 ghost use Rattle.pearl_rules.specs.Slots.{IsUrgency};
 ghost use Rattle.pearl_rules.specs.Tables.{IsInterrupt};
-ghost use Rattle.pearl_snap.specs.Rules.{slot_kinds, count_of_sort, input_kinds, HoldsValues, WaitsTyped, WaitsOf, HasParts, IsUrgent, HasUrgencies, HasNumbers, IsEnd, IsSeries, IsPlan, IsPlanned, HasPlans};
+ghost use Rattle.pearl_instructions.specs.Lawful.{IsObject};
+ghost use Rattle.pearl_instructions.specs.Setups.{setup_of};
+ghost use Rattle.pearl_records.specs.States as states;
+ghost use Rattle.pearl_records.specs.States.{count_of_sort, input_kinds, WaitsTyped, WaitsOf, IsUrgent, HasUrgencies, HasNumbers, IsEnd, IsSeries, IsPlan, IsPlanned, HasSpans};
+ghost use Rattle.pearl_snap.specs.Parts.{slot_kinds, HoldsValues, HasParts};
 
-use crate::record::{
+use pearl_instructions::object::Parts;
+use pearl_records::record::{
     ActivationRecord, CoreRecord, EndRecord, PlanRecord, SeriesRecord, Standing, TaskRecord,
 };
-use pearl_instructions::object::Parts;
 use pearl_value::cell::Cell;
 use pearl_value::conversion;
 use pearl_value::device::Device;
@@ -114,7 +118,7 @@ fn waits_of(kind: Kind, pending: &[Cell]) -> bool
 
 fn has_inputs(object: &Parts, inputs: &[Listing<Cell>]) -> bool
     requires { AllByRecursion (AllByRecursion IsValue) inputs.now }
-    ensures { IsTrue result ↔ AllZip WaitsOf (input_kinds object.now) inputs.now }
+    ensures { IsTrue result ↔ AllZip WaitsOf (input_kinds object.now.devices) inputs.now }
 {
     let mut rest = inputs;
     for device in object.devices.as_slice() {
@@ -143,7 +147,7 @@ fn sort_rank(device: Device) -> u8
 }
 
 fn count_of_sort(object: &Parts, sort: u8) -> usize
-    ensures { result ≡ count_of_sort object.now sort }
+    ensures { result ≡ count_of_sort object.now.devices sort }
 {
     let devices = object.devices.as_slice();
     devices
@@ -159,13 +163,13 @@ fn has_semaphores(object: &Parts, counts: &[u64]) -> bool
 }
 
 fn has_terminals(object: &Parts, terminals: &[Listing<u8>]) -> bool
-    ensures { IsTrue result ↔ ((length terminals.now ≡ count_of_sort object.now 1) × AllByRecursion WaitsTyped terminals.now) }
+    ensures { IsTrue result ↔ ((length terminals.now ≡ count_of_sort object.now.devices 1) × AllByRecursion WaitsTyped terminals.now) }
 {
     terminals.len() == count_of_sort(object, 1) && are_terminals(terminals)
 }
 
-/// Whether all parts of a core are there and hold what they may (N2).
-pub fn has_parts(object: &Parts, core: &CoreRecord) -> bool
+// Whether each part of a core is there and holds what it may.
+fn has_each_part(object: &Parts, core: &CoreRecord) -> bool
     requires { HoldsValues core.now }
     ensures { IsTrue result ↔ HasParts object.now core.now }
 {
@@ -175,6 +179,15 @@ pub fn has_parts(object: &Parts, core: &CoreRecord) -> bool
         && has_terminals(object, core.terminals.as_slice())
         && has_inputs(object, core.inputs.as_slice())
         && core.tasks.as_slice().len() == object.tasks.as_slice().len()
+}
+
+/// Whether all parts of a core are there and hold what they may (N2).
+pub fn has_parts(object: &Parts, core: &CoreRecord) -> bool
+    requires { HoldsValues core.now }
+    ensures leaves { IsTrue result ↔ HasParts object.now core.now }
+    ensures tables { IsObject object.now → IsTrue result ↔ states.HasParts (setup_of object.now) core.now }
+{
+    has_each_part(object, core)
 }
 
 fn is_urgency(priority: u8) -> bool
@@ -243,7 +256,7 @@ fn is_among(last: Option<u64>, tasks: usize) -> bool
 
 /// Whether the moment, the clock, who acted last and all priorities are lawful (N3).
 pub fn has_numbers(object: &Parts, core: &CoreRecord) -> bool
-    ensures { IsTrue result ↔ HasNumbers object.now core.now }
+    ensures { IsTrue result ↔ HasNumbers (setup_of object.now) core.now }
 {
     core.moment <= LONGEST
         && core.clock < DAY
@@ -284,7 +297,7 @@ fn waits_for(object: &Parts, when: Option<u64>) -> bool
 
 /// Whether a plan is lawful.
 pub fn is_plan(object: &Parts, plan: PlanRecord) -> bool
-    ensures { IsTrue result ↔ IsPlan object.now plan }
+    ensures { IsTrue result ↔ IsPlan (setup_of object.now) plan }
 {
     waits_for(object, plan.when)
         && plan.after <= LONGEST
@@ -304,7 +317,7 @@ fn is_dormant(standing: &Standing) -> bool
 }
 
 fn goes_on(object: &Parts, continuation: Option<PlanRecord>) -> bool
-    ensures { IsTrue result ↔ IfSome continuation (IsPlan object.now) }
+    ensures { IsTrue result ↔ IfSome continuation (IsPlan (setup_of object.now)) }
 {
     match continuation {
         None => true,
@@ -313,7 +326,7 @@ fn goes_on(object: &Parts, continuation: Option<PlanRecord>) -> bool
 }
 
 fn starts(object: &Parts, activation: Option<ActivationRecord>) -> bool
-    ensures { IsTrue result ↔ IfSome activation (λ start. IsPlan object.now start.plan) }
+    ensures { IsTrue result ↔ IfSome activation (λ start. IsPlan (setup_of object.now) start.plan) }
 {
     match activation {
         None => true,
@@ -322,7 +335,7 @@ fn starts(object: &Parts, activation: Option<ActivationRecord>) -> bool
 }
 
 fn is_planned(object: &Parts, row: &TaskRecord) -> bool
-    ensures { IsTrue result ↔ IsPlanned object.now row.now }
+    ensures { IsTrue result ↔ IsPlanned (setup_of object.now) row.now }
 {
     !(is_dormant(&row.standing) && row.continuation.is_some())
         && goes_on(object, row.continuation)
@@ -331,7 +344,7 @@ fn is_planned(object: &Parts, row: &TaskRecord) -> bool
 
 /// Whether all plans are lawful, and no dormant task is to go on (N4).
 pub fn has_plans(object: &Parts, core: &CoreRecord) -> bool
-    ensures { IsTrue result ↔ HasPlans object.now core.now }
+    ensures { IsTrue result ↔ HasSpans (setup_of object.now) core.now }
 {
     for row in core.tasks.as_slice() {
         if !is_planned(object, row) {

@@ -7,13 +7,13 @@ ghost use Rattle.pearl_snap.specs.Tasks.{frame, all_cells, after_frame, active_f
 
 use crate::parts::listed;
 use crate::plans::{put_activation, put_continuation, read_activation, read_continuation};
-use crate::record::{Standing, TaskRecord};
-use crate::saved::{FrameRecord, SavedCell};
 use crate::states::{CellRoom, Free, SavedTask};
 use pearl_fields::fault::ReadFault;
 use pearl_fields::part::{Part, put_list};
 use pearl_fields::reader::Reader;
 use pearl_fields::writer::put_number;
+use pearl_records::record::{Standing, TaskRecord};
+use pearl_saved::saved::{FrameRecord, SavedCell};
 use pearl_value::listing::Listing;
 use std::alloc::{AllocError, Global};
 

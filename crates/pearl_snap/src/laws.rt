@@ -2,9 +2,9 @@
 
 ghost use Rattle.pearl_fields.specs.Codec.{IsLawful, IsOrdered};
 ghost use Rattle.pearl_snap.specs.Snapshots.{snapshot};
-ghost use Rattle.pearl_snap.specs.declared.saved.Saved.{Saved};
+ghost use Rattle.pearl_saved.specs.declared.saved.Saved.{Saved};
 ghost use Rattle.pearl_snap.specs.States.{saved};
-ghost use Rattle.pearl_snap.specs.Rules.{HoldsValues, FramesHold};
+ghost use Rattle.pearl_snap.specs.Parts.{HoldsValues, FramesHold};
 
 /// A state is read as it is spelled, whatever follows, and what is read is spelled so: each has one spelling, and no state's
 /// bytes begin another's. Where a field is bad, it is the first: what stands before it is cut, and not bad.

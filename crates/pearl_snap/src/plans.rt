@@ -6,10 +6,10 @@ ghost use Rattle.pearl_fields.specs.Reads.{Reads};
 ghost use Rattle.pearl_snap.specs.Plans.{end, end_arms, series, no_series, maybe_arms, maybe_series, plan, no_plan, continuation, started, no_start, activation};
 
 use crate::parts::{put_maybe_number, read_maybe_number};
-use crate::record::{ActivationRecord, EndRecord, PlanRecord, SeriesRecord};
 use pearl_fields::fault::ReadFault;
 use pearl_fields::reader::Reader;
 use pearl_fields::writer::put_number;
+use pearl_records::record::{ActivationRecord, EndRecord, PlanRecord, SeriesRecord};
 use std::alloc::AllocError;
 
 #[tactic(auto, unfolding(crate::specs::Plans::end))]

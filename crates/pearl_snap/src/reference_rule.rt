@@ -4,10 +4,11 @@ ghost use Rattle.std.specs.Prelude.{◌≡◌, ◌↔◌, ◌+◌, ◌<◌, [], 
 ghost use Rattle.std.specs.List.{AllByRecursion};
 ghost use Rattle.pearl_value.specs.Cells.{kind_of};
 ghost use Rattle.pearl_instructions.specs.declared.object.Parts.{Parts as Object};
-ghost use Rattle.pearl_snap.specs.Rules.{own_kind, HasParts, HasStacks, AllRefer};
+ghost use Rattle.pearl_saved.specs.Rules.{own_kind, HasStacks, AllRefer};
+ghost use Rattle.pearl_snap.specs.Parts.{HasParts};
 ghost use Rattle.pearl_snap.specs.Leads.{Leads, AllLead};
 
-use crate::saved::{FrameRecord, Saved, SavedCell, Target};
+use pearl_saved::saved::{FrameRecord, Saved, SavedCell, Target};
 use pearl_value::cell::Cell;
 use pearl_value::conversion;
 use pearl_value::kind::Kind;

@@ -2,18 +2,19 @@
 
 ghost use Rattle.std.specs.Prelude.{◌≡◌, ◌<◌, ◌^◌, length, IfErr, IfOk};
 ghost use Rattle.pearl_instructions.specs.declared.object.Parts.{Parts as Object};
-ghost use Rattle.pearl_snap.specs.declared.saved.Saved.{Saved as State};
-ghost use Rattle.pearl_snap.specs.Rules.{IsMachineState};
+ghost use Rattle.pearl_saved.specs.declared.saved.Saved.{Saved as State};
+ghost use Rattle.pearl_saved.specs.Rules.{IsMachineState};
 ghost use Rattle.pearl_snap.specs.Snapshots.{snapshot_bytes};
 ghost use Rattle.pearl_snap.specs.States.{saved};
-ghost use Rattle.pearl_snap.specs.Restoring.{cause_of, AllEnd, IsSnapshot, IsRestored, IsCause, Restores};
+ghost use Rattle.pearl_records.specs.States.{AllEnd};
+ghost use Rattle.pearl_snap.specs.Restoring.{cause_of, IsSnapshot, IsRestored, IsCause, Restores};
 
 use crate::fault::{ReadFail, SnapFault};
 use crate::laws::states_hold_values;
-use crate::saved::Saved;
 use crate::snapshot::{Snapshot, read, write};
 use crate::state_rule::{StateRule, least_broken};
 use pearl_instructions::valid::Valid;
+use pearl_saved::saved::Saved;
 use pearl_verify::verify::{VerifyFault, verify};
 use std::alloc::{AllocError as NoMemory, Global};
 
@@ -59,6 +60,8 @@ pub fn restore(alloc: Global, bytes: &[u8]) -> Result<(Valid, Saved), SnapFault>
     requires { length bytes.now < 2 ^ 32 }
     // What is restored has these bytes, and a run can go on from it.
     ensures ok { IfOk result (IsRestored bytes.now) }
+    // No series of it lasts up to 2^64 - 1.
+    ensures ends { IfOk result (λ p. AllEnd p.1.core) }
     // Else no snapshot has them, or its state breaks a rule.
     ensures err { IfErr result (IsCause bytes.now) }
     // From the bytes of an object and a state of it come both again.
@@ -77,7 +80,7 @@ pub fn restore(alloc: Global, bytes: &[u8]) -> Result<(Valid, Saved), SnapFault>
 fn are_a_snapshot(bytes: &[u8], object: &Valid, saved: &Saved)
     requires same { bytes.now ≡ snapshot_bytes object.now saved.now }
     requires state { IsMachineState object.now saved.now }
-    ensures { AllEnd saved.now → IsSnapshot bytes.now object.now saved.now }
+    ensures { AllEnd saved.now.core → IsSnapshot bytes.now object.now saved.now }
 {
     let _parts = object.object();
 }
@@ -88,7 +91,7 @@ pub fn save(alloc: Global, object: &Valid, saved: &Saved) -> Result<Vec<u8>, NoM
     requires { IsMachineState object.now saved.now }
     ensures bytes { IfOk result (λ bytes. bytes.items ≡ snapshot_bytes object.now saved.now) }
     // They are those of a snapshot, and so are restored, but for such a series.
-    ensures snapshot { IfOk result (λ bytes. AllEnd saved.now → IsSnapshot bytes.items object.now saved.now) }
+    ensures snapshot { IfOk result (λ bytes. AllEnd saved.now.core → IsSnapshot bytes.items object.now saved.now) }
 {
     let bytes = write(alloc, object.object(), saved)?;
     are_a_snapshot(bytes.as_slice(), object, saved);

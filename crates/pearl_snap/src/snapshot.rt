@@ -10,7 +10,6 @@ ghost use Rattle.pearl_snap.specs.States.{saved};
 ghost use Rattle.pearl_snap.specs.Snapshots.{embedded, snapshot, GivesWhole, IsThis, IsBad, snapshot_bytes};
 
 use crate::fault::ReadFail;
-use crate::saved::Saved;
 use crate::state::{put_saved, read_saved};
 use pearl_fields::fault::ReadFault;
 use pearl_fields::part::put_list;
@@ -20,6 +19,7 @@ use pearl_instructions::object::{Object, Parts};
 use pearl_object::fault::ReadFail as ObjectFail;
 use pearl_object::object;
 use pearl_object::states::{Alone, Before, Room};
+use pearl_saved::saved::Saved;
 use std::alloc::{AllocError as NoMemory, Global};
 
 /// An object, and the state of a run of it.

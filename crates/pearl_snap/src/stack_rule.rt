@@ -4,12 +4,13 @@ ghost use Rattle.std.specs.Prelude.{◌≡◌, ◌↔◌, ◌+◌, ℕ, IsTrue, 
 ghost use Rattle.std.specs.List.{AllByRecursion};
 ghost use Rattle.pearl_instructions.specs.declared.instr.Instr.TheVariants.{Call};
 ghost use Rattle.pearl_snap.specs.Asking.{IsMet, AreMet, Asks};
-ghost use Rattle.pearl_snap.specs.Rules.{kind_held, AreOf, HoldsHeld, FramesHold, IsAtPlace, IsAtCall, IsStackOf, HasStack, HasStacks};
+ghost use Rattle.pearl_saved.specs.Rules.{kind_held, AreOf, HoldsHeld, IsAtPlace, IsAtCall, IsStackOf, HasStack, HasStacks};
+ghost use Rattle.pearl_snap.specs.Parts.{FramesHold};
 
-use crate::record::{Standing, TaskRecord};
-use crate::saved::{FrameRecord, Saved, SavedCell};
 use pearl_instructions::instr::Instr;
 use pearl_instructions::object::{Code, Parts};
+use pearl_records::record::{Standing, TaskRecord};
+use pearl_saved::saved::{FrameRecord, Saved, SavedCell};
 use pearl_value::conversion;
 use pearl_value::kind::CellKind;
 use pearl_value::listing::Listing;

@@ -10,13 +10,13 @@ ghost use Rattle.pearl_snap.specs.States.{slots, counts, switches, terminals, in
 
 use crate::frames::{put_task, read_task};
 use crate::parts::{listed, put_maybe_number, read_maybe_number};
-use crate::record::{CoreRecord, TaskRecord};
-use crate::saved::{FrameRecord, Saved};
 use crate::states::{Free, TaskLists};
 use pearl_fields::fault::ReadFault;
 use pearl_fields::part::put_list;
 use pearl_fields::reader::Reader;
 use pearl_fields::writer::put_number;
+use pearl_records::record::{CoreRecord, TaskRecord};
+use pearl_saved::saved::{FrameRecord, Saved};
 use pearl_value::cell::Cell;
 use pearl_value::listing::Listing;
 use std::alloc::{AllocError, Global};

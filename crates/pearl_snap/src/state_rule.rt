@@ -1,14 +1,15 @@
 // The least rule that a state breaks.
 
 ghost use Rattle.std.specs.Prelude.{◌≡◌, IfOk, MatchOption};
-ghost use Rattle.pearl_snap.specs.Rules.{HoldsValues, FramesHold, IsMachineState, IsLeastBroken};
+ghost use Rattle.pearl_saved.specs.Rules.{IsMachineState, IsLeastBroken};
+ghost use Rattle.pearl_snap.specs.Parts.{HoldsValues, FramesHold};
 ghost use Rattle.pearl_snap.specs.Numbers.{number};
 
 use crate::core_rules::{has_numbers, has_parts, has_plans};
 use crate::reference_rule::references_lead;
-use crate::saved::Saved;
 use crate::stack_rule::has_stacks;
 use pearl_instructions::valid::Valid;
+use pearl_saved::saved::Saved;
 use std::alloc::{AllocError as NoMemory, Global};
 
 /// A rule on the state of a run of an object.

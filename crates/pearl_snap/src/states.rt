@@ -1,7 +1,7 @@
 // What is known of the members of a list that stand before one; and what stands together in the list of tasks.
 
-use crate::record::TaskRecord;
-use crate::saved::FrameRecord;
+use pearl_records::record::TaskRecord;
+use pearl_saved::saved::FrameRecord;
 use pearl_value::listing::Listing;
 
 /// Nothing need be known.

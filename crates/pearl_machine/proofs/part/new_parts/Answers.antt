@@ -1,7 +1,7 @@
 use Rattle.std.proofs.Common.{◌+◌, map, ap, ◌∙◌, length}
 use Rattle.pearl_instructions.specs.declared.object.Parts.{Parts as Object}
 use Rattle.pearl_machine.specs.Parts.{first_part}
-use Rattle.pearl_machine.proofs.Owned.{all_shallow, first_memories, first_still}
+use Rattle.pearl_machine.proofs.Owned.{all_shallow, first_memories, first_still, first_empty}
 use Rattle.pearl_machine.proofs.part.new_parts.Goals as goal
 
 pub first_parts-requires-clause-shallow : goal.first_parts-requires-clause-shallow
@@ -16,3 +16,6 @@ returns-clause-memory c =
 
 pub returns-clause-still : goal.returns-clause-still
 returns-clause-still c = first_still c.as_slice-2.result.now c.in_ok-parts.parts.items (length c.as_slice.result.now + 1) c.in_ok-parts.ensures
+
+pub returns-clause-empty : goal.returns-clause-empty
+returns-clause-empty c = first_empty c.as_slice-2.result.now c.in_ok-parts.parts.items (length c.as_slice.result.now + 1) c.in_ok-parts.ensures

@@ -1,4 +1,4 @@
-use Rattle.pearl_snap.specs.Rules.{WaitsTyped}
+use Rattle.pearl_records.specs.States.{WaitsTyped}
 use Rattle.pearl_snap.proofs.Alls.{Left}
 use Rattle.pearl_snap.proofs.core_rules.are_terminals.Given as goal
 

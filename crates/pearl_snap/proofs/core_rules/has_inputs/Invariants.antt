@@ -1,6 +1,6 @@
 use Rattle.std.specs.List.{AllByRecursion}
 use Rattle.pearl_value.specs.WellFormed.{IsValue}
-use Rattle.pearl_snap.specs.Rules.{kind_coming_in, WaitsOf}
+use Rattle.pearl_records.specs.States.{kind_coming_in, WaitsOf}
 use Rattle.pearl_snap.proofs.Zips.{Suits}
 use Rattle.pearl_snap.proofs.core_rules.has_inputs.Given as goal
 

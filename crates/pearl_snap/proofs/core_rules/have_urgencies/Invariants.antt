@@ -1,4 +1,4 @@
-use Rattle.pearl_snap.specs.Rules.{HasUrgencies}
+use Rattle.pearl_records.specs.States.{HasUrgencies}
 use Rattle.pearl_snap.proofs.Alls.{Left}
 use Rattle.pearl_snap.proofs.core_rules.have_urgencies.Given as goal
 

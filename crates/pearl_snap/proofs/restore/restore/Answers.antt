@@ -1,12 +1,17 @@
 use Rattle.std.proofs.Common.{subst}
 use Rattle.pearl_instructions.specs.Lawful.{IsObject}
-use Rattle.pearl_snap.proofs.Restored.{snapshot_is, joined, comes_back, has_cause, comes_to, unread, only_unread}
+use Rattle.pearl_snap.proofs.Restored.{snapshot_is, joined, comes_back, still_ends, has_cause, comes_to, unread, only_unread}
 use Rattle.pearl_snap.proofs.restore.restore.Goals as goal
 
 pub returns-in-Ok-clause-ok : goal.returns-in-Ok-clause-ok
 returns-in-Ok-clause-ok c =
     let is = snapshot_is c.args.bytes.now c.in-Ok.snapshot (subst IsObject c.parts-parts.ensures.value c.parts-parts.ensures.object) c.in-Ok.ensures.read in
     comes_back c.args.bytes.now c.in-Ok.snapshot.object c.in-Ok.snapshot.saved is c.judged.result c.judged.ensures
+
+pub returns-in-Ok-clause-ends : goal.returns-in-Ok-clause-ends
+returns-in-Ok-clause-ends c =
+    let is = snapshot_is c.args.bytes.now c.in-Ok.snapshot (subst IsObject c.parts-parts.ensures.value c.parts-parts.ensures.object) c.in-Ok.ensures.read in
+    still_ends c.args.bytes.now c.in-Ok.snapshot.object c.in-Ok.snapshot.saved is c.judged.result c.judged.ensures
 
 pub returns-in-Ok-clause-err : goal.returns-in-Ok-clause-err
 returns-in-Ok-clause-err c =

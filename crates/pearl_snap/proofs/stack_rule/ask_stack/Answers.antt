@@ -1,7 +1,7 @@
 use Rattle.std.proofs.Common.{rules, arith, ◌≡◌, ◌+◌, true, get_or, subst}
 use Rattle.std.proofs.lemmas.Result.{IfOk-weaker}
 use Rattle.pearl_snap.specs.Asking.{Asks}
-use Rattle.pearl_snap.specs.Rules.{IsAtPlace, IsAtCall, IsStackOf}
+use Rattle.pearl_saved.specs.Rules.{IsAtPlace, IsAtCall, IsStackOf}
 use Rattle.pearl_snap.proofs.Asking.{climbs_on, climbs_up}
 use Rattle.pearl_snap.proofs.stack_rule.ask_stack.Goals as goal
 

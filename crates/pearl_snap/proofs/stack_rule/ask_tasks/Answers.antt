@@ -1,6 +1,6 @@
 use Rattle.std.proofs.Common.{rules, ◌≡◌, ◌+◌, true, false, length, get_or, sym, ap, subst}
 use Rattle.pearl_snap.specs.Asking.{Asks}
-use Rattle.pearl_snap.specs.Rules.{HasStack}
+use Rattle.pearl_saved.specs.Rules.{HasStack}
 use Rattle.pearl_snap.proofs.Asking.{too_many, goes_on, goes_wrong}
 use Rattle.pearl_snap.proofs.stack_rule.ask_tasks.Goals as goal
 

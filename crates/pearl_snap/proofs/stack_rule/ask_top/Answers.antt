@@ -1,5 +1,5 @@
 use Rattle.std.proofs.Common.{subst}
-use Rattle.pearl_snap.specs.Rules.{AreOf, IsAtPlace}
+use Rattle.pearl_saved.specs.Rules.{AreOf, IsAtPlace}
 use Rattle.pearl_snap.proofs.Asking.{top_asks, asks_one}
 use Rattle.pearl_snap.proofs.stack_rule.ask_top.Goals as goal
 

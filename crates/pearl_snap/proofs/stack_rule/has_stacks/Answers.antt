@@ -2,7 +2,7 @@ use Rattle.std.proofs.Common.{rules, subst}
 use Rattle.std.specs.Prelude.{◌↔◌, IsTrue, IfOk}
 use Rattle.std.proofs.lemmas.Result.{IfOk-weaker}
 use Rattle.pearl_snap.specs.Asking.{AreMet, Asks}
-use Rattle.pearl_snap.specs.Rules.{HasStacks}
+use Rattle.pearl_saved.specs.Rules.{HasStacks}
 use Rattle.pearl_snap.proofs.Asking.{told_stacks}
 use Rattle.pearl_snap.proofs.stack_rule.has_stacks.Goals as goal
 

@@ -16,9 +16,9 @@ use Rattle.pearl_instructions.specs.Operands.{Shape, asked, v2}
 use Rattle.pearl_instructions.specs.Named.{v1}
 use Rattle.pearl_instructions.specs.Kinds.{v3, v4, v5, shape_after}
 use Rattle.pearl_instructions.specs.Valid.{shape_before, v6, v7, v8, v10, v11, call_fits, keep, is_closed, judged, judged_at, judged_whole, unsound_in, IsValid}
-use Rattle.pearl_snap.specs.declared.saved.SavedCell.{SavedCell}
-use Rattle.pearl_snap.specs.declared.saved.FrameRecord.{FrameRecord}
-use Rattle.pearl_snap.specs.Rules.{kind_held, AreOf, IsAtPlace, IsAtCall, IsStackOf}
+use Rattle.pearl_saved.specs.declared.saved.SavedCell.{SavedCell}
+use Rattle.pearl_saved.specs.declared.saved.FrameRecord.{FrameRecord}
+use Rattle.pearl_saved.specs.Rules.{kind_held, AreOf, IsAtPlace, IsAtCall, IsStackOf}
 
 -- ---- what holds at an instruction of a valid object
 

@@ -1,20 +1,12 @@
 -- What a state must be so that a run of an object can go on from it: rules N1 to N6, each of which takes those before it for granted.
-use Rattle.std.specs.Prelude.{◌≡◌, ℕ, zero, suc, ◌+◌, ◌<◌, ◌≤◌, ◌≤ℤ◌, ◌^◌, ◌==◌, List, [], ◌∷◌, ◌++◌, Option, Some, None, IsSome, IfSome, option_and_then, length, map, drop, reverse, replicate, slice_get}
-use Rattle.std.specs.List.{AllByRecursion, AllZip, filter, flat_map}
+-- N2, N3 and N4 are those of its record, over the object's tables.
+use Rattle.std.specs.Prelude.{◌≡◌, ℕ, zero, suc, ◌+◌, ◌<◌, ◌≤◌, ◌≤ℤ◌, List, [], ◌∷◌, ◌++◌, Option, Some, None, option_and_then, length, map, drop, reverse, slice_get}
+use Rattle.std.specs.List.{AllByRecursion}
 use Rattle.pearl_value.specs.declared.kind.Kind.{Kind}
 use Rattle.pearl_value.specs.declared.kind.CellKind.{CellKind}
 use Rattle.pearl_value.specs.declared.kind.CellKind.TheVariants.{Plain, RefTo}
-use Rattle.pearl_value.specs.declared.cell.Cell.{Cell}
-use Rattle.pearl_value.specs.declared.device.Device.{Device}
-use Rattle.pearl_value.specs.declared.device.Device.TheVariants.{Input}
 use Rattle.pearl_value.specs.Cells.{kind_of}
-use Rattle.pearl_value.specs.Counts.{IsPreset}
-use Rattle.pearl_value.specs.Devices.{sort_rank}
-use Rattle.pearl_value.specs.WellFormed.{IsTyped, IsValue, IsValueOf}
-use Rattle.pearl_rules.specs.Devices.{terminal_room, input_room}
-use Rattle.pearl_rules.specs.Plans.{day}
-use Rattle.pearl_rules.specs.Slots.{IsUrgency}
-use Rattle.pearl_rules.specs.Tables.{IsInterrupt}
+use Rattle.pearl_value.specs.WellFormed.{IsValue}
 use Rattle.pearl_instructions.specs.declared.instr.Bounds.{Bounds}
 use Rattle.pearl_instructions.specs.declared.instr.Instr.TheVariants.{Call}
 use Rattle.pearl_instructions.specs.declared.object.Leaf.{Leaf}
@@ -22,108 +14,19 @@ use Rattle.pearl_instructions.specs.declared.object.Code.{Code}
 use Rattle.pearl_instructions.specs.declared.object.Procedure.{Procedure}
 use Rattle.pearl_instructions.specs.declared.object.Parts.{Parts as Object}
 use Rattle.pearl_instructions.specs.Objects.{routine_at, first_slot}
+use Rattle.pearl_instructions.specs.Setups.{setup_of}
 use Rattle.pearl_instructions.specs.Valid.{shape_before, elements, IsValid}
-use Rattle.pearl_snap.specs.declared.record.CoreRecord.{CoreRecord}
-use Rattle.pearl_snap.specs.declared.record.TaskRecord.{TaskRecord}
-use Rattle.pearl_snap.specs.declared.record.Standing.{Standing}
-use Rattle.pearl_snap.specs.declared.record.Standing.TheVariants.{Dormant, Active}
-use Rattle.pearl_snap.specs.declared.record.PlanRecord.{PlanRecord}
-use Rattle.pearl_snap.specs.declared.record.SeriesRecord.{SeriesRecord}
-use Rattle.pearl_snap.specs.declared.record.EndRecord.{EndRecord}
-use Rattle.pearl_snap.specs.declared.record.EndRecord.TheVariants.{Never, Until, During}
-use Rattle.pearl_snap.specs.declared.saved.Target.{Target}
-use Rattle.pearl_snap.specs.declared.saved.Target.TheVariants.{Slot, Own}
-use Rattle.pearl_snap.specs.declared.saved.ArrayReference.{ArrayReference}
-use Rattle.pearl_snap.specs.declared.saved.SavedCell.{SavedCell}
-use Rattle.pearl_snap.specs.declared.saved.SavedCell.TheVariants.{Value, Variable, Array}
-use Rattle.pearl_snap.specs.declared.saved.FrameRecord.{FrameRecord}
-use Rattle.pearl_snap.specs.declared.saved.Saved.{Saved}
-
--- ---- N2: all parts are there
-
--- the kind of each slot
-abbrev pub slot_kinds : Object → List Kind
-slot_kinds o = flat_map (λ leaf. replicate leaf.slots leaf.kind) o.leaves
-
--- how many devices of one sort there are
-abbrev pub count_of_sort : Object → ℕ → ℕ
-count_of_sort o sort = length (filter (λ d. sort_rank d == sort) o.devices)
-
-abbrev pub kind_coming_in : Device → List Kind
-kind_coming_in (Input number kind) = kind ∷ []
-kind_coming_in other = []
-
--- the kind of each input
-abbrev pub input_kinds : Object → List Kind
-input_kinds o = flat_map kind_coming_in o.devices
-
-abbrev pub WaitsTyped : List ℕ → Type 0
-WaitsTyped pending = AllByRecursion IsTyped pending × (length pending ≤ terminal_room)
-
-abbrev pub WaitsOf : Kind → List Cell → Type 0
-WaitsOf kind pending = AllByRecursion (IsValueOf kind) pending × (length pending ≤ input_room)
-
--- what slots and inputs hold are values, each within its kind, as it is where a state fits its spelling
-pub record HoldsValues (core : CoreRecord) : Type 0 where
-  pub slots : AllByRecursion IsValue core.slots
-  pub inputs : AllByRecursion (AllByRecursion IsValue) core.inputs
-
--- Slots, counts, switches, terminals, inputs and tasks are as many as the object's; each slot and each input holds values of its
--- kind, a terminal line ends and letters, no more than have room; and each count is below 2^31.
-pub record HasParts (o : Object) (core : CoreRecord) : Type 0 where
-  pub slots : AllZip IsValueOf (slot_kinds o) core.slots
-  pub as_many_counts : length core.counts ≡ length o.semaphores
-  pub counts : AllByRecursion IsPreset core.counts
-  pub switches : length core.switches ≡ count_of_sort o 0
-  pub as_many_terminals : length core.terminals ≡ count_of_sort o 1
-  pub terminals : AllByRecursion WaitsTyped core.terminals
-  pub inputs : AllZip WaitsOf (input_kinds o) core.inputs
-  pub tasks : length core.tasks ≡ length o.tasks
-
--- ---- N3: moments, priorities and who acted last
-
-abbrev pub IsUrgent : Standing → Type 0
-IsUrgent Dormant = Unit {0}
-IsUrgent (Active priority suspended kept) = IsUrgency priority × AllByRecursion IsUrgency kept × (length kept ≤ 3)
-
-abbrev pub HasUrgencies : TaskRecord → Type 0
-HasUrgencies row = IsUrgent row.standing × IfSome row.activation (λ start. IsUrgency start.priority)
-
--- the moment is at most 2^40, and the clock a time of day; who acted last is a task; all priorities are from 1 to 255, and a task
--- keeps at most three starts
-pub record HasNumbers (o : Object) (core : CoreRecord) : Type 0 where
-  pub moment : core.moment ≤ 2 ^ 40
-  pub clock : core.clock < day
-  pub last : IfSome core.last (λ task. task < length o.tasks)
-  pub priorities : AllByRecursion HasUrgencies core.tasks
-
--- ---- N4: plans
-
-abbrev pub IsEnd : EndRecord → Type 0
-IsEnd Never = Unit {0}
-IsEnd (Until time) = time < day
-IsEnd (During time) = time ≤ 2 ^ 40
-
-abbrev pub IsSeries : SeriesRecord → Type 0
-IsSeries series = (series.first ≤ 2 ^ 42) × (series.period ≤ 2 ^ 40)
-
--- the interrupt is one; lengths of time are at most 2^40, first moments at most 2^42; a plan that waits for nothing has a series
-pub record IsPlan (o : Object) (plan : PlanRecord) : Type 0 where
-  pub when : IfSome plan.when (λ interrupt. IsInterrupt (slice_get o.devices interrupt))
-  pub after : plan.after ≤ 2 ^ 40
-  pub period : plan.period ≤ 2 ^ 40
-  pub end : IsEnd plan.end
-  pub series : IfSome plan.series IsSeries
-  pub begun : plan.when ≡ None → IsSome plan.series
-
--- a dormant task has no plan to go on, and all plans are lawful
-pub record IsPlanned (o : Object) (row : TaskRecord) : Type 0 where
-  pub dormant : row.standing ≡ Dormant → row.continuation ≡ None
-  pub goes_on : IfSome row.continuation (IsPlan o)
-  pub starts : IfSome row.activation (λ start. IsPlan o start.plan)
-
-abbrev pub HasPlans : Object → CoreRecord → Type 0
-HasPlans o core = AllByRecursion (IsPlanned o) core.tasks
+use Rattle.pearl_records.specs.declared.record.TaskRecord.{TaskRecord}
+use Rattle.pearl_records.specs.declared.record.Standing.{Standing}
+use Rattle.pearl_records.specs.declared.record.Standing.TheVariants.{Dormant, Active}
+use Rattle.pearl_records.specs.States.{HasParts, HasNumbers, HasSpans}
+use Rattle.pearl_saved.specs.declared.saved.Target.{Target}
+use Rattle.pearl_saved.specs.declared.saved.Target.TheVariants.{Slot, Own}
+use Rattle.pearl_saved.specs.declared.saved.ArrayReference.{ArrayReference}
+use Rattle.pearl_saved.specs.declared.saved.SavedCell.{SavedCell}
+use Rattle.pearl_saved.specs.declared.saved.SavedCell.TheVariants.{Value, Variable, Array}
+use Rattle.pearl_saved.specs.declared.saved.FrameRecord.{FrameRecord}
+use Rattle.pearl_saved.specs.declared.saved.Saved.{Saved}
 
 -- ---- N5: stacks are of their routines
 
@@ -144,10 +47,6 @@ IsHeld reference = Unit {0}
 
 abbrev pub HoldsHeld : FrameRecord → Type 0
 HoldsHeld f = AllByRecursion IsHeld (f.cells ++ f.operands)
-
--- what frames hold is held well, as it is where a state fits its spelling
-abbrev pub FramesHold : List (List FrameRecord) → Type 0
-FramesHold stacks = AllByRecursion (AllByRecursion HoldsHeld) stacks
 
 -- a frame of some code, whose operands, the top one first, have these kinds
 pub record Stands (code : Code) (shape : List CellKind) (f : FrameRecord) : Type 0 where
@@ -238,9 +137,9 @@ AllRefer o lower (f ∷ more) =
 abbrev pub Rule : Object → Saved → ℕ → Type 0
 Rule o s zero = Unit {0}
 Rule o s (suc zero) = IsValid o
-Rule o s (suc (suc zero)) = HasParts o s.core
-Rule o s (suc (suc (suc zero))) = HasNumbers o s.core
-Rule o s (suc (suc (suc (suc zero)))) = HasPlans o s.core
+Rule o s (suc (suc zero)) = HasParts (setup_of o) s.core
+Rule o s (suc (suc (suc zero))) = HasNumbers (setup_of o) s.core
+Rule o s (suc (suc (suc (suc zero)))) = HasSpans (setup_of o) s.core
 Rule o s (suc (suc (suc (suc (suc zero))))) = HasStacks o 0 s.core.tasks s.stacks
 Rule o s (suc (suc (suc (suc (suc (suc zero)))))) = AllByRecursion (AllRefer o []) s.stacks
 Rule o s (suc (suc (suc (suc (suc (suc (suc n))))))) = Unit {0}

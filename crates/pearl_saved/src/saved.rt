@@ -1,7 +1,7 @@
 // What is saved of a run: its core, and the stack of each task.
 
-use crate::record::CoreRecord;
 use pearl_instructions::instr::Bounds;
+use pearl_records::record::CoreRecord;
 use pearl_value::cell::Cell;
 use pearl_value::kind::Kind;
 use pearl_value::listing::Listing;
