@@ -47,6 +47,16 @@ fn command(
     for word in words {
         owned.push(String::from_str(alloc, word)?)?;
     }
+    carried_out(alloc, owned.as_slice(), plant, journal)
+}
+
+// The same of words that are kept.
+fn carried_out(
+    alloc: Global,
+    words: &[String],
+    plant: &[u8],
+    journal: &[u8],
+) -> Result<Ended, AllocError> {
     let mut files = Vec::new(alloc);
     for (name, bytes) in [("plant", plant), ("journal", journal)] {
         files.push(File {
@@ -55,12 +65,7 @@ fn command(
         })?;
     }
     let mut sink = SureSink::new(alloc, ROOM)?;
-    let status = pearl(
-        alloc,
-        owned.as_slice(),
-        &mut SureShelf::new(files),
-        &mut sink,
-    );
+    let status = pearl(alloc, words, &mut SureShelf::new(files), &mut sink);
     Ok(Ended {
         status,
         bytes: Vec::from_slice(alloc, sink.bytes())?,
@@ -124,6 +129,18 @@ fn is_as_kept(rt: &HostRuntime, run: &str) -> io::Result<bool> {
     Ok(as_kept)
 }
 
+// The words of `watch` with these names, which have `+` between them.
+fn words_of_watch(alloc: Global, names: &str) -> Result<Vec<String>, AllocError> {
+    let mut words = Vec::new(alloc);
+    for word in ["watch", "plant", "journal"] {
+        words.push(String::from_str(alloc, word)?)?;
+    }
+    for name in names.split('+') {
+        words.push(String::from_str(alloc, name)?)?;
+    }
+    Ok(words)
+}
+
 // Whether these names, with `+` between them, are watched in a run as it is kept; says so, or what differs.
 fn is_watched_as_kept(rt: &HostRuntime, run: &str, names: &str) -> io::Result<bool> {
     let source = read(rt, plant_of(run), "pearl")?;
@@ -135,12 +152,9 @@ fn is_watched_as_kept(rt: &HostRuntime, run: &str, names: &str) -> io::Result<bo
         source.as_slice(),
         b"".as_slice(),
     )?;
-    let mut words = Vec::from_slice(rt.alloc(), &["watch", "plant", "journal"])?;
-    for name in names.split('+') {
-        words.push(name)?;
-    }
+    let words = words_of_watch(rt.alloc(), names)?;
     let object = made.bytes.as_slice();
-    let watched = command(rt.alloc(), words.as_slice(), object, journal.as_slice())?;
+    let watched = carried_out(rt.alloc(), words.as_slice(), object, journal.as_slice())?;
     let as_kept = is_done(rt, run, "compile", &made)?
         && writes(rt, run, "watch", &watched, kept.as_slice())?;
     if as_kept {
