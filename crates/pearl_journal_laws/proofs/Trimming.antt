@@ -20,7 +20,7 @@ blank_free text byte blank =
     let count : suffix_len is_blank (text ++ byte ∷ []) ≡ 1 + suffix_len is_blank text =
     ap (prefix_len is_blank) (reverse-append text (byte ∷ [])) ∙ one_more in
     let left : length (text ++ byte ∷ []) - suffix_len is_blank (text ++ byte ∷ [])
-        ≡ length text - suffix_len is_blank text =
+    ≡ length text - suffix_len is_blank text =
     omega (arith, last_length text byte, count) in
     ap (λ n. take n (text ++ byte ∷ [])) left
     ∙ take-append-le (length text - suffix_len is_blank text) text (byte ∷ []) (omega arith)
