@@ -31,7 +31,8 @@ none_ended (byte ∷ bytes) e = absurd (some_lines byte bytes e)
 
 -- where each line is ended, so are those behind the first byte
 inner_if : (is_end : Bool) (byte : ℕ) (ended lines : List (List ℕ)) → (lines ≡ [] → ended ≡ []) →
-    (if is_end then [] ∷ ended else in_front_of_some byte ended) ≡ (if is_end then [] ∷ lines else in_front byte lines) →
+    (if is_end then [] ∷ ended else in_front_of_some byte ended)
+    ≡ (if is_end then [] ∷ lines else in_front byte lines) →
     ended ≡ lines
 inner_if true byte ended lines none e = cc
 inner_if false byte [] [] none e = refl
@@ -40,13 +41,15 @@ inner_if false byte (first ∷ ended) [] none e = none refl
 inner_if false byte (first ∷ ended) (line ∷ lines) none e = cc
 
 inner_ends : (byte : ℕ) (bytes : List ℕ) → EndsEachLine (byte ∷ bytes) → EndsEachLine bytes
-inner_ends byte bytes ends = inner_if (byte == 10) byte (ended_lines bytes) (journal_lines bytes) (none_ended bytes) ends
+inner_ends byte bytes ends =
+    inner_if (byte == 10) byte (ended_lines bytes) (journal_lines bytes) (none_ended bytes) ends
 
 -- a byte in front of lines that others follow
 joined_if : (is_end : Bool) (byte : ℕ) (put : List (List ℕ) → List (List ℕ)) →
     ((line : List ℕ) (lines : List (List ℕ)) → put (line ∷ lines) ≡ (byte ∷ line) ∷ lines) →
     (ended lines later all : List (List ℕ)) → ended ≡ lines →
-    (if is_end then [] ∷ ended else in_front_of_some byte ended) ≡ (if is_end then [] ∷ lines else in_front byte lines) →
+    (if is_end then [] ∷ ended else in_front_of_some byte ended)
+    ≡ (if is_end then [] ∷ lines else in_front byte lines) →
     all ≡ lines ++ later →
     (if is_end then [] ∷ all else put all) ≡ (if is_end then [] ∷ lines else in_front byte lines) ++ later
 joined_if true byte put is ended lines later all same e joined = ap (λ l. [] ∷ l) joined
@@ -67,12 +70,13 @@ pub ended_joined : (journal next : List ℕ) → EndsEachLine journal →
 ended_joined [] next ends = refl
 ended_joined (byte ∷ journal) next ends =
     let inner = inner_ends byte journal ends in
-    joined_if (byte == 10) byte (in_front_of_some byte) (λ line lines. refl) (ended_lines journal) (journal_lines journal)
-    (ended_lines next) (ended_lines (journal ++ next)) inner ends (ended_joined journal next inner)
+    joined_if (byte == 10) byte (in_front_of_some byte) (λ line lines. refl) (ended_lines journal)
+    (journal_lines journal) (ended_lines next) (ended_lines (journal ++ next)) inner ends (ended_joined journal next inner)
 
 -- a byte 10 at the end ends each line
 last_if : (is_end : Bool) (byte : ℕ) (ended lines : List (List ℕ)) → ended ≡ lines → lines ≢ [] →
-    (if is_end then [] ∷ ended else in_front_of_some byte ended) ≡ (if is_end then [] ∷ lines else in_front byte lines)
+    (if is_end then [] ∷ ended else in_front_of_some byte ended)
+    ≡ (if is_end then [] ∷ lines else in_front byte lines)
 last_if true byte ended lines same some = ap (λ l. [] ∷ l) same
 last_if false byte ended [] same some = absurd (some refl)
 last_if false byte ended (line ∷ lines) same some = ap (in_front_of_some byte) same

@@ -70,7 +70,8 @@ module _ (setup : Setup) (reading other : Reading) (line : List ℕ) (same : oth
       record {
         text = s.text;
         time = time;
-        says = subst (λ w. SaysWordAndText (without_return line) w s.text) (sym is) (s.says (subst IsWord is clock_is_word));
+        says = subst (λ w. SaysWordAndText (without_return line) w s.text) (sym is)
+            (s.says (subst IsWord is clock_is_word));
         is_time = was_time s.text time (ap clock_literal (sym s.behind) ∙ read);
       }
 
@@ -164,4 +165,5 @@ goes_on setup lines more found all none =
     let led = moment_led setup start lines found all in
     let moment : there.moment ≡ time_in found = omega (arith, led) in
     entries_joined setup start lines more found all
-    ∙ ap (with_front found) (lines_alike setup (reading_at begin_later (time_in found)) there (length lines) count moment more none)
+    ∙ ap (with_front found)
+    (lines_alike setup (reading_at begin_later (time_in found)) there (length lines) count moment more none)

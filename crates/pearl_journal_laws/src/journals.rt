@@ -25,8 +25,8 @@ pub fn journals_join()
         ended_lines (journal ++ next) ≡ journal_lines journal ++ ended_lines next }
 {}
 
-/// Behind lines that are all accepted or skipped, the entries are those of the first lines and then those of the others,
-/// read from where the first ones led.
+/// Behind lines that are all accepted or skipped, the entries are those of the first lines and then those of the
+/// others, read from where the first ones led.
 pub fn entries_join()
     ensures { (setup : Setup) (reading : Reading) (lines more : List (List ℕ)) (found : List Entry) →
         entries_from setup reading lines ≡ record { accepted = found; ending = All } →
@@ -59,9 +59,9 @@ pub fn clocks_alone_look_back()
         ≡ renumbered before (entries_from setup reading lines) }
 {}
 
-/// Behind lines that are all accepted or skipped, lines of which none sets the clock are read as those of a journal that
-/// goes on with a run, from the moment to which the first ones lead: they have the same entries, and if one is refused,
-/// its number alone is another.
+/// Behind lines that are all accepted or skipped, lines of which none sets the clock are read as those of a journal
+/// that goes on with a run, from the moment to which the first ones lead: they have the same entries, and if one is
+/// refused, its number alone is another.
 pub fn journals_go_on()
     ensures { (setup : Setup) (lines more : List (List ℕ)) (found : List Entry) →
         entries setup lines ≡ record { accepted = found; ending = All } → HasNoClock more →
