@@ -71,7 +71,8 @@ ended_joined [] next ends = refl
 ended_joined (byte ∷ journal) next ends =
     let inner = inner_ends byte journal ends in
     joined_if (byte == 10) byte (in_front_of_some byte) (λ line lines. refl) (ended_lines journal)
-    (journal_lines journal) (ended_lines next) (ended_lines (journal ++ next)) inner ends (ended_joined journal next inner)
+    (journal_lines journal) (ended_lines next) (ended_lines (journal ++ next)) inner ends
+    (ended_joined journal next inner)
 
 -- a byte 10 at the end ends each line
 last_if : (is_end : Bool) (byte : ℕ) (ended lines : List (List ℕ)) → ended ≡ lines → lines ≢ [] →
@@ -105,8 +106,8 @@ joined_behind Blank number some all later found e joined = joined found e
 joined_behind (Item entry) number some all later found e joined =
     let ends : some.ending ≡ All = ap (λ x. x.ending) e in
     let whole : some ≡ record { accepted = some.accepted; ending = All } =
-    ap (λ x. record { accepted = some.accepted; ending = x }) ends in
-    ap (λ x. record x { accepted = entry ∷ x.accepted }) (joined some.accepted whole)
+    ap (λ end. record some { ending = end }) ends in
+    ap (more_entries (Item entry) number) (joined some.accepted whole)
     ∙ ap (λ front. with_front front later) (ap (λ x. x.accepted) e)
 joined_behind (Wrong code) number some all later found e joined =
     absurd (no_refusal number code (ap (λ x. x.ending) e))
@@ -142,7 +143,7 @@ led_behind reading Blank number some found moment e led = led found e
 led_behind reading (Item entry) number some found moment e led =
     let ends : some.ending ≡ All = ap (λ x. x.ending) e in
     let whole : some ≡ record { accepted = some.accepted; ending = All } =
-    ap (λ x. record { accepted = some.accepted; ending = x }) ends in
+    ap (λ end. record some { ending = end }) ends in
     led some.accepted whole ∙ time_behind reading.moment entry some.accepted
     ∙ ap (λ all. reading.moment + time_in all) (ap (λ x. x.accepted) e)
 led_behind reading (Wrong code) number some found moment e led =

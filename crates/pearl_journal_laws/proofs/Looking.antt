@@ -57,10 +57,11 @@ forms_alike setup one other word text never =
 
 clock_is_word : IsWord (codes "clock")
 clock_is_word =
-    record { some = λ e. cc; solid = (refl, refl, refl, refl, refl, tt); no_comment = λ rest e. cc }
+    record { some = λ e. cc; solid = (refl, (refl, (refl, (refl, (refl, tt))))); no_comment = λ rest e. cc }
 
 module _ (setup : Setup) (reading other : Reading) (line : List ℕ) (same : other.moment ≡ reading.moment)
     (never : SetsClock line → ⊥) where
+  abbrev text : List ℕ
   text = trimmed (without_return line)
 
   sets : (s : Said (without_return line)) → first_word text ≡ codes "clock" → (time : ℕ) →
@@ -146,7 +147,7 @@ lines_alike setup reading other before count same (line ∷ lines) none =
         ≡ renumbered before (more_entries means (reading.lines + 1) (entries_from setup (after reading means) lines))
     by Blank later = later (after reading Blank) (after other Blank) (omega (arith, count)) same
     by (Item entry) later =
-        ap (λ x. record x { accepted = entry ∷ x.accepted })
+        ap (more_entries (Item entry) (other.lines + 1))
         (later (after reading (Item entry)) (after other (Item entry)) (omega (arith, count))
         (ap (λ moment. moment_after moment entry) same))
     by (Wrong code) later =

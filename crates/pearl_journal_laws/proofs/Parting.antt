@@ -48,7 +48,7 @@ fronted (b ∷ bytes) = by (is_blank b) refl (fronted bytes)
         }
 
 -- a text that ends in no blank, and blanks
-record Backed (bytes : List ℕ) : Type 0 where
+pub record Backed (bytes : List ℕ) : Type 0 where
   pub text : List ℕ
   pub back : List ℕ
   pub is_gap : IsGap back
