@@ -20,8 +20,8 @@ use Rattle.pearl_journal.specs.Readings.{Reading}
 use Rattle.pearl_journal.specs.Texts.{quoted, text_literal}
 use Rattle.pearl_journal.specs.Values.{literal}
 use Rattle.pearl_journal.specs.Words.{before_blanks, behind_blanks, behind_word, first_word, is_blank, number, task_named}
-use Rattle.pearl_journal.proofs.Offered.{StopsWord, after_first-word, before_blanks-bare, before_blanks-first}
-use Rattle.pearl_journal.proofs.Offered.{before_first-word, behind_blanks-bare, behind_blanks-gap, without_return-drops}
+use Rattle.pearl_journal.proofs.Offered.{before_blanks-bare, before_blanks-first}
+use Rattle.pearl_journal.proofs.Offered.{behind_blanks-bare, behind_blanks-gap, without_return-drops}
 use Rattle.pearl_journal_laws.specs.Says.{IsOther}
 use Rattle.pearl_journal_laws.proofs.ArrivalLaws.{numbered_none, terminal_no_text}
 use Rattle.pearl_journal_laws.proofs.Endings.{EndsWell, id_ends, literal_ends, no_return_by, number_ends, text_ends, time_ends}

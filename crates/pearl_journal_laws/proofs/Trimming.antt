@@ -1,8 +1,8 @@
 -- A line without the blanks at its ends: its first word, and what stands behind that.
-use Rattle.std.proofs.Common.{◌≡◌, ◌+◌, ◌-◌, ℕ, List, [], ◌∷◌, ◌++◌, true, false, drop, length, reverse, take, refl, ap, sym, ◌∙◌, subst, arith}
+use Rattle.std.proofs.Common.{◌≡◌, ◌+◌, ◌-◌, ℕ, List, [], ◌∷◌, ◌++◌, true, drop, length, reverse, take, refl, ap, sym, ◌∙◌, subst, arith}
 use Rattle.std.proofs.lemmas.List.{append_assoc, append-nil, reverse-append, take-append-le}
 use Rattle.std.specs.List.{prefix_len, suffix_len}
-use Rattle.pearl_journal.specs.Laws.{IsBare, IsGap, IsWord, SaysWordAndText}
+use Rattle.pearl_journal.specs.Laws.{IsGap, IsWord, SaysWordAndText}
 use Rattle.pearl_journal.specs.Words.{before_blanks, behind_blanks, behind_word, first_word, is_blank}
 use Rattle.pearl_journal.proofs.Offered.{StopsWord, after_first-word, before_blanks-bare, before_first-word}
 use Rattle.pearl_journal.proofs.Offered.{behind_blanks-bare, behind_blanks-gap}
