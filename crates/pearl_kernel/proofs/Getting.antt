@@ -271,6 +271,11 @@ pub added-at : (k : Kept) (device : ℕ) (text : List ℕ) (room : Bool) (new : 
 added-at k device text true new is = ap (λ channels. record k { core = record k.core { channels = channels } }) is
 added-at k device text false new is = ap (λ channels. record k { core = record k.core { channels = channels } }) is
 
+pub added-length : (channels new : List Channel) (u : ℕ) (channel : Channel) (room : Bool) →
+    new ≡ (if room then slice_set channels u channel else channels) → length new ≡ length channels
+added-length channels new u channel true is = ap length is ∙ length-set channels u channel
+added-length channels new u channel false is = ap length is
+
 -- TERMINALS
 
 pub terminal-there : (channels : List Channel) (u : ℕ) → HasBytes (slice_get channels u) → u < length channels

@@ -1,5 +1,5 @@
 -- Which tasks wait at a device: what becomes of the rows of bits, and who comes next.
-use Rattle.std.proofs.Common.{◌≡◌, ◌≢◌, ℕ, ◌+◌, ◌-◌, ◌*◌, ◌<◌, ◌≤◌, List, Option, Some, None, length, replicate, slice_set}
+use Rattle.std.proofs.Common.{◌≡◌, ◌≢◌, ℕ, ◌+◌, ◌-◌, ◌*◌, ◌<◌, ◌≤◌, List, Option, Some, None, length, replicate, slice_get, slice_set}
 use Rattle.std.proofs.Common.{refl, sym, ap, subst, ◌∙◌, arith, inl, inr, length-set}
 use Rattle.std.specs.Prelude.{IfSome}
 use Rattle.std.proofs.lemmas.Bool.{cases_lt}
@@ -156,6 +156,20 @@ pub bit-there : (devices : ℕ) (rows : List ℕ) (device : Option ℕ) → leng
     ((d : ℕ) → device ≡ Some d → d < devices) → IfSome device (λ d. d * 4 + 3 < length rows)
 bit-there devices rows None words within = tt
 bit-there devices rows (Some d) words within = let less = within d refl in omega (arith, less, words)
+
+-- the task's place was read
+pub marks-there : (devices : ℕ) (offers : List (Option Action)) (rows : List ℕ) (task : ℕ) (bid : Option Action)
+    (device : Option ℕ) → AreListening devices offers rows → slice_get offers task ≡ Some bid → device ≡ awaited bid →
+    IfSome device (λ d. d * 4 + 3 < length rows)
+marks-there devices offers rows task bid device are read is =
+    bit-there devices rows device are.words
+    (λ d e. are.there d task (ap (λ o. awaited (flattened o)) read ∙ sym is ∙ e))
+
+pub marks-of : (offers : List (Option Action)) (old new : List ℕ) (task b : ℕ) (bid : Option Action)
+    (device : Option ℕ) → slice_get offers task ≡ Some bid → device ≡ awaited bid → Marks old new task b device →
+    Marks old new task b (awaited (kept_at offers task))
+marks-of offers old new task b bid device read is marks =
+    subst (Marks old new task b) (is ∙ sym (ap (λ o. awaited (flattened o)) read)) marks
 
 -- an action that names what is there
 pub named-there : (core : Core) (action : Action) → Names core action → (d : ℕ) → device_of action ≡ Some d →
