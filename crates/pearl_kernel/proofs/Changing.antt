@@ -65,8 +65,11 @@ occurred_changes old core d only =
 -- an interrupt was let through
 pub stirs-occurred : (k new : Kept) (d : ℕ) → new ≡ record k { core = occurred k.core d } →
     Stirs k.core new.core (Some changed.Nothing)
-stirs-occurred k new d e = (tt, subst (λ (x : Kept). ChangesOnly changed.Nothing k.core x.core) (sym e)
-    (occurred_changes k.core k.core d (unchanged k.core)))
+stirs-occurred k new d e = (
+  tt,
+  subst (λ (x : Kept). ChangesOnly changed.Nothing k.core x.core) (sym e)
+      (occurred_changes k.core k.core d (unchanged k.core)),
+)
 
 -- WHAT WAITS AT A DEVICE
 

@@ -1,5 +1,5 @@
 -- How far GETs have come after something changed.
-use Rattle.std.proofs.Common.{◌≡◌, ℕ, zero, suc, ◌<◌, ◌≤◌, ◌+◌, List, [], ◌∷◌, ◌++◌, Bool, true, false, Option, Some, None}
+use Rattle.std.proofs.Common.{◌≡◌, ℕ, ◌<◌, ◌≤◌, List, [], ◌++◌, Bool, true, false, Option, Some, None}
 use Rattle.std.proofs.Common.{length, slice_get, slice_set, replicate, set, refl, sym, ap, subst, ◌∙◌, arith, inl, inr, if◌then◌else◌, length-set, get_or-set_same, get_or-set_other}
 use Rattle.std.proofs.lemmas.Bool.{cases_lt, false≢true}
 use Rattle.std.proofs.lemmas.Option.{slice_get_within, none-some}

@@ -5,7 +5,7 @@ use Rattle.std.specs.Prelude.{IfSome}
 use Rattle.std.proofs.lemmas.Bool.{cases_lt}
 use Rattle.std.proofs.lemmas.List.{length-replicate}
 use Rattle.std.proofs.lemmas.Option.{none-some, same_Some}
-use Rattle.pearl_bits.specs.Bits.{bit, Changes, IsFirst, NoneIsSet}
+use Rattle.pearl_bits.specs.Bits.{bit, IsFirst, NoneIsSet}
 use Rattle.pearl_rules.specs.declared.action.Action.{Action}
 use Rattle.pearl_rules.specs.declared.action.Action.TheVariants.{Get, Take}
 use Rattle.pearl_rules.specs.Core.{Core}

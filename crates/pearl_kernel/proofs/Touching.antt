@@ -200,8 +200,7 @@ leaves-broken_off own k mid new list (Some changed) e offers stirs is =
       only = ended_only changed k.core mid.core own e stirs.1;
       kept = tt;
       others = λ t other far.
-          let left = ended_others mid own t e other in
-          (
+          let left = ended_others mid own t e other in (
             left.0 ∙ unmoved-row k.core mid.core (after mid (ending mid.core own e)) changed t stirs.0 far,
             left.1 ∙ ap (λ xs. kept_at xs t) offers,
           );

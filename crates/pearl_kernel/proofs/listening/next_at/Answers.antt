@@ -1,4 +1,4 @@
-use Rattle.std.proofs.Common.{◌≡◌, ◌<◌, ◌≤◌, ◌*◌, ◌+◌, sym, subst, arith, ℕ, length}
+use Rattle.std.proofs.Common.{◌<◌, sym, subst, arith}
 use Rattle.pearl_kernel.proofs.Listeners.{IsFrom, from-behind, behind-from, none-found, first-found}
 use Rattle.pearl_kernel.proofs.listening.next_at.Goals as goal
 use Rattle.pearl_kernel.proofs.listening.next_at.Goals.{in-None, in-Some}
