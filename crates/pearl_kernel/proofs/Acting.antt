@@ -19,12 +19,13 @@ use Rattle.pearl_kernel.specs.Whole.{IsWhole, IsOfTasks}
 use Rattle.pearl_kernel.specs.Eligible.{possible, entry, entry_if, Stand, is_told, able_at, IsSameAt, IsStandOf}
 use Rattle.pearl_kernel.specs.declared.changes.Changed.{Changed}
 use Rattle.pearl_kernel.specs.declared.changes.Changed.TheVariants.{Nothing}
-use Rattle.pearl_kernel.specs.Changes.{ChangesOnly, Stirs, renewed, IsRenewedAt, AreRenewed, AreRenewedIf}
-use Rattle.pearl_kernel.specs.Touched.{Reach, Own, Other, Waiters, All, IsUntouched, KeepsOthers, changed_by, Leaves, IsThere, IsRenewed}
+use Rattle.pearl_kernel.specs.Changes.{ChangesOnly, Stirs, renewed, IsRenewedAt, AreRenewedBut, AreRenewedIf}
+use Rattle.pearl_kernel.specs.Changes.{IsUnmoved, KeepsTasks}
+use Rattle.pearl_kernel.specs.Touched.{Reach, Own, Other, Waiters, After, IsUntouched, KeepsOthers, changed_by, Leaves, IsThere, IsRenewed}
 use Rattle.pearl_kernel.proofs.Lawful.{ActsKeep, lawful-after}
 use Rattle.pearl_kernel.proofs.Naming.{names-all}
 use Rattle.pearl_kernel.proofs.Places.{kept-other, some-before, some-dropped}
-use Rattle.pearl_kernel.proofs.Entries.{possible-same, possible-unless, entry-same, renewed-is}
+use Rattle.pearl_kernel.proofs.Entries.{possible-same, possible-unless, possible-unmoved, unmoved-row, entry-same, renewed-is}
 
 -- WHAT IS PICKED CAN BE DONE
 
@@ -111,7 +112,7 @@ pub there-after : (k new : Kept) (touched : Reach) → length new.core.tasks ≡
 there-after k new Own same there = tt
 there-after k new (Other u) same there = subst (λ n. u < n) (sym same) there
 there-after k new (Waiters list) same there = tt
-there-after k new (All changed) same there = tt
+there-after k new (After changed) same there = tt
 
 -- a task that isn't touched stands as before
 left_so : (k new : Kept) (s after : Stand) (touched : Reach) (t : ℕ) → IsUntouched new touched t →
@@ -121,7 +122,7 @@ left_so : (k new : Kept) (s after : Stand) (touched : Reach) (t : ℕ) → IsUnt
 left_so k new s after Own t far only kept row offer same so = stays k new s after t row offer (possible-same k new t offer only) same so
 left_so k new s after (Other u) t far only kept row offer same so = stays k new s after t row offer (possible-same k new t offer only) same so
 left_so k new s after (Waiters list) t far only kept row offer same so = stays k new s after t row offer (possible-unless k new list t far only kept offer) same so
-left_so k new s after (All changed) t far only kept row offer same so = absurd far
+left_so k new s after (After changed) t far only kept row offer same so = stays k new s after t row offer (possible-unmoved k new changed t far only offer) same so
 
 pub kept-after : (setup : Setup) (k : Kept) (s after : Stand) (own : ℕ) (a : Action) (touched : Reach) →
     IsLawful setup k → IsLawful setup (done k own a) → IsWhole k s →
@@ -199,19 +200,28 @@ kept-same setup k new s lawful tasks offers only kept =
     }
 
 -- rows may change, and at most this of what offers wait for
-pub kept-changed : (setup : Setup) (k new : Kept) (s after : Stand) (changed : Changed) → IsLawful setup k →
-    IsLawful setup new → new.offers ≡ k.offers → ChangesOnly changed k.core new.core → IsWhole k s →
-    AreRenewed new changed s after → IsWhole new after
-kept-changed setup k new s after changed before lawful offers only kept renewed =
+kept_changed : (setup : Setup) (k new : Kept) (s after : Stand) (changed : Changed) → IsLawful setup k →
+    IsLawful setup new → new.offers ≡ k.offers → KeepsTasks changed k.core new.core →
+    ChangesOnly changed k.core new.core → IsWhole k s → AreRenewedBut new changed (IsUnmoved new changed) s after →
+    IsWhole new after
+kept_changed setup k new s after changed before lawful offers tasks only kept renewed =
     let size : length new.core.tasks ≡ length k.core.tasks = lawful.tasks ∙ sym before.tasks in
     record {
       few = subst (λ n. n ≤ 200) (sym size) kept.few;
       lawful = (setup, lawful);
       stand = stand_of new after (renewed.size ∙ kept.stand.size ∙ sym size)
           (renewed.set_size ∙ kept.stand.ready.size ∙ sym size)
-          (λ t there. renews changed k new s after t only (λ a e. ap (λ xs. kept_at xs t) (sym offers) ∙ e)
-          (stood k s t kept (subst (λ n. t < n) size there)) (renewed.each t there));
+          (λ t there. by_each t (stood k s t kept (subst (λ n. t < n) size there)) (renewed.each t there));
     }
+  where
+    by_each : (t : ℕ) → StandsSo k s t →
+        IsRenewedAt new changed s after t ⊎ (IsUnmoved new changed t × IsSameAt s after t) → StandsSo new after t
+    by_each t so (inl is) =
+        renews changed k new s after t only (λ a e. ap (λ xs. kept_at xs t) (sym offers) ∙ e) so is
+    by_each t so (inr left) =
+        let offer = ap (λ xs. kept_at xs t) offers in
+        stays k new s after t (unmoved-row k.core new.core new changed t tasks left.0) offer
+        (possible-unmoved k new changed t left.0 only offer) left.1 so
 
 pub kept-stirred : (setup : Setup) (k new : Kept) (s after : Stand) (changed : Option Changed) → IsLawful setup k →
     IsLawful setup new → new.offers ≡ k.offers → Stirs k.core new.core changed → IsWhole k s →
@@ -219,7 +229,7 @@ pub kept-stirred : (setup : Setup) (k new : Kept) (s after : Stand) (changed : O
 kept-stirred setup k new s after None before lawful offers stirs kept same =
     subst (λ (x : Stand). IsWhole new x) (sym same) (kept-same setup k new s lawful stirs.0 offers stirs.1 kept)
 kept-stirred setup k new s after (Some changed) before lawful offers stirs kept renewed =
-    kept-changed setup k new s after changed before lawful offers stirs kept renewed
+    kept_changed setup k new s after changed before lawful offers stirs.0 stirs.1 kept renewed
 
 -- the same counts, channels and formats
 alike : (core new : Core) → new.counts ≡ core.counts → new.channels ≡ core.channels → new.formats ≡ core.formats →

@@ -65,8 +65,11 @@ occurred_changes old core d only =
 -- an interrupt was let through
 pub stirs-occurred : (k new : Kept) (d : ℕ) → new ≡ record k { core = occurred k.core d } →
     Stirs k.core new.core (Some changed.Nothing)
-stirs-occurred k new d e = subst (λ (x : Kept). ChangesOnly changed.Nothing k.core x.core) (sym e)
-    (occurred_changes k.core k.core d (unchanged k.core))
+stirs-occurred k new d e = (
+  tt,
+  subst (λ (x : Kept). ChangesOnly changed.Nothing k.core x.core) (sym e)
+      (occurred_changes k.core k.core d (unchanged k.core)),
+)
 
 -- WHAT WAITS AT A DEVICE
 
@@ -84,14 +87,26 @@ channel_changes old core d channel only = record {
 
 pub stirs-channel : (k new : Kept) (d : ℕ) (channel : Channel) →
     new ≡ record k { core = with_channel k.core d channel } → Stirs k.core new.core (Some (changed.Device d))
-stirs-channel k new d channel is = subst (λ (x : Kept). ChangesOnly (changed.Device d) k.core x.core) (sym is)
-    (channel_changes k.core k.core d channel (less (changed.Device d) k.core k.core (unchanged k.core)))
+stirs-channel k new d channel is = (
+  ap (λ (x : Kept). x.core.tasks) is,
+  subst (λ (x : Kept). ChangesOnly (changed.Device d) k.core x.core) (sym is)
+      (channel_changes k.core k.core d channel (less (changed.Device d) k.core k.core (unchanged k.core))),
+)
 
 pub stirs-value : (k new : Kept) (d : ℕ) → new ≡ record k { core = without_value k.core d } →
     Stirs k.core new.core (Some (changed.Device d))
-stirs-value k new d is = subst (λ (x : Kept). ChangesOnly (changed.Device d) k.core x.core) (sym is)
-    (by_channel (channel_of k.core d))
+stirs-value k new d is = (
+  ap (λ (x : Kept). x.core.tasks) is ∙ same_tasks (channel_of k.core d),
+  subst (λ (x : Kept). ChangesOnly (changed.Device d) k.core x.core) (sym is) (by_channel (channel_of k.core d)),
+)
   where
+    same_tasks : (channel : Option Channel) → (without_value_by channel k.core d).tasks ≡ k.core.tasks
+    same_tasks None = refl
+    same_tasks (Some (Switch enabled)) = refl
+    same_tasks (Some (Bytes pending)) = refl
+    same_tasks (Some (Values kind pending)) = refl
+    same_tasks (Some Outward) = refl
+
     only : ChangesOnly (changed.Device d) k.core k.core
     only = less (changed.Device d) k.core k.core (unchanged k.core)
 

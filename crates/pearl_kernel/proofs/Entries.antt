@@ -1,7 +1,7 @@
 -- Whether an offer can be done, and who can act, doesn't change by what touches neither a task's row, its offer nor what the
 -- guards look at.
 use Rattle.std.proofs.Common.{◌≡◌, ◌⊎◌, inl, inr, ℕ, ◌<◌, ◌≤◌, List, Bool, true, false, Option, Some, None, if◌then◌else◌}
-use Rattle.std.proofs.Common.{length, slice_get, refl, sym, ap, ◌∙◌, arith}
+use Rattle.std.proofs.Common.{length, slice_get, refl, sym, ap, ◌∙◌, arith, ne_eqb}
 use Rattle.std.proofs.lemmas.Bool.{cases_lt}
 use Rattle.std.proofs.lemmas.Option.{slice_get_past}
 use Rattle.pearl_rules.specs.declared.action.Action.{Action}
@@ -15,10 +15,11 @@ use Rattle.pearl_rules.specs.Runs.{flattened, kept_at}
 use Rattle.pearl_rules.specs.Scan.{scan}
 use Rattle.pearl_rules.specs.Tables.{items_or_none}
 use Rattle.pearl_kernel.specs.declared.changes.Changed.{Changed}
-use Rattle.pearl_kernel.specs.declared.changes.Changed.TheVariants.{Nothing, Counts}
+use Rattle.pearl_kernel.specs.declared.changes.Changed.TheVariants.{Nothing, Counts, Device}
 use Rattle.pearl_kernel.specs.Kept.{Kept, offered, IsLawful}
 use Rattle.pearl_kernel.specs.Eligible.{possible, number_if, entry, Stand, is_told, able_at, IsStandOf}
-use Rattle.pearl_kernel.specs.Changes.{ChangesOnly, looks_at, renewed_offer, renewed}
+use Rattle.pearl_kernel.specs.Changes.{ChangesOnly, IsUnmoved, KeepsTasks, looks_at, renewed_offer, renewed}
+use Rattle.pearl_kernel.specs.Listening.{awaited}
 use Rattle.pearl_kernel.specs.Requests.{requested, WaitsForOne}
 use Rattle.pearl_kernel.proofs.Requesting.{free-same, requests-named}
 use Rattle.pearl_sema.specs.Waiting.{names}
@@ -80,6 +81,29 @@ possible-unless k new list t far only kept offer =
     by_offer (Some (action.Take d)) e = guard_same Counts k.core new.core (action.Take d) only refl
     by_offer (Some other) e = refl
 
+-- what waits at a device changes, and the offer waits at another one, or at none
+pub possible-unmoved : (k new : Kept) (changed : Changed) (t : ℕ) → IsUnmoved new changed t →
+    ChangesOnly changed k.core new.core → offered new t ≡ offered k t → possible new t ≡ possible k t
+possible-unmoved k new (Device d) t away only offer =
+    by_offer (offered new t) away ∙ ap (λ o. is_possible k.core o) offer
+  where
+    by_offer : (offer : Option Action) → (awaited offer ≡ Some d → ⊥) →
+        is_possible new.core offer ≡ is_possible k.core offer
+    by_offer None away = refl
+    by_offer (Some (action.Get e format kinds)) away =
+        guard_same (Device d) k.core new.core (action.Get e format kinds) only
+        (ne_eqb d e (λ same. away (ap (λ x. Some x) (sym same))))
+    by_offer (Some (action.Take e)) away = guard_same (Device d) k.core new.core (action.Take e) only
+        (ne_eqb d e (λ same. away (ap (λ x. Some x) (sym same))))
+    by_offer (Some (action.Request list)) away = guard_same (Device d) k.core new.core (action.Request list) only refl
+    by_offer (Some other) away = refl
+possible-unmoved k new changed t away only offer = absurd away
+
+pub unmoved-row : (old core : Core) (k : Kept) (changed : Changed) (t : ℕ) → KeepsTasks changed old core →
+    IsUnmoved k changed t → row_of core t ≡ row_of old t
+unmoved-row old core k (Device d) t same away = ap (λ rows. slice_get rows t) same
+unmoved-row old core k changed t same away = absurd away
+
 -- the same row, and whether the offer can be done is the same
 pub entry-same : (k new : Kept) (t : ℕ) → row_of new.core t ≡ row_of k.core t → possible new t ≡ possible k t →
     entry new t ≡ entry k t
@@ -123,7 +147,7 @@ renewed-twice changed k t before = offer_twice changed k.core (offered k t) befo
 
 -- WHAT IS KEPT
 
-none_past : {X : Type 0} (xs : List (Option X)) (t : ℕ) → length xs ≤ t → kept_at xs t ≡ None
+pub none_past : {X : Type 0} (xs : List (Option X)) (t : ℕ) → length xs ≤ t → kept_at xs t ≡ None
 none_past xs t past = ap flattened (slice_get_past xs t past)
 
 -- it tells of each number whether what this task has offered can be done

@@ -1,9 +1,11 @@
 -- How far GETs have come after something changed.
-use Rattle.std.proofs.Common.{◌≡◌, ℕ, zero, suc, ◌<◌, ◌≤◌, ◌+◌, List, [], ◌∷◌, ◌++◌, Bool, true, false, Option, Some, None}
+use Rattle.std.proofs.Common.{◌≡◌, ℕ, ◌<◌, ◌≤◌, List, [], ◌++◌, Bool, true, false, Option, Some, None}
 use Rattle.std.proofs.Common.{length, slice_get, slice_set, replicate, set, refl, sym, ap, subst, ◌∙◌, arith, inl, inr, if◌then◌else◌, length-set, get_or-set_same, get_or-set_other}
 use Rattle.std.proofs.lemmas.Bool.{cases_lt, false≢true}
 use Rattle.std.proofs.lemmas.Option.{slice_get_within, none-some}
 use Rattle.std.proofs.lemmas.List.{append-nil, length-replicate}
+use Rattle.pearl_sema.specs.Waiting.{IsBehind}
+use Rattle.std.specs.Prelude.{IfSome}
 use Rattle.arrayvec.specs.ArrayVec.{ArrayVec}
 use Rattle.pearl_value.specs.declared.cell.Cell.{Cell}
 use Rattle.pearl_value.specs.declared.kind.Kind.{Kind}
@@ -22,10 +24,13 @@ use Rattle.pearl_scan.proofs.Offered.{going_on}
 use Rattle.pearl_kernel.specs.Channels.{HasBytes, HasSwitch, taken_in, without_oldest}
 use Rattle.pearl_kernel.specs.Kept.{Kept}
 use Rattle.pearl_kernel.specs.Gets.{IsAskedGet, IsAskedOf, IsAsked, AreAsked, IsKept, Comes, progress_at}
+use Rattle.pearl_kernel.specs.Listening.{awaited, device_of, IsNextListener, Listens, NoneListens}
 use Rattle.pearl_kernel.specs.Names.{Names, HasKinds}
 use Rattle.pearl_kernel.proofs.Places.{by_task, kept-other, get-same, get-other}
 use Rattle.pearl_kernel.proofs.Changing.{switch_same}
 use Rattle.pearl_kernel.proofs.Waiting.{set_same}
+use Rattle.pearl_kernel.proofs.Entries.{none_past}
+use Rattle.pearl_kernel.proofs.Unsettling.{none_offered}
 
 -- ONE OFFER
 
@@ -59,16 +64,11 @@ asked-of-get formats old device format kinds action offer p is get asked = subst
 
 -- ALL OF THEM
 
-no_offer : (n t : ℕ) → kept_at (replicate {A = Option Action} n None) t ≡ None
-no_offer zero t = refl
-no_offer (suc n) zero = refl
-no_offer (suc n) (suc t) = no_offer n t
-
 pub asked-opening : (offers : List (Option Action)) (formats : List (List Item)) (channels : List Channel) (progress : List Progress) (n : ℕ) →
     offers ≡ replicate n None → length progress ≡ n → AreAsked offers formats channels progress
 asked-opening offers formats channels progress n none size = record {
   size = size ∙ sym (ap length none ∙ length-replicate {A = Option Action} n None);
-  each = λ t. subst (λ o. IsAsked formats channels o (progress_at progress t)) (sym (ap (λ xs. kept_at xs t) none ∙ no_offer n t)) tt;
+  each = λ t. subst (λ o. IsAsked formats channels o (progress_at progress t)) (sym (ap (λ xs. kept_at xs t) none ∙ none_offered n t)) tt;
 }
 
 -- the same bytes wait
@@ -116,48 +116,80 @@ asked-offer offers formats channels old new task action offer is there kept are 
         flat None = None
         flat (Some o) = o
 
--- TASK BY TASK
+-- THOSE THAT WAIT AT A DEVICE
 
--- the first n tasks are asked as things stand now, and of the others it is kept what was before
-pub record IsAskedTo (offers : List (Option Action)) (formats : List (List Item)) (channels : List Channel) (old progress : List Progress) (n : ℕ) : Type 0 where
+-- what comes in at a device where the offer doesn't wait
+elsewhere : (formats : List (List Item)) (old channels : List Channel) (device : ℕ) (anew : Bool) (offer : Option Action)
+    (p : Progress) → Comes anew device old channels → (awaited offer ≡ Some device → ⊥) →
+    IsAsked formats old offer p → IsAsked formats channels offer p
+elsewhere formats old channels device anew None p comes away asked = tt
+elsewhere formats old channels device anew (Some action) p comes away asked = by action away asked
+  where
+    by : (action : Action) → (device_of action ≡ Some device → ⊥) → IsAskedOf formats old action p →
+        IsAskedOf formats channels action p
+    by (Get d format kinds) away asked =
+        same_bytes (items_or_none (slice_get formats format)) kinds.items (bytes_in (slice_get old d))
+        (bytes_in (slice_get channels d)) p (comes.others d (λ e. away (ap (λ x. Some x) e))) asked
+    by action away asked = tt
+
+-- the tasks up to one, and all that don't wait at the device, are asked as things stand now, and of those behind it it is kept
+-- what was before
+pub record IsAskedUpTo (offers : List (Option Action)) (formats : List (List Item)) (channels : List Channel) (device : ℕ)
+    (old progress : List Progress) (after : Option ℕ) : Type 0 where
   pub size : length progress ≡ length old
-  pub done : (t : ℕ) → t < n → IsAsked formats channels (kept_at offers t) (progress_at progress t)
-  pub rest : (t : ℕ) → n ≤ t → progress_at progress t ≡ progress_at old t
+  pub done : (t : ℕ) → (IsBehind after t → Listens offers device t → ⊥) →
+      IsAsked formats channels (kept_at offers t) (progress_at progress t)
+  pub rest : (t : ℕ) → IsBehind after t → progress_at progress t ≡ progress_at old t
 
-pub asked-next : (offers : List (Option Action)) (formats : List (List Item)) (channels : List Channel) (old progress : List Progress) (n : ℕ) (p : Progress) →
-    n < length progress → IsAskedTo offers formats channels old progress n → IsAsked formats channels (kept_at offers n) p →
-    IsAskedTo offers formats channels old (set progress n p) (n + 1)
-asked-next offers formats channels old progress n p there to asked = record {
+pub none-asked : (offers : List (Option Action)) (formats : List (List Item)) (old channels : List Channel) (device : ℕ)
+    (anew : Bool) (progress : List Progress) → Comes anew device old channels → AreAsked offers formats old progress →
+    IsAskedUpTo offers formats channels device progress progress None
+none-asked offers formats old channels device anew progress comes are = record {
+  size = refl;
+  done = λ t away. elsewhere formats old channels device anew (kept_at offers t) (progress_at progress t) comes (away tt)
+      (are.each t);
+  rest = λ t behind. refl;
+}
+
+behind_more : (after : Option ℕ) (n t : ℕ) → IsBehind after n → n < t → IsBehind after t
+behind_more None n t behind less = tt
+behind_more (Some u) n t behind less = omega (arith, behind, less)
+
+pub asked-next : (offers : List (Option Action)) (formats : List (List Item)) (channels : List Channel) (device : ℕ)
+    (old progress : List Progress) (after : Option ℕ) (n : ℕ) (p : Progress) → n < length progress →
+    IsNextListener offers device after n → IsAskedUpTo offers formats channels device old progress after →
+    IsAsked formats channels (kept_at offers n) p →
+    IsAskedUpTo offers formats channels device old (set progress n p) (Some n)
+asked-next offers formats channels device old progress after n p there next to asked = record {
   size = length-set progress n p ∙ to.size;
-  done = λ t within. by_task t n (IsAsked formats channels (kept_at offers t) (progress_at (set progress n p) t))
+  done = λ t away. by_task t n (IsAsked formats channels (kept_at offers t) (progress_at (set progress n p) t))
       (λ e. subst (λ u. IsAsked formats channels (kept_at offers u) (progress_at (set progress n p) u)) (sym e)
       (subst (IsAsked formats channels (kept_at offers n)) (sym (get_or-set_same progress n p Complete there)) asked))
       (λ other. subst (IsAsked formats channels (kept_at offers t)) (sym (get_or-set_other progress n t p Complete other))
-      (to.done t (omega (arith, within, other))));
-  rest = λ t past. get_or-set_other progress n t p Complete (λ e. absurd (omega (arith, past, e))) ∙ to.rest t (omega (arith, past));
+      (to.done t (λ behind listens.
+      let up = next.first t behind listens in away (omega (arith, up, other)) listens)));
+  rest = λ t past. get_or-set_other progress n t p Complete (λ e. absurd (omega (arith, past, e)))
+      ∙ to.rest t (behind_more after n t next.behind past);
 }
 
-pub none-asked : (offers : List (Option Action)) (formats : List (List Item)) (channels : List Channel) (progress : List Progress) →
-    IsAskedTo offers formats channels progress progress 0
-none-asked offers formats channels progress = record { size = refl; done = λ t within. absurd (omega (arith, within)); rest = λ t past. refl }
-
-none_past : (offers : List (Option Action)) (t : ℕ) → length offers ≤ t → kept_at offers t ≡ None
-none_past [] t past = refl
-none_past (o ∷ offers) zero past = absurd (omega (arith, past))
-none_past (o ∷ offers) (suc t) past = none_past offers t (omega (arith, past))
-
-pub asked-all : (offers : List (Option Action)) (formats : List (List Item)) (channels : List Channel) (old progress : List Progress) (n : ℕ) → length offers ≤ n →
-    length old ≡ length offers → IsAskedTo offers formats channels old progress n → AreAsked offers formats channels progress
-asked-all offers formats channels old progress n all same to = record {
+pub asked-all : (offers : List (Option Action)) (formats : List (List Item)) (channels : List Channel) (device : ℕ)
+    (old progress : List Progress) (after : Option ℕ) → length old ≡ length offers → NoneListens offers device after →
+    IsAskedUpTo offers formats channels device old progress after → AreAsked offers formats channels progress
+asked-all offers formats channels device old progress after same none to = record {
   size = to.size ∙ same;
-  each = λ t. by_task_or t;
+  each = λ t. to.done t (none t);
 }
-  where
-    by_task_or : (t : ℕ) → IsAsked formats channels (kept_at offers t) (progress_at progress t)
-    by_task_or t = elim (cases_lt t n) [
-      | inl within ↦ to.done t within
-      | inr past ↦ subst (λ o. IsAsked formats channels o (progress_at progress t)) (sym (none_past offers t (omega (arith, all, past)))) tt
-    ]
+
+-- each of those up to a task is before the next one
+pub known-before : (known after : Option ℕ) (t : ℕ) → IfSome known (λ u. (n : ℕ) → IsBehind after n → u < n) →
+    IsBehind after t → IfSome known (λ u. u < t)
+known-before None after t before behind = tt
+known-before (Some u) after t before behind = before t behind
+
+pub known-next : (known : Option ℕ) (task : ℕ) → IfSome known (λ u. u ≤ task) →
+    IfSome known (λ u. (n : ℕ) → IsBehind (Some task) n → u < n)
+known-next None task upto = tt
+known-next (Some u) task upto = λ n behind. omega (arith, upto, behind)
 
 pub offered-there : (offers : List (Option Action)) (t : ℕ) (action : Action) → kept_at offers t ≡ Some action → t < length offers
 offered-there offers t action offered = elim (cases_lt t (length offers)) [
@@ -238,6 +270,11 @@ pub added-at : (k : Kept) (device : ℕ) (text : List ℕ) (room : Bool) (new : 
     record k { core = record k.core { channels = new } } ≡ (if room then record k { core = with_channel k.core device (Bytes (bytes_at k.core device ++ text)) } else k)
 added-at k device text true new is = ap (λ channels. record k { core = record k.core { channels = channels } }) is
 added-at k device text false new is = ap (λ channels. record k { core = record k.core { channels = channels } }) is
+
+pub added-length : (channels new : List Channel) (u : ℕ) (channel : Channel) (room : Bool) →
+    new ≡ (if room then slice_set channels u channel else channels) → length new ≡ length channels
+added-length channels new u channel true is = ap length is ∙ length-set channels u channel
+added-length channels new u channel false is = ap length is
 
 -- TERMINALS
 

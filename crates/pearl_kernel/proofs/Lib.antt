@@ -20,6 +20,7 @@ mod Picking
 mod Acting
 mod Offering
 mod Unsettling
+mod Listeners
 mod Getting
 mod SameReads
 mod AtStart

@@ -15,6 +15,7 @@ use Rattle.pearl_rules.specs.Devices.{input_room}
 use Rattle.pearl_value.specs.declared.cell.Cell.{Cell}
 use Rattle.pearl_value.specs.declared.kind.Kind.{Kind}
 use Rattle.pearl_value.specs.declared.device.Device.{Device}
+use Rattle.pearl_value.specs.declared.device.Device.TheVariants.{Interrupt, Terminal, Input, Output}
 use Rattle.pearl_rules.specs.Core.{Channel}
 use Rattle.pearl_records.specs.States.{count_of_sort, input_kinds, WaitsTyped, WaitsOf}
 use Rattle.pearl_records.specs.Records.{channels_made}
@@ -31,6 +32,19 @@ pub record Left (devices : List Device) (whole : List Channel) (i : ℕ) (channe
     (terminals : List (List ℕ)) (inputs : List (List Cell)) : Type 0 where
   pub is : channels ++ channels_made (drop i devices) switches terminals inputs ≡ whole
   pub suits : Suits (drop i devices) switches terminals inputs
+
+-- each device has its channel
+pub made-length : (devices : List Device) (switches : List Bool) (terminals : List (List ℕ)) (inputs : List (List Cell)) →
+    length (channels_made devices switches terminals inputs) ≡ length devices
+made-length [] switches terminals inputs = refl
+made-length (Interrupt number ∷ devices) switches terminals inputs =
+    ap suc (made-length devices (drop 1 switches) terminals inputs)
+made-length (Terminal number direction ∷ devices) switches terminals inputs =
+    ap suc (made-length devices switches (drop 1 terminals) inputs)
+made-length (Input number kind ∷ devices) switches terminals inputs =
+    ap suc (made-length devices switches terminals (drop 1 inputs))
+made-length (Output number kind ∷ devices) switches terminals inputs =
+    ap suc (made-length devices switches terminals inputs)
 
 -- ---- the values of an input
 

@@ -3,13 +3,13 @@ use Rattle.std.proofs.Common.{◌≡◌, ◌≢◌, ℕ, suc, ◌<◌, ◌≤◌
 use Rattle.std.proofs.Common.{length, slice_get, slice_index, refl, sym, ap, subst, ◌∙◌, length-set, arith}
 use Rattle.pearl_kernel.specs.declared.changes.Changed.{Changed}
 use Rattle.pearl_kernel.specs.declared.changes.Changed.TheVariants.{Nothing, Counts}
-use Rattle.pearl_sema.specs.Waiting.{Waits, IsBehind, IsNext}
+use Rattle.pearl_sema.specs.Waiting.{Waits, IsBehind}
 use Rattle.pearl_sema.proofs.Offered.{place_of_named}
 use Rattle.pearl_kernel.specs.Kept.{Kept}
 use Rattle.pearl_kernel.specs.Eligible.{entry_if, Stand, is_told, able_at, noted, IsSameAt}
 use Rattle.pearl_kernel.specs.Changes.{renewed, IsRenewedAt, Renews, AreRenewedBut}
 use Rattle.pearl_kernel.specs.Requests.{requests, WaitsForOne}
-use Rattle.pearl_kernel.specs.Touched.{Own, Other, Waiters, IsRenewed}
+use Rattle.pearl_kernel.specs.Touched.{Reach, Own, Other, IsUntouched, changed_by, IsRenewed}
 use Rattle.pearl_kernel.proofs.Places.{by_task, get-same, get-other}
 use Rattle.pearl_kernel.proofs.Entries.{renewed-twice}
 
@@ -77,7 +77,7 @@ pub renewed-both : (k : Kept) (changed : Changed) (First Next : ℕ → Type 0) 
 renewed-both k changed First Next first s new before after = record {
   size = after.size ∙ before.size;
   set_size = after.set_size ∙ before.set_size;
-  each = λ t. by_each t (before.each t) (after.each t);
+  each = λ t there. by_each t (before.each t there) (after.each t there);
 }
   where
     by_each : (t : ℕ) → IsRenewedAt k changed first s t ⊎ (First t × IsSameAt first s t) →
@@ -99,7 +99,7 @@ pub renewed-but : (k : Kept) (changed : Changed) (u : ℕ) (s new : Stand) → R
 renewed-but k changed u s new renews = record {
   size = renews.size;
   set_size = renews.set_size;
-  each = λ t. by_task t u _
+  each = λ t there. by_task t u _
       (λ same. inl (subst (λ v. IsRenewedAt k changed s new v) (sym same) renews.here))
       (λ other. inr (other, renews.others t other));
 }
@@ -109,7 +109,7 @@ pub renewed-less : (k : Kept) (changed : Changed) (MayBeLeft Less : ℕ → Type
 renewed-less k changed MayBeLeft Less s new less are = record {
   size = are.size;
   set_size = are.set_size;
-  each = λ t. by_each t (are.each t);
+  each = λ t there. by_each t (are.each t there);
 }
   where
     by_each : (t : ℕ) → IsRenewedAt k changed s new t ⊎ (MayBeLeft t × IsSameAt s new t) →
@@ -122,14 +122,14 @@ pub none-renewed : (k : Kept) (changed : Changed) (MayBeLeft : ℕ → Type 0) (
 none-renewed k changed MayBeLeft s all = record {
   size = refl;
   set_size = refl;
-  each = λ t. inr (all t, record { able = refl; set = refl });
+  each = λ t there. inr (all t, record { able = refl; set = refl });
 }
 
 -- WAITERS
 
--- those who wait and don't come behind this task are renewed
-abbrev pub IsBehindIfWaiting : Kept → ℕ → Option ℕ → ℕ → Type 0
-IsBehindIfWaiting k semaphore after t = Waits (requests k.offers) semaphore t → IsBehind after t
+-- a task that waits comes behind this one
+abbrev pub IsBehindIf : (Waiting : ℕ → Type 0) → Option ℕ → ℕ → Type 0
+IsBehindIf Waiting after t = Waiting t → IsBehind after t
 
 -- how many tasks come behind
 abbrev pub left_behind : ℕ → Option ℕ → ℕ
@@ -142,14 +142,15 @@ fewer-left tasks None t behind there = omega arith
 fewer-left tasks (Some u) t behind there = omega arith
 
 -- one more of those who wait is renewed
-pub waiter-renewed : (k : Kept) (semaphore : ℕ) (after : Option ℕ) (t : ℕ) (first s new : Stand) →
-    IsNext (requests k.offers) semaphore after t → AreRenewedBut k Counts (IsBehindIfWaiting k semaphore after) first s →
-    Renews k Counts t s new → AreRenewedBut k Counts (IsBehindIfWaiting k semaphore (Some t)) first new
-waiter-renewed k semaphore after t first s new next before renews =
-    renewed-less k Counts _ (IsBehindIfWaiting k semaphore (Some t)) first new
-    (λ u left waits. let up = next.first u (left.0 waits) waits in let other = left.1 in omega (arith, up, other))
-    (renewed-both k Counts (IsBehindIfWaiting k semaphore after) (λ u. u ≢ t) first s new before
-    (renewed-but k Counts t s new renews))
+pub waiter-renewed : (k : Kept) (changed : Changed) (Waiting : ℕ → Type 0) (after : Option ℕ) (t : ℕ)
+    (first s new : Stand) → ((u : ℕ) → IsBehind after u → Waiting u → t ≤ u) →
+    AreRenewedBut k changed (IsBehindIf Waiting after) first s → Renews k changed t s new →
+    AreRenewedBut k changed (IsBehindIf Waiting (Some t)) first new
+waiter-renewed k changed Waiting after t first s new next before renews =
+    renewed-less k changed _ (IsBehindIf Waiting (Some t)) first new
+    (λ u left waits. let up = next u (left.0 waits) waits in let other = left.1 in omega (arith, up, other))
+    (renewed-both k changed (IsBehindIf Waiting after) (λ u. u ≢ t) first s new before
+    (renewed-but k changed t s new renews))
 
 -- those who wait for one of the first n semaphores of a list are renewed
 abbrev pub WaitsForNone : Kept → List ℕ → ℕ → ℕ → Type 0
@@ -197,6 +198,14 @@ renewed-next k changed first s new u renews before = record {
       ∙ before.rest t (omega (arith, after));
 }
 
+pub renewed-all : (k : Kept) (changed : Changed) (first s : Stand) (n : ℕ) → length k.core.tasks ≤ n →
+    IsRenewedTo k changed first s n → AreRenewedBut k changed (λ t. ⊥) first s
+renewed-all k changed first s n all to = record {
+  size = to.size;
+  set_size = to.set_size;
+  each = λ t there. inl (to.done t (omega (arith, there, all)));
+}
+
 -- AFTER AN ACTION
 
 pub touched-own : (k : Kept) (own : ℕ) (s new : Stand) → Renews k Nothing own s new → IsRenewed k own Own s new
@@ -232,22 +241,24 @@ touched-other k own u s mid new first last = record {
     both : {t : ℕ} → IsSameAt mid new t → IsSameAt s mid t → IsSameAt s new t
     both a b = record { able = a.able ∙ b.able; set = a.set ∙ b.set }
 
-pub touched-waiters : (k : Kept) (own : ℕ) (list : List ℕ) (s mid new : Stand) →
-    AreRenewedBut k Counts (λ t. WaitsForOne k.offers list t → ⊥) s mid → Renews k Counts own mid new →
-    IsRenewed k own (Waiters list) s new
-touched-waiters k own list s mid new each last = record {
+-- all that are touched are renewed, and then its own task
+pub touched-many : (k : Kept) (own : ℕ) (touched : Reach) (s mid new : Stand) →
+    AreRenewedBut k (changed_by touched) (λ t. IsUntouched k touched t) s mid →
+    Renews k (changed_by touched) own mid new → IsRenewed k own touched s new
+touched-many k own touched s mid new each last = record {
   size = are.size;
   set_size = are.set_size;
-  each = λ t within. by_each t (are.each t);
+  each = λ t within. by_each t (are.each t within);
 }
   where
-    None_waits : ℕ → Type 0
-    None_waits t = WaitsForOne k.offers list t → ⊥
+    changed : Changed
+    changed = changed_by touched
 
-    are : AreRenewedBut k Counts (λ t. None_waits t × (t ≢ own)) s new
-    are = renewed-both k Counts None_waits (λ t. t ≢ own) s mid new each (renewed-but k Counts own mid new last)
+    are : AreRenewedBut k changed (λ t. IsUntouched k touched t × (t ≢ own)) s new
+    are = renewed-both k changed (λ t. IsUntouched k touched t) (λ t. t ≢ own) s mid new each
+        (renewed-but k changed own mid new last)
 
-    by_each : (t : ℕ) → IsRenewedAt k Counts s new t ⊎ ((None_waits t × (t ≢ own)) × IsSameAt s new t) →
-        IsRenewedAt k Counts s new t ⊎ ((t ≢ own) × None_waits t × IsSameAt s new t)
+    by_each : (t : ℕ) → IsRenewedAt k changed s new t ⊎ ((IsUntouched k touched t × (t ≢ own)) × IsSameAt s new t) →
+        IsRenewedAt k changed s new t ⊎ ((t ≢ own) × IsUntouched k touched t × IsSameAt s new t)
     by_each t (inl is) = inl is
     by_each t (inr left) = inr (left.0.1, left.0.0, left.1)

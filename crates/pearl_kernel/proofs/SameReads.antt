@@ -1,8 +1,7 @@
 -- GETs that wait for the same.
-use Rattle.std.proofs.Common.{◌≡◌, ℕ, suc, ◌+◌, ◌<◌, ◌≤◌, List, [], ◌∷◌, Option, Some, None}
+use Rattle.std.proofs.Common.{◌≡◌, ℕ, suc, ◌+◌, ◌<◌, List, [], ◌∷◌}
 use Rattle.std.proofs.Common.{length, slice_get, refl, sym, ap₂, subst, arith}
 use Rattle.std.proofs.lemmas.Option.{same_Some}
-use Rattle.std.specs.Prelude.{IfSome}
 use Rattle.pearl_kernel.proofs.Places.{by_task}
 
 -- the first n of two lists of the same length are the same
@@ -29,7 +28,3 @@ all-compared [] (y ∷ ys) size each = absurd (omega (arith, size))
 all-compared (x ∷ xs) [] size each = absurd (omega (arith, size))
 all-compared (x ∷ xs) (y ∷ ys) size each = ap₂ (λ z zs. z ∷ zs) (same_Some x y (each 0 (omega arith)))
     (all-compared xs ys (omega (arith, size)) (λ k within. each (suc k) (omega (arith, within))))
-
-pub one-more : (known : Option ℕ) (task : ℕ) → IfSome known (λ u. u ≤ task) → IfSome known (λ u. u < task + 1)
-one-more None task upto = tt
-one-more (Some u) task upto = omega (arith, upto)

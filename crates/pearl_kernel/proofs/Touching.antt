@@ -18,11 +18,11 @@ use Rattle.pearl_kernel.specs.declared.changes.Changed.TheVariants.{Nothing}
 use Rattle.pearl_kernel.specs.Kept.{Kept, after}
 use Rattle.pearl_kernel.specs.Channels.{HasSwitch}
 use Rattle.pearl_kernel.specs.Changes.{ChangesOnly, Stirs}
-use Rattle.pearl_kernel.specs.Touched.{Reach, Own, Other, Waiters, All, reach_of, KeepsOthers, IsThere, touched_if, Leaves}
+use Rattle.pearl_kernel.specs.Touched.{Reach, Own, Other, Waiters, After, reach_of, KeepsOthers, IsThere, touched_if, Leaves}
 use Rattle.pearl_sema.specs.Waiting.{AreThere, names}
 use Rattle.pearl_kernel.proofs.Places.{get-other, kept-other}
 use Rattle.pearl_kernel.proofs.OneTask as one
-use Rattle.pearl_kernel.proofs.Entries.{unchanged}
+use Rattle.pearl_kernel.proofs.Entries.{unchanged, unmoved-row}
 use Rattle.pearl_kernel.proofs.Requesting.{lowered-others, raised-others}
 use Rattle.pearl_kernel.proofs.Changing.{same_but, closed, switch-changes}
 
@@ -37,9 +37,9 @@ leaves-stirred own k new list None offers stirs = record {
   there = tt;
 }
 leaves-stirred own k new list (Some changed) offers stirs = record {
-  only = stirs;
+  only = stirs.1;
   kept = tt;
-  others = λ t other far. absurd far;
+  others = λ t other far. (unmoved-row k.core new.core new changed t stirs.0 far, ap (λ xs. kept_at xs t) offers);
   there = tt;
 }
 
@@ -196,10 +196,14 @@ leaves-broken_off own k mid new list None e offers stirs is = subst (λ (x : Kep
   there = tt;
 })
 leaves-broken_off own k mid new list (Some changed) e offers stirs is =
-    subst (λ (x : Kept). Leaves own k x (All changed)) (sym is) (record {
-      only = ended_only changed k.core mid.core own e stirs;
+    subst (λ (x : Kept). Leaves own k x (After changed)) (sym is) (record {
+      only = ended_only changed k.core mid.core own e stirs.1;
       kept = tt;
-      others = λ t other far. absurd far;
+      others = λ t other far.
+          let left = ended_others mid own t e other in (
+            left.0 ∙ unmoved-row k.core mid.core (after mid (ending mid.core own e)) changed t stirs.0 far,
+            left.1 ∙ ap (λ xs. kept_at xs t) offers,
+          );
       there = tt;
     })
 
@@ -228,10 +232,10 @@ leaves-last own k mid new last touched is leaves =
     kept_last Own kept = tt
     kept_last (Other task) kept = tt
     kept_last (Waiters list) kept = kept
-    kept_last (All changed) kept = tt
+    kept_last (After changed) kept = tt
 
     there_last : (touched : Reach) → IsThere (record k.core { last = last }) touched → IsThere k.core touched
     there_last Own there = tt
     there_last (Other task) there = there
     there_last (Waiters list) there = tt
-    there_last (All changed) there = tt
+    there_last (After changed) there = tt

@@ -67,7 +67,7 @@ all-first rows words are = record {
     by_place t (inl within) = are.below t within
     by_place t (inr past) = are.above t past ∙ ap (λ row. bit_if (is_active_row row)) (sym (slice_get_past rows t past))
 
-none_offered : (n t : ℕ) → kept_at (replicate {A = Option Action} n None) t ≡ None
+pub none_offered : (n t : ℕ) → kept_at (replicate {A = Option Action} n None) t ≡ None
 none_offered zero t = refl
 none_offered (suc n) zero = refl
 none_offered (suc n) (suc t) = none_offered n t

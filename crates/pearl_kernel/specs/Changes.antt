@@ -10,6 +10,7 @@ use Rattle.pearl_kernel.specs.declared.changes.Changed.{Changed}
 use Rattle.pearl_kernel.specs.declared.changes.Changed.TheVariants.{Nothing, Counts, Device}
 use Rattle.pearl_kernel.specs.Kept.{Kept, offered}
 use Rattle.pearl_kernel.specs.Eligible.{Stand, able_at, entry_if, IsSameAt}
+use Rattle.pearl_kernel.specs.Listening.{Listens}
 
 abbrev pub is_counts : Changed → Bool
 is_counts Counts = true
@@ -26,10 +27,15 @@ pub record ChangesOnly (changed : Changed) (old core : Core) : Type 0 where
   pub values : (d : ℕ) → is_device changed d ≡ false → values_at core d ≡ values_at old d
   pub formats : core.formats ≡ old.formats
 
+-- where what waits at a device changed, the tasks are as they were
+abbrev pub KeepsTasks : Changed → Core → Core → Type 0
+KeepsTasks (Device device) old new = new.tasks ≡ old.tasks
+KeepsTasks other old new = Unit {0}
+
 -- None: the tasks and all that their offers wait for are as they were. Else at most this changed of what they wait for.
 abbrev pub Stirs : Core → Core → Option Changed → Type 0
 Stirs old new None = (new.tasks ≡ old.tasks) × ChangesOnly Nothing old new
-Stirs old new (Some changed) = ChangesOnly changed old new
+Stirs old new (Some changed) = KeepsTasks changed old new × ChangesOnly changed old new
 
 -- whether an action waits for what changed
 abbrev pub looks_at : Changed → Action → Bool
@@ -62,15 +68,14 @@ pub record Renews (k : Kept) (changed : Changed) (u : ℕ) (old new : Stand) : T
 pub record AreRenewedBut (k : Kept) (changed : Changed) (MayBeLeft : ℕ → Type 0) (old new : Stand) : Type 0 where
   pub size : length new.able ≡ length old.able
   pub set_size : length new.set ≡ length old.set
-  pub each : (t : ℕ) → IsRenewedAt k changed old new t ⊎ (MayBeLeft t × IsSameAt old new t)
+  pub each : (t : ℕ) → t < length k.core.tasks → IsRenewedAt k changed old new t ⊎ (MayBeLeft t × IsSameAt old new t)
 
--- what is kept of each task is renewed
-pub record AreRenewed (k : Kept) (changed : Changed) (old new : Stand) : Type 0 where
-  pub size : length new.able ≡ length old.able
-  pub set_size : length new.set ≡ length old.set
-  pub each : (t : ℕ) → t < length k.core.tasks → IsRenewedAt k changed old new t
+-- where what waits at a device changed, a task may be left whose offer doesn't wait there; else none may
+abbrev pub IsUnmoved : Kept → Changed → ℕ → Type 0
+IsUnmoved k (Device device) t = Listens k.offers device t → ⊥
+IsUnmoved k other t = ⊥
 
--- likewise where something changed; else all that is kept is as before
+-- what is kept of all others is renewed where something changed; else all that is kept is as before
 abbrev pub AreRenewedIf : Kept → Option Changed → Stand → Stand → Type 0
 AreRenewedIf k None old new = new ≡ old
-AreRenewedIf k (Some changed) old new = AreRenewed k changed old new
+AreRenewedIf k (Some changed) old new = AreRenewedBut k changed (IsUnmoved k changed) old new

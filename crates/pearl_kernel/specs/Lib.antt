@@ -22,3 +22,5 @@ pub mod Touched
 pub mod Unsettled
 -- how far the GET that each task offers has come
 pub mod Gets
+-- at which device each task's offer waits
+pub mod Listening

@@ -8,16 +8,16 @@ use Rattle.pearl_kernel.specs.declared.changes.Changed.TheVariants.{Nothing, Cou
 use Rattle.pearl_kernel.specs.declared.changes.Touched.{Touched}
 use Rattle.pearl_kernel.specs.declared.changes.Touched.TheVariants as touched
 use Rattle.pearl_kernel.specs.Kept.{Kept, offered}
-use Rattle.pearl_kernel.specs.Changes.{ChangesOnly, IsRenewedAt}
+use Rattle.pearl_kernel.specs.Changes.{ChangesOnly, IsRenewedAt, IsUnmoved}
 use Rattle.pearl_kernel.specs.Eligible.{Stand, IsSameAt}
 use Rattle.pearl_kernel.specs.Requests.{WaitsForOne}
 
--- the tasks that an action touches: none, one, those that wait for one of these semaphores, or all
+-- the tasks that an action touches: none, one, those that wait for one of these semaphores, or those that a change touches
 pub data Reach : Type 0 where
   Own : Reach
   Other : (task : ℕ) → Reach
   Waiters : (list : List ℕ) → Reach
-  All : (changed : Changed) → Reach
+  After : (changed : Changed) → Reach
 
 -- those that are told, where the action names these semaphores
 abbrev pub reach_of : (list : List ℕ) → Touched → Reach
@@ -25,21 +25,21 @@ reach_of list touched.Own = Own
 reach_of list (touched.Other task) = Other task
 reach_of list (touched.One semaphore) = Waiters (semaphore ∷ [])
 reach_of list touched.Named = Waiters list
-reach_of list (touched.All changed) = All changed
+reach_of list (touched.After changed) = After changed
 
 -- the task isn't one of those that are touched, where these offers stand
 abbrev pub IsUntouched : Kept → Reach → ℕ → Type 0
 IsUntouched k Own t = Unit {0}
 IsUntouched k (Other task) t = t ≢ task
 IsUntouched k (Waiters list) t = WaitsForOne k.offers list t → ⊥
-IsUntouched k (All changed) t = ⊥
+IsUntouched k (After changed) t = IsUnmoved k changed t
 
 -- what may have changed of all that offers wait for
 abbrev pub changed_by : Reach → Changed
 changed_by Own = Nothing
 changed_by (Other task) = Nothing
 changed_by (Waiters list) = Counts
-changed_by (All changed) = changed
+changed_by (After changed) = changed
 
 -- where those are touched that wait for one of some semaphores, all other counts are as they were
 abbrev pub KeepsOthers : Reach → Core → Core → Type 0
@@ -47,17 +47,17 @@ KeepsOthers (Waiters list) old new =
     (semaphore : ℕ) → names list semaphore ≡ false → count_at new.counts semaphore ≡ count_at old.counts semaphore
 KeepsOthers other old new = Unit {0}
 
--- none but its own where neither other rows nor what offers wait for changed; else all, and at most this changed
+-- none but its own where neither other rows nor what offers wait for changed; else those that this change touches
 abbrev pub touched_if : Option Changed → Touched
 touched_if None = touched.Own
-touched_if (Some changed) = touched.All changed
+touched_if (Some changed) = touched.After changed
 
 -- the task that is touched is there
 abbrev pub IsThere : Core → Reach → Type 0
 IsThere core Own = Unit {0}
 IsThere core (Other task) = task < length core.tasks
 IsThere core (Waiters list) = Unit {0}
-IsThere core (All changed) = Unit {0}
+IsThere core (After changed) = Unit {0}
 
 -- An action of the task `own` changed no more than this of all that offers wait for, and another task that it doesn't
 -- touch stands as before.

@@ -26,18 +26,19 @@ pub enum Touched {
     // Those whose requests name one of the semaphores that the action names. Of what offers wait for no more than the
     // counts of these changed.
     Named,
-    // All tasks, and at most this changed of what their offers wait for.
-    All(Changed),
+    // Those whose offers wait at a device, where what waits there changed; else all tasks. Of what offers wait for at most
+    // this changed.
+    After(Changed),
 }
 
 /// The tasks that an action touches besides its own: none where neither their rows nor what offers wait for changed, and
-/// else all, where at most this changed of what offers wait for.
+/// else those that this change touches.
 pub fn touched_if(changed: Option<Changed>) -> Touched
     ensures { result ≡ touched_if changed }
 {
     match changed {
         None => Touched::Own,
-        Some(changed) => Touched::All(changed),
+        Some(changed) => Touched::After(changed),
     }
 }
 

@@ -14,12 +14,14 @@ ghost use Rattle.pearl_rules.specs.Runs.{kept_at};
 ghost use Rattle.pearl_scan.specs.Progress.{CanGoOn, line_ends};
 ghost use Rattle.pearl_scan.specs.declared.progress.Progress as Going;
 ghost use Rattle.pearl_kernel.specs.Channels.{HasBytes};
+ghost use Rattle.pearl_kernel.specs.Listening.{AreListening};
 ghost use Rattle.pearl_kernel.specs.Gets.{AreAsked, Comes, IsAsked, IsAskedOf, IsKept, gets_at, is_get, progress_at};
 ghost use Rattle.pearl_kernel.specs.Names.{HasKinds};
 
 use crate::alike::{are_same_items, are_same_kinds};
 use crate::bid::Bid;
 use crate::channel::Channel;
+use crate::listening::next_at;
 use pearl_exchange::offer::{Offer, What};
 use pearl_format::item::Item;
 use pearl_scan::progress::{Progress, line_ends};
@@ -87,26 +89,30 @@ pub fn ask_first(
     }
 }
 
-/// The GETs at a terminal go on over what waits there, or begin anew.
+/// The GETs at a terminal go on over what waits there, or begin anew. It looks at no task that waits elsewhere.
 pub fn ask_each(
     progress: &mut Vec<Progress>,
     offers: &[Bid],
+    listening: &[u64],
     formats: &[Listing<Item>],
     channels: &[Channel],
     device: u32,
     anew: bool,
 )
-    requires { (old : List Standing) × AreAsked offers.now formats.now old progress.old.items × Comes anew device old channels.now }
+    requires asked { (old : List Standing) × AreAsked offers.now formats.now old progress.old.items × Comes anew device old channels.now }
+    requires listening { AreListening (length channels.now) offers.now listening.now }
     ensures { AreAsked offers.now formats.now channels.now progress.new.items }
 {
     let lines = known_ends(channels, device, anew);
     let mut known = None;
-    for task in 0..offers.len() {
+    let mut after = None;
+    while let Some(task) = next_at(listening, device, after) {
         let bid = &offers[task];
         let twin = twin(progress.as_slice(), offers, formats, task, known, anew);
         let from = progress[task];
         progress[task] = asked(from, twin, bid, formats, channels, device, lines, anew);
         known = last_get(bid, device, task, known);
+        after = Some(task);
     }
 }
 

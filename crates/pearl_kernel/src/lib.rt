@@ -18,6 +18,7 @@ mod gets;
 mod happened;
 mod inputs;
 mod kernel;
+mod listening;
 mod mirror;
 mod opening;
 mod perform;

@@ -457,7 +457,7 @@ impl State {
             None => unreachable!(),
             Some(value) => {
                 beside.one = value;
-                hears(own, Touched::All(Changed::Device(device)))
+                hears(own, Touched::After(Changed::Device(device)))
             }
         }
     }

@@ -7,8 +7,9 @@ ghost use Rattle.pearl_ready.specs.Best.{best_of, IsEmpty, IsBest};
 ghost use Rattle.pearl_kernel.specs.Names.{NamesAll};
 ghost use Rattle.pearl_kernel.specs.Eligible.{possible, able_at, noted};
 ghost use Rattle.pearl_kernel.specs.Whole.{IsOfTasks};
-ghost use Rattle.pearl_kernel.specs.declared.changes.Changed.TheVariants.{Counts};
-ghost use Rattle.pearl_kernel.specs.Changes.{Renews, AreRenewed, AreRenewedBut, AreRenewedIf};
+ghost use Rattle.pearl_kernel.specs.declared.changes.Changed.TheVariants.{Counts, Device};
+ghost use Rattle.pearl_kernel.specs.Changes.{Renews, AreRenewedBut, AreRenewedIf, IsUnmoved};
+ghost use Rattle.pearl_kernel.specs.Listening.{Listens};
 ghost use Rattle.pearl_kernel.specs.Requests.{requests, WaitsForOne};
 ghost use Rattle.pearl_kernel.specs.Touched.{reach_of, IsThere, IsRenewed};
 
@@ -103,10 +104,10 @@ impl Standing {
         self.note(state, task, able);
     }
 
-    /// Each task stands as it does now, where at most this changed of what offers wait for.
-    pub fn renew_all(&mut self, state: &State, changed: Changed)
+    // Each task stands as it does now, where at most this changed of what offers wait for.
+    fn renew_all(&mut self, state: &State, changed: Changed)
         requires { IsOfTasks state.now self.old }
-        ensures { AreRenewed state.now changed self.old self.new }
+        ensures { AreRenewedBut state.now changed (λ t. ⊥) self.old self.new }
     {
         let count = state.tasks() as u32;
         for task in 0..count {
@@ -136,6 +137,29 @@ impl Standing {
         }
     }
 
+    // Each task whose offer waits at this device stands as it does now.
+    fn renew_at(&mut self, state: &State, device: u32)
+        requires { IsOfTasks state.now self.old }
+        ensures { AreRenewedBut state.now (Device device) (λ t. Listens state.now.offers device t → ⊥) self.old self.new }
+    {
+        let mut after = None;
+        while let Some(task) = state.listener(device, after) {
+            self.renew_one(state, task as u32, Changed::Device(device));
+            after = Some(task);
+        }
+    }
+
+    // Each task that this change may touch stands as it does now.
+    fn renew_after(&mut self, state: &State, changed: Changed)
+        requires { IsOfTasks state.now self.old }
+        ensures { AreRenewedBut state.now changed (IsUnmoved state.now changed) self.old self.new }
+    {
+        match changed {
+            Changed::Device(device) => self.renew_at(state, device),
+            _ => self.renew_all(state, changed),
+        }
+    }
+
     /// The same where something may have changed that matters to a task.
     pub fn renew_if(&mut self, state: &State, changed: Option<Changed>)
         requires { IsOfTasks state.now self.old }
@@ -143,7 +167,7 @@ impl Standing {
     {
         match changed {
             None => {}
-            Some(changed) => self.renew_all(state, changed),
+            Some(changed) => self.renew_after(state, changed),
         }
     }
 
@@ -168,7 +192,10 @@ impl Standing {
                 self.renew_each(state, list);
                 self.renew_one(state, own, Changed::Counts);
             }
-            Touched::All(changed) => self.renew_all(state, changed),
+            Touched::After(changed) => {
+                self.renew_after(state, changed);
+                self.renew_one(state, own, changed);
+            }
         }
     }
 }

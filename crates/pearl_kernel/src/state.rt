@@ -30,6 +30,7 @@ ghost use Rattle.pearl_kernel.specs.Kept.{is_silent as is_silent_in, AllSettled,
 ghost use Rattle.pearl_kernel.specs.Names.{Names};
 ghost use Rattle.pearl_kernel.specs.Timing.{timetable};
 ghost use Rattle.pearl_kernel.specs.Requests.{requests};
+ghost use Rattle.pearl_kernel.specs.Listening.{IsNextListener, NoneListens};
 ghost use Rattle.pearl_kernel.specs.Eligible.{entry_if};
 ghost use Rattle.pearl_kernel.specs.Changes.{renewed, renewed_offer};
 
@@ -38,6 +39,7 @@ use crate::changes::{Changed, looks_at};
 use crate::channel::Channel;
 use crate::gets::{add_at, ask_each, ask_first, bytes_of, drop_at, items_of};
 use crate::happened::Told;
+use crate::listening::{awaited, device_of, leave, listen, next_at};
 use crate::mirror::{keep_request, keep_row};
 use crate::opening::{
     copied_formats, copied_values, first_channels, first_rows, no_offers, no_progress, tell_starts,
@@ -48,7 +50,7 @@ use crate::recorded::{
 };
 use crate::unsettled::{first_bits, is_awake, put};
 use arrayvec::ArrayVec;
-use pearl_bits::words::{first, lower};
+use pearl_bits::words::{clear, first, lower};
 use pearl_cells::put::put_copy;
 use pearl_exchange::offer::{Offer, What};
 use pearl_format::item::Item;
@@ -83,6 +85,8 @@ pub struct State {
     formats: Vec<Listing<Item>>,
     // Of each task that offers a GET how far that has come in the bytes that wait.
     progress: Vec<Progress>,
+    // Four words of bits for each device, in which a task's bit is set where its offer waits there.
+    listening: Vec<u64>,
     last: Option<usize>,
     moment: u64,
     clock: u32,
@@ -90,12 +94,13 @@ pub struct State {
 }
 
 impl Model for State {
-    ghost use Rattle.std.specs.Prelude.{◌≡◌};
+    ghost use Rattle.std.specs.Prelude.{◌≡◌, length};
     ghost use Rattle.pearl_kernel.specs.Kept.{Kept, stamped};
     ghost use Rattle.pearl_kernel.specs.Timing.{timetable};
     ghost use Rattle.pearl_kernel.specs.Requests.{requests};
     ghost use Rattle.pearl_kernel.specs.Unsettled.{AreUnsettled};
     ghost use Rattle.pearl_kernel.specs.Gets.{AreAsked};
+    ghost use Rattle.pearl_kernel.specs.Listening.{AreListening};
 
     ghost Value = { Kept };
 
@@ -116,7 +121,8 @@ impl Model for State {
 
     ghost invariant = { λ s. (s.timer ≡ timetable s.rows.items) × (s.semas.waiting ≡ requests s.offers.items)
         × AreUnsettled s.rows.items s.offers.items s.unsettled.items
-        × AreAsked s.offers.items s.formats.items s.channels.items s.progress.items };
+        × AreAsked s.offers.items s.formats.items s.channels.items s.progress.items
+        × AreListening (length s.channels.items) s.offers.items s.listening.items };
 }
 
 impl State {
@@ -124,6 +130,7 @@ impl State {
     pub fn new(alloc: Global, setup: &Setup) -> Result<State, AllocError>
         requires tasks { length setup.now.tasks ≤ 200 }
         requires semaphores { AllByRecursion IsPreset setup.now.semaphores }
+        requires devices { length setup.now.devices ≤ 396 }
         ensures { IfOk result (λ s. s ≡ at_start setup.now) }
     {
         let tasks = setup.tasks.as_slice();
@@ -136,6 +143,7 @@ impl State {
         let channels = first_channels(alloc, setup.devices.as_slice())?;
         let formats = copied_formats(alloc, setup.formats.as_slice())?;
         let progress = no_progress(alloc, tasks.len())?;
+        let listening = clear(alloc, channels.len() * 4)?;
         let mut events = Told::new(alloc)?;
         tell_starts(tasks, &mut events);
         Ok(State {
@@ -148,6 +156,7 @@ impl State {
             channels,
             formats,
             progress,
+            listening,
             last: None,
             moment: 0,
             clock: 0,
@@ -172,6 +181,7 @@ impl State {
         let channels = channels_made(alloc, setup, core)?;
         let formats = copied_formats(alloc, setup.formats.as_slice())?;
         let progress = no_progress(alloc, tasks)?;
+        let listening = clear(alloc, channels.len() * 4)?;
         let events = Told::new(alloc)?;
         let last = match core.last {
             None => None,
@@ -187,6 +197,7 @@ impl State {
             channels,
             formats,
             progress,
+            listening,
             last,
             moment: core.moment,
             clock: core.clock as u32,
@@ -354,6 +365,8 @@ impl State {
         let formats = self.formats.as_slice();
         let channels = self.channels.as_slice();
         ask_first(&mut self.progress, place, offer, formats, channels);
+        leave(&mut self.listening, place, awaited(&self.offers[place]));
+        listen(&mut self.listening, place, device_of(offer));
         self.offers[place].put(offer);
     }
 
@@ -365,6 +378,8 @@ impl State {
         let active = self.is_active(task);
         self.semas.forget(task as usize);
         put(&mut self.unsettled, task as usize, active, true);
+        let device = awaited(&self.offers[task as usize]);
+        leave(&mut self.listening, task as usize, device);
         self.offers[task as usize].clear();
     }
 
@@ -379,6 +394,7 @@ impl State {
         let active = self.is_active(task);
         self.semas.forget(place);
         put(&mut self.unsettled, place, active, true);
+        leave(&mut self.listening, place, awaited(&self.offers[place]));
         self.offers[place].take(into)
     }
 
@@ -388,6 +404,14 @@ impl State {
             (IsNextWaiter (requests self.now.offers) semaphore after) }
     {
         self.semas.waiting(semaphore, after)
+    }
+
+    /// The first task whose offer waits at a device among those behind `after`, or among all.
+    pub fn listener(&self, device: u32, after: Option<usize>) -> Option<usize>
+        ensures { MatchOption result (NoneListens self.now.offers device after)
+            (IsNextListener self.now.offers device after) }
+    {
+        next_at(self.listening.as_slice(), device, after)
     }
 
     /// A slot's value.
@@ -609,6 +633,7 @@ impl State {
         ask_each(
             &mut self.progress,
             self.offers.as_slice(),
+            self.listening.as_slice(),
             formats,
             channels,
             device,
@@ -640,6 +665,7 @@ impl State {
         ask_each(
             &mut self.progress,
             self.offers.as_slice(),
+            self.listening.as_slice(),
             formats,
             channels,
             device,

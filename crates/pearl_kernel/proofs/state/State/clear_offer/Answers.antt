@@ -5,6 +5,8 @@ use Rattle.pearl_kernel.specs.Kept.{Kept}
 use Rattle.pearl_kernel.specs.Requests.{requests}
 use Rattle.pearl_kernel.proofs.Requesting.{requests-length, requests-set}
 use Rattle.pearl_kernel.proofs.Getting.{asked-gone}
+use Rattle.pearl_kernel.proofs.Waiting.{get-is}
+use Rattle.pearl_kernel.proofs.Listeners.{marks-there, marks-of, listening-gone}
 use Rattle.pearl_kernel.proofs.Unsettling.{unsettled-gone}
 use Rattle.pearl_kernel.proofs.state.State.clear_offer.Goals as goal
 
@@ -14,6 +16,19 @@ forget-requires c =
     let there = subst (λ (k : Kept). c.args.task < length k.offers) (sym c.self.view_is) c.requires in
     let same = ap (λ xs. length xs) c.self.invariant.1 in
     omega (arith, there, requests-length s.offers.items, same)
+
+pub leave-requires-clause-task : goal.leave-requires-clause-task
+leave-requires-clause-task c =
+    let there = subst (λ (k : Kept). c.args.task < length k.offers) (sym c.self.view_is) c.requires in
+    let few = c.self.invariant.4.few in
+    omega (arith, there, few)
+
+pub leave-requires-clause-there : goal.leave-requires-clause-there
+leave-requires-clause-there c =
+    let s = c.self.inside in
+    let there = subst (λ (k : Kept). c.args.task < length k.offers) (sym c.self.view_is) c.requires in
+    marks-there (length s.channels.items) s.offers.items s.listening.items c.args.task c.index.result.now c.awaited-device.result
+    c.self.invariant.4 (get-is s.offers.items c.args.task c.index.result.now there c.index.ensures) c.awaited-device.ensures
 
 pub invariant_of-self : goal.invariant_of-self
 invariant_of-self c =
@@ -29,4 +44,9 @@ invariant_of-self c =
       unsettled-gone s.rows.items s.offers.items s.unsettled.items c.self.invariant.2 c.args.task c.clear.new.self
           c.put.new.words.items c.is_active-active.result there c.put.ensures.bits c.put.ensures.words active c.clear.ensures,
       asked-gone s.offers.items s.formats.items s.channels.items s.progress.items c.args.task c.clear.new.self c.clear.ensures there c.self.invariant.3,
+      listening-gone (length s.channels.items) s.offers.items s.listening.items c.leave.new.rows.items c.args.task
+          c.clear.new.self c.self.invariant.4 there
+          (marks-of s.offers.items s.listening.items c.leave.new.rows.items c.args.task 0 c.index.result.now
+          c.awaited-device.result (get-is s.offers.items c.args.task c.index.result.now there c.index.ensures) c.awaited-device.ensures
+          c.leave.ensures) c.clear.ensures,
     )

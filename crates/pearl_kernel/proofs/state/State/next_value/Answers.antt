@@ -1,4 +1,5 @@
-use Rattle.std.proofs.Common.{◌≡◌, ◌<◌, ◌∙◌, Some, length, slice_get, sym, ap, subst, arith}
+use Rattle.std.proofs.Common.{◌≡◌, ◌<◌, ◌∙◌, Some, length, slice_get, sym, ap, subst, arith, length-set}
+use Rattle.pearl_kernel.specs.Listening.{AreListening}
 use Rattle.pearl_rules.specs.Core.{Channel}
 use Rattle.pearl_rules.specs.Devices.{bytes_in}
 use Rattle.pearl_kernel.specs.Kept.{Kept}
@@ -17,6 +18,8 @@ invariant_of-self c =
       asked-still s.offers.items s.formats.items s.channels.items _ s.progress.items
           (channel-same s.channels.items c.args.device c.next.new.self c.index_mut.result.now at
           (ap (λ (channel : Channel). bytes_in (Some channel)) c.next.ensures.waiting ∙ oldest-same c.index_mut.result.now)) c.self.invariant.3,
+      subst (λ n. AreListening n s.offers.items s.listening.items)
+          (sym (length-set s.channels.items c.args.device c.next.new.self)) c.self.invariant.4,
     )
 
 pub returns-clause-waiting : goal.returns-clause-waiting

@@ -16,4 +16,5 @@ invariant_of-self c =
           c.put.new.words.items c.is_awake.result c.is_silent-silent.result there c.put.ensures.bits c.put.ensures.words
           c.is_awake.ensures silent,
       c.self.invariant.3,
+      c.self.invariant.4,
     )

@@ -1,4 +1,5 @@
-use Rattle.std.proofs.Common.{slice_get, sym, subst}
+use Rattle.std.proofs.Common.{slice_get, sym, subst, length-set}
+use Rattle.pearl_kernel.specs.Listening.{AreListening}
 use Rattle.pearl_kernel.specs.Channels.{HasSwitch}
 use Rattle.pearl_kernel.specs.Kept.{Kept}
 use Rattle.pearl_kernel.proofs.Getting.{asked-still, switch-same}
@@ -13,4 +14,6 @@ invariant_of-self c =
       c.self.invariant.2,
       asked-still s.offers.items s.formats.items s.channels.items _ s.progress.items
           (switch-same s.channels.items c.args.device c.switch.result c.args.enabled c.switch.ensures has) c.self.invariant.3,
+      subst (λ n. AreListening n s.offers.items s.listening.items)
+          (sym (length-set s.channels.items c.args.device c.switch.result)) c.self.invariant.4,
     )

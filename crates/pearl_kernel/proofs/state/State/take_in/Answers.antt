@@ -1,4 +1,5 @@
-use Rattle.std.proofs.Common.{◌≡◌, ◌<◌, Some, length, slice_get, sym, subst, arith}
+use Rattle.std.proofs.Common.{◌≡◌, ◌<◌, Some, length, slice_get, sym, subst, arith, length-set}
+use Rattle.pearl_kernel.specs.Listening.{AreListening}
 use Rattle.pearl_kernel.specs.Kept.{Kept}
 use Rattle.pearl_kernel.proofs.Getting.{asked-still, channel-same, took-same}
 use Rattle.pearl_kernel.proofs.Waiting.{get-is, values-there, took-in}
@@ -16,6 +17,8 @@ invariant_of-self c =
       asked-still s.offers.items s.formats.items s.channels.items _ s.progress.items
           (channel-same s.channels.items c.args.device c.take_in.new.self c.index_mut.result.now at
           (took-same c.args.value.now c.take_in.result c.index_mut.result.now c.take_in.new.self c.take_in.ensures.waiting)) c.self.invariant.3,
+      subst (λ n. AreListening n s.offers.items s.listening.items)
+          (sym (length-set s.channels.items c.args.device c.take_in.new.self)) c.self.invariant.4,
     )
 
 pub returns-clause-waiting : goal.returns-clause-waiting
