@@ -1,6 +1,5 @@
 -- A run that goes on from what was saved offers again what was offered.
 use Rattle.std.proofs.Common.{◌≡◌, List, [], sym, ap, ◌∙◌}
-use Rattle.std.specs.Prelude.{map, option_map}
 use Rattle.pearl_rules.specs.declared.entry.Entry.{Entry}
 use Rattle.pearl_rules.specs.Runs.{Machine, machine_after, unsettled}
 use Rattle.pearl_stack.specs.Frames.{Frame}
@@ -8,7 +7,7 @@ use Rattle.pearl_instructions.specs.declared.object.Parts.{Parts as Object}
 use Rattle.pearl_instructions.specs.Engines.{engine, stepped_by, machine_run}
 use Rattle.pearl_instructions_laws.specs.Laws.{OffersAreNext}
 use Rattle.pearl_records.specs.Records.{untold}
-use Rattle.pearl_machine.specs.Resumed.{saved_of, resumed, unoffered}
+use Rattle.pearl_machine.specs.Resumed.{saved_of, resumed}
 use Rattle.pearl_saved_laws.specs.Going.{going_on, come_back, ComesBack}
 use Rattle.pearl_saved_laws.specs.Laws.{StatesComeBack, OffersComeAgain}
 use Rattle.pearl_saved_laws.proofs.OfferedAgain.{OfferAtOnce, offer_at_once, come_again}
