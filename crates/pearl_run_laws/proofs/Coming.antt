@@ -18,7 +18,8 @@ pub data IsInParts (one : Entry) (parts : List Entry) : Type 0 where
 -- the second list has for each entry of the first its parts
 abbrev pub AreParts : List Entry → List Entry → Type 0
 AreParts [] ys = ys ≡ []
-AreParts (one ∷ xs) ys = (parts : List Entry) × (rest : List Entry) × IsInParts one parts × (ys ≡ parts ++ rest) × AreParts xs rest
+AreParts (one ∷ xs) ys =
+    (parts : List Entry) × (rest : List Entry) × IsInParts one parts × (ys ≡ parts ++ rest) × AreParts xs rest
 
 -- the same mark comes, or none, and what remains is in parts again
 abbrev pub ComeAlike : Option Coming → Option Coming → Type 0
@@ -30,7 +31,8 @@ ComeAlike a b = ⊥
 before_both : (one : Entry) (xs ys : List Entry) → AreParts xs ys → AreParts (one ∷ xs) (one ∷ ys)
 before_both one xs ys are = (one ∷ [], ys, Whole refl, refl, are)
 
-before_parts : (one : Entry) (parts xs ys : List Entry) → IsParted one parts → AreParts xs ys → AreParts (one ∷ xs) (parts ++ ys)
+before_parts : (one : Entry) (parts xs ys : List Entry) → IsParted one parts → AreParts xs ys →
+    AreParts (one ∷ xs) (parts ++ ys)
 before_parts one parts xs ys is are = (parts, ys, InTwo is, refl, are)
 
 pub same_parts : (xs : List Entry) → AreParts xs xs
@@ -70,7 +72,8 @@ run_next : (picked : Option ℕ) (a b : ℕ) (xs ys : List Entry) → AreParts x
     NextAlike picked (Run (a + b) ∷ xs) (Run a ∷ Run b ∷ ys)
 run_next None a b xs ys are alike = alike
 run_next (Some t) zero b xs ys are alike =
-    subst (λ n. NextAlike (Some t) (Run n ∷ xs) (Run b ∷ ys)) (sym (zero-add b)) (whole_next (Some t) (Run b) xs ys are alike)
+    subst (λ n. NextAlike (Some t) (Run n ∷ xs) (Run b ∷ ys)) (sym (zero-add b))
+    (whole_next (Some t) (Run b) xs ys are alike)
 run_next (Some t) (suc a) b xs ys are alike =
     let one : suc a + b ≡ suc (a + b) = omega arith in
     subst (λ n. NextAlike (Some t) (Run n ∷ xs) (Run (suc a) ∷ Run b ∷ ys)) (sym one)
@@ -79,7 +82,8 @@ run_next (Some t) (suc a) b xs ys are alike =
 tick_next : (picked : Option ℕ) (a b : ℕ) (xs ys : List Entry) → AreParts xs ys → NextAlike picked xs ys →
     NextAlike picked (Tick (a + b) ∷ xs) (Tick a ∷ Tick b ∷ ys)
 tick_next picked zero b xs ys are alike =
-    subst (λ n. NextAlike picked (Tick n ∷ xs) (Tick b ∷ ys)) (sym (zero-add b)) (whole_next picked (Tick b) xs ys are alike)
+    subst (λ n. NextAlike picked (Tick n ∷ xs) (Tick b ∷ ys)) (sym (zero-add b))
+    (whole_next picked (Tick b) xs ys are alike)
 tick_next picked (suc a) b xs ys are alike =
     let one : suc a + b ≡ suc (a + b) = omega arith in
     subst (λ n. NextAlike picked (Tick n ∷ xs) (Tick (suc a) ∷ Tick b ∷ ys)) (sym one)
@@ -95,7 +99,8 @@ pass_next picked (suc a) b picks xs ys are alike =
     subst (λ n. NextAlike picked (Pass n picks ∷ xs) (Pass (suc a) picks ∷ Pass b picks ∷ ys)) (sym one) (
       refl,
       before_both (Run picks) (Pass (a + b) picks ∷ xs) (Pass a picks ∷ Pass b picks ∷ ys)
-          (before_parts (Pass (a + b) picks) (Pass a picks ∷ Pass b picks ∷ []) xs ys (PassParts a b picks refl refl) are),
+          (before_parts (Pass (a + b) picks) (Pass a picks ∷ Pass b picks ∷ []) xs ys (PassParts a b picks refl refl)
+          are),
     )
 
 -- the millisecond of `tick 1` leaves `tick 0`, and that of `pass 1` leaves `pass 0`
@@ -104,7 +109,8 @@ first_next : (picked : Option ℕ) (picks : ℕ) (xs ys : List Entry) → ArePar
 first_next picked picks xs ys are =
     (refl, (Tick 0 ∷ Run picks ∷ [], ys, Behind picks refl refl, refl, ([], ys, Left picks refl refl, refl, are)))
 
-parted_next : (picked : Option ℕ) (one : Entry) (parts xs ys : List Entry) → IsParted one parts → AreParts xs ys → NextAlike picked xs ys →
+parted_next : (picked : Option ℕ) (one : Entry) (parts xs ys : List Entry) → IsParted one parts → AreParts xs ys →
+    NextAlike picked xs ys →
     NextAlike picked (one ∷ xs) (parts ++ ys)
 parted_next picked one parts xs ys (RunParts a b is are_two) are alike =
     rw (is, are_two) (run_next picked a b xs ys are alike)
@@ -119,7 +125,8 @@ first_in_parts : (picked : Option ℕ) (one : Entry) (parts xs ys : List Entry) 
     NextAlike picked xs ys → NextAlike picked (one ∷ xs) (parts ++ ys)
 first_in_parts picked one parts xs ys (Whole is) are alike = rw is (whole_next picked one xs ys are alike)
 first_in_parts picked one parts xs ys (Left picks is none) are alike = rw (is, none) alike
-first_in_parts picked one parts xs ys (Behind picks is two) are alike = rw (is, two) (whole_next picked (Run picks) xs ys are alike)
+first_in_parts picked one parts xs ys (Behind picks is two) are alike =
+    rw (is, two) (whole_next picked (Run picks) xs ys are alike)
 first_in_parts picked one parts xs ys (InTwo is) are alike = parted_next picked one parts xs ys is are alike
 
 -- of entries in parts the same marks come
@@ -130,12 +137,14 @@ parts_next picked (one ∷ xs) ys (parts, rest, is, split, later) =
 
 -- MORE ENTRIES
 
--- where a mark comes of the first entries, the same mark comes, and the others still remain; else what comes of the others
+-- where a mark comes of the first entries, the same mark comes, and the others still remain; else what comes of the
+-- others
 abbrev pub ComesBefore : Option ℕ → List Entry → (first all : Option Coming) → Type 0
 ComesBefore picked more None all = all ≡ next_mark picked more
 ComesBefore picked more (Some coming) all = all ≡ Some (record { mark = coming.mark; rest = coming.rest ++ more })
 
-pub next_before : (picked : Option ℕ) (es more : List Entry) → ComesBefore picked more (next_mark picked es) (next_mark picked (es ++ more))
+pub next_before : (picked : Option ℕ) (es more : List Entry) →
+    ComesBefore picked more (next_mark picked es) (next_mark picked (es ++ more))
 next_before picked [] more = refl
 next_before None (Run n ∷ es) more = next_before None es more
 next_before (Some t) (Run zero ∷ es) more = next_before (Some t) es more

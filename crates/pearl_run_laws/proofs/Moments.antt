@@ -29,7 +29,8 @@ SplitsTime es None = time_in es ≡ 0
 SplitsTime es (Some coming) = time_in es ≡ passing coming.mark + time_in coming.rest
 
 -- of entries with as much time as those behind them
-as_behind : (es behind : List Entry) (coming : Option Coming) → time_in es ≡ time_in behind → SplitsTime behind coming → SplitsTime es coming
+as_behind : (es behind : List Entry) (coming : Option Coming) → time_in es ≡ time_in behind →
+    SplitsTime behind coming → SplitsTime es coming
 as_behind es behind None same splits = same ∙ splits
 as_behind es behind (Some coming) same splits = same ∙ splits
 
@@ -61,7 +62,8 @@ abbrev due : {S : Type 0} → Machine S → ℕ
 due m = m.core.moment + time_in m.entries
 
 module _ (acts : ActsLeave) (passes : MillisecondsPass) (arrives : ArrivalsLeave) {S : Type 0} (engine : Engine S) where
-  acts_due : (m : Machine S) (t : ℕ) (rest : List Entry) (x : Option (Running S)) → time_in m.entries ≡ 0 + time_in rest →
+  acts_due : (m : Machine S) (t : ℕ) (rest : List Entry) (x : Option (Running S)) →
+      time_in m.entries ≡ 0 + time_in rest →
       due (machine_acts engine m t rest x) ≡ due m
   acts_due m t rest None left = refl
   acts_due m t rest (Some running) left = by_offer running.offer
@@ -82,13 +84,15 @@ module _ (acts : ActsLeave) (passes : MillisecondsPass) (arrives : ArrivalsLeave
   step_due : (m : Machine S) → due (machine_step engine m) ≡ due m
   step_due m = by_unsettled (unsettled m) refl
     where
-      by_next : unsettled m ≡ None → (x : Option Coming) → machine_next m ≡ x → SplitsTime m.entries x → due (machine_step engine m) ≡ due m
+      by_next : unsettled m ≡ None → (x : Option Coming) → machine_next m ≡ x → SplitsTime m.entries x →
+          due (machine_step engine m) ≡ due m
       by_next settled None next splits = ap due (step_mark engine m None settled next)
       by_next settled (Some coming) next splits =
           ap due (step_mark engine m (Some coming) settled next) ∙ mark_due m coming.mark coming.rest splits
 
       by_unsettled : (x : Option (ℕ × S)) → unsettled m ≡ x → due (machine_step engine m) ≡ due m
-      by_unsettled None settled = by_next settled (machine_next m) refl (next_time (pick m.core (machine_offers m)) m.entries)
+      by_unsettled None settled =
+          by_next settled (machine_next m) refl (next_time (pick m.core (machine_offers m)) m.entries)
       by_unsettled (Some x) is = ap due (step_by engine m (Some x) is)
 
   after_due : (m : Machine S) (n : ℕ) → due (machine_after engine m n) ≡ due m
@@ -100,5 +104,6 @@ moments_come acts passes arrives engine m es n ends =
     let last = machine_after engine (over m es) n in
     let all = after_due acts passes arrives engine (over m es) n in
     let none : time_in last.entries ≡ 0 =
-    subst (λ x. SplitsTime last.entries x) ends.no_mark (next_time (pick last.core (machine_offers last)) last.entries) in
+    subst (λ x. SplitsTime last.entries x) ends.no_mark
+    (next_time (pick last.core (machine_offers last)) last.entries) in
     omega (arith, all, none)

@@ -8,7 +8,8 @@ use Rattle.pearl_run_laws.specs.GoingOn.{EndsAfter}
 
 module _ {S : Type 0} (engine : Engine S) where
   -- a step, by what is unsettled
-  pub step_by : (m : Machine S) (x : Option (ℕ × S)) → unsettled m ≡ x → machine_step engine m ≡ machine_step_by engine m x
+  pub step_by : (m : Machine S) (x : Option (ℕ × S)) → unsettled m ≡ x →
+      machine_step engine m ≡ machine_step_by engine m x
   unfolding machine_step
   step_by m x is = ap (λ y. machine_step_by engine m y) is
 
@@ -18,7 +19,8 @@ module _ {S : Type 0} (engine : Engine S) where
   step_mark m coming settled next = step_by m None settled ∙ ap (λ y. machine_mark_by engine m y) next
 
   -- steps after steps
-  pub after_after : (m : Machine S) (j k : ℕ) → machine_after engine m (j + k) ≡ machine_after engine (machine_after engine m j) k
+  pub after_after : (m : Machine S) (j k : ℕ) →
+      machine_after engine m (j + k) ≡ machine_after engine (machine_after engine m j) k
   after_after m j zero = ap (λ i. machine_after engine m i) (add-zero j)
   after_after m j (suc k) =
       ap (λ i. machine_after engine m i) (add-suc j k) ∙ ap (λ x. machine_step engine x) (after_after m j k)
@@ -28,9 +30,11 @@ module _ {S : Type 0} (engine : Engine S) where
       machine_after engine (machine_after engine m n) k ≡ machine_after engine m n
   stays m n ends zero = refl
   stays m n ends (suc k) =
-      ap (λ x. machine_step engine x) (stays m n ends k) ∙ step_mark (machine_after engine m n) None ends.settled ends.no_mark
+      ap (λ x. machine_step engine x) (stays m n ends k)
+      ∙ step_mark (machine_after engine m n) None ends.settled ends.no_mark
 
-  stays_to : (m : Machine S) (n k : ℕ) → n ≤ k → EndsAfter engine m n → machine_after engine m k ≡ machine_after engine m n
+  stays_to : (m : Machine S) (n k : ℕ) → n ≤ k → EndsAfter engine m n →
+      machine_after engine m k ≡ machine_after engine m n
   stays_to m n k later ends =
       let same : k ≡ n + (k - n) = omega arith in
       ap (λ i. machine_after engine m i) same ∙ after_after m n (k - n) ∙ stays m n ends (k - n)

@@ -21,14 +21,15 @@ pub record EndsAfter {S : Type 0} (engine : Engine S) (m : Machine S) (n : ℕ) 
 abbrev pub next_of : {S : Type 0} → Machine S → Option Mark
 next_of m = mapped (λ coming. coming.mark) (machine_next m)
 
--- two states stand alike, but that the second has told this before: the same core, each task with the same stack and the same offer,
--- and the same mark comes next
+-- two states stand alike, but that the second has told this before: the same core, each task with the same stack and
+-- the same offer, and the same mark comes next
 pub record StandAlike {S : Type 0} (before : List (ℕ × Report)) (a b : Machine S) : Type 0 where
   pub core : b.core ≡ told_before before a.core
   pub running : b.running ≡ a.running
   pub next : next_of b ≡ next_of a
 
--- each state of a run that goes on from one state is a state of the whole run, but that this has told before what that one has told
+-- each state of a run that goes on from one state is a state of the whole run, but that this has told before what
+-- that one has told
 abbrev pub GoesOnFrom : {S : Type 0} → Engine S → (last whole : Machine S) → List Entry → Type 0
 GoesOnFrom engine last whole more = (k : ℕ) →
     (j : ℕ) × StandAlike last.core.told (machine_after engine (gone_on last more) k) (machine_after engine whole j)

@@ -4,9 +4,9 @@ ghost use Rattle.pearl_run_laws.specs.Laws.{RunsGoOn, RunsEndOnce, MomentsCome, 
 
 use pearl_rules::laws::time_passes;
 
-/// A run over a journal's first entries that has ended goes on over the others as the run over the whole journal does: each of its
-/// states is one of that run, down to the mark that comes next, but that what was told up to the end isn't told again. Entries of
-/// which no mark came, as `run` where nobody can act, are left behind.
+/// A run over a journal's first entries that has ended goes on over the others as the run over the whole journal does:
+/// each of its states is one of that run, down to the mark that comes next, but that what was told up to the end isn't
+/// told again. Entries of which no mark came, as `run` where nobody can act, are left behind.
 pub fn runs_go_on<S>()
     ensures { RunsGoOn S }
 {}
@@ -23,8 +23,8 @@ pub fn moments_come<S>()
     time_passes();
 }
 
-/// `run`, `tick` and `pass` can be parted after any of their marks, wherever they stand in a journal: then the run is the same after
-/// any number of steps. So each mark can be the end of a journal's first part.
+/// `run`, `tick` and `pass` can be parted after any of their marks, wherever they stand in a journal: then the run is
+/// the same after any number of steps. So each mark can be the end of a journal's first part.
 pub fn entries_part<S>()
     ensures { EntriesPart S }
 {}
