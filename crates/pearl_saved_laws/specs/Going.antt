@@ -18,9 +18,9 @@ going_on o s es = record (resumed o s).state { entries = es }
 abbrev pub come_back : Machine (List Frame) → Machine (List Frame)
 come_back m = record { core = untold m.core; running = map (option_map unoffered) m.running; entries = [] }
 
--- A run that goes on over these entries from what is saved of a state comes to that state again after some steps. It has
--- told nothing, and these entries are to come. Before each step some task has still to offer its action, so none of them
--- is a mark.
+-- A run that goes on over these entries from what is saved of a state comes to that state again after some steps. It
+-- has told nothing, and these entries are to come. Before each step some task has still to offer its action, so none
+-- of them is a mark.
 pub record ComesBack (o : Object) (m : Machine (List Frame)) (more : List Entry) : Type 0 where
   pub steps : ℕ
   pub is : machine_after (engine o) (going_on o (saved_of m) more) steps
