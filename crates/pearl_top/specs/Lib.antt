@@ -36,6 +36,10 @@ pub mod CompileDue
 pub mod ObjectDue
 -- what is due for an object of which some leaves are watched
 pub mod WatchDue
+-- what is due for an object of which a run is saved
+pub mod SaveDue
+-- what is due for a snapshot from which a run goes on
+pub mod ResumeDue
 -- what is due for the workload of a number
 pub mod BenchDue
 -- which status and which bytes belong to some words and files
