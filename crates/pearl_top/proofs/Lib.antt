@@ -14,6 +14,10 @@ mod MachineRuns
 mod WatchEnds
 mod WatchRuns
 mod WatchLaws
+mod SaveEnds
+mod SaveLaws
+mod ResumeEnds
+mod ResumeLaws
 mod RunEnds
 mod TranscriptLaws
 mod Names

@@ -38,6 +38,8 @@ pub mod ObjectDue
 pub mod WatchDue
 -- what is due for an object of which a run is saved
 pub mod SaveDue
+-- where a machine stands behind a journal, and when bytes are its snapshot
+pub mod Saving
 -- what is due for a snapshot from which a run goes on
 pub mod ResumeDue
 -- what is due for the workload of a number
@@ -52,3 +54,5 @@ pub mod Laws
 pub mod Ready
 -- a machine and a monitor, as what goes over a journal
 pub mod Followers
+-- a machine that goes on from a saved state, as what goes over a journal
+pub mod Resumed

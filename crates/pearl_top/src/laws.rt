@@ -3,10 +3,12 @@
 
 ghost use Rattle.pearl_top.specs.Laws.{HasOneMeaning, HasOneTranscript, HasOneStatus, HasOneText};
 ghost use Rattle.pearl_top.specs.Laws.{CompiledRunsAlike, FilesInOrderEndWell, ObjectsWriteAlike, PrintsItsText, ValidObjectsRun};
+ghost use Rattle.pearl_top.specs.Resumed.{RestoredRunsEnd};
 ghost use Rattle.pearl_top.specs.SoundPrograms.{BodiesRenewRight, ProgramsAreSound};
 
 use pearl_instructions::runs::objects_run_as_they_offer;
 use pearl_instructions_laws::laws::runs_end;
+use pearl_snap::laws::snapshots_are_read_as_they_are_spelled;
 
 /// What goes into the variables of tasks and procedures as first values suits them.
 pub fn bodies_renew_right()
@@ -43,11 +45,17 @@ pub fn valid_objects_run()
     runs_end();
 }
 
+/// A run that goes on from a lawful state of an object comes to its end, over any entries that fit.
+pub fn restored_runs_end()
+    ensures { RestoredRunsEnd }
+{}
+
 /// A command and its files have at most one status, where nothing outside fails and memory is there.
 pub fn one_status()
     ensures { HasOneStatus }
 {
     valid_objects_run();
+    snapshots_are_read_as_they_are_spelled();
 }
 
 /// And with it they have at most one list of bytes; but `compile` may write the bytes of any object that does what the
@@ -56,15 +64,18 @@ pub fn one_text()
     ensures { HasOneText }
 {
     valid_objects_run();
+    snapshots_are_read_as_they_are_spelled();
 }
 
 /// Where the files that a command names are in order, it is carried out to its end: there is something that it writes
 /// then, and it ends in no other way, where nothing outside fails and memory is there. That there is some object that does
-/// what an accepted source means is asked for `compile`.
+/// what an accepted source means is asked for `compile`, and some snapshot of the run for `save`.
 pub fn files_in_order_end_well()
     ensures { FilesInOrderEndWell }
 {
     valid_objects_run();
+    restored_runs_end();
+    snapshots_are_read_as_they_are_spelled();
 }
 
 /// What `compile` wrote, `exec` runs as `run` runs the source: with the same status and the same transcript, over any journal.

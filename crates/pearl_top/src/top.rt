@@ -30,10 +30,13 @@ use crate::print::canonical_text;
 use crate::read::read_whole;
 use crate::refuse::conclude;
 use crate::replay::replay;
+use crate::resumed::resumed_in;
+use crate::save::{go_over, snapshot_of};
 use crate::status::Status;
 use pearl_io::{Shelf, Sink, put_all};
 use pearl_journal::lines::Lines;
 use pearl_script::refusal::Refusal;
+use pearl_snap::laws::snapshots_are_read_as_they_are_spelled;
 use std::alloc::Global;
 
 /// Carries out the command of the words after the program's name: reads the files that it names from the shelf, and
@@ -89,6 +92,7 @@ pub fn pearl<S: Shelf, K: Sink>(
     ensures shelf_later { (name : List ℕ) → S.faults shelf.old name ≤ S.faults shelf.new name }
     ensures sink_later { K.faults sink.old ≤ K.faults sink.new }
 {
+    snapshots_are_read_as_they_are_spelled();
     let ended = carry_out(alloc, words, shelf, sink);
     conclude(ended, sink)
 }
@@ -276,9 +280,9 @@ fn save<S: Shelf, K: Sink>(
     ensures sink_later { K.faults sink.old ≤ K.faults sink.new }
 {
     let bytes = read_whole(alloc, shelf, object, OBJECT_LIMIT)?;
-    let mut machine = silent_in(alloc, bytes.as_slice())?;
+    let mut machine = machine_in(alloc, bytes.as_slice())?;
     let mut lines = Lines::new(alloc)?;
-    go_over(&mut machine, &mut lines, journal, shelf, sink)?;
+    go_over(&mut machine, &mut lines, journal, shelf)?;
     let text = snapshot_of(alloc, &mut machine)?;
     put_all(sink, text.as_slice())?;
     Ok(())
