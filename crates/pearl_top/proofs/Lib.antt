@@ -33,3 +33,7 @@ mod OneProgram
 mod OneOutcome
 mod Explained
 mod FetchLaws
+mod RunsOn
+mod ResumedRuns
+mod ResumeLaws
+mod ResumeEnds

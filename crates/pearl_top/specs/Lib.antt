@@ -52,3 +52,5 @@ pub mod Laws
 pub mod Ready
 -- a machine and a monitor, as what goes over a journal
 pub mod Followers
+-- a machine that goes on from a saved state, as what goes over a journal
+pub mod Resumed

@@ -1,5 +1,6 @@
 -- What is due for a snapshot from which a run goes on.
 use Rattle.std.specs.Prelude.{◌≡◌, ℕ, ◌≤◌, ◌⊎◌, List, length}
+use Rattle.pearl_fields.specs.Codec.{IsBytes}
 use Rattle.pearl_instructions.specs.declared.object.Parts.{Parts as Object}
 use Rattle.pearl_saved.specs.declared.saved.Saved.{Saved}
 use Rattle.pearl_saved.specs.Rules.{IsLeastBroken, IsMachineState}
@@ -16,6 +17,7 @@ use Rattle.pearl_top.specs.Runners.{by_state}
 -- a file has these bytes, within the limit, and they are those of an object and a state of it
 pub record IsFileWith (file : List ℕ) (state : Object × Saved) : Type 0 where
   pub within : length file ≤ SNAPSHOT_LIMIT
+  pub in_bytes : IsBytes file
   pub spelled : IsSnapshot file state.0 state.1
 
 -- and no rule on states is broken, so that a run can go on from it

@@ -16,6 +16,7 @@ pub mod program;
 mod read;
 mod refuse;
 mod replay;
+mod resumed;
 mod source;
 pub mod status;
 pub mod top;
