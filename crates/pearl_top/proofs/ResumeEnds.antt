@@ -27,14 +27,17 @@ has_resumed runs_end file journal order =
       inr (
         order.state,
         order.is,
-        (order.within, record {
-          es = order.es;
-          read = order.read;
-          written = record {
-            end = ended_of last.core (machine_offers last);
-            ends = record { steps = end.steps; settled = end.settled; no_mark = end.no_mark; is = refl };
-            text = refl;
-          };
-        }),
+        (
+          order.within,
+          record {
+            es = order.es;
+            read = order.read;
+            written = record {
+              end = ended_of last.core (machine_offers last);
+              ends = record { steps = end.steps; settled = end.settled; no_mark = end.no_mark; is = refl };
+              text = refl;
+            };
+          },
+        ),
       ),
     )
