@@ -37,3 +37,5 @@ mod OneProgram
 mod OneOutcome
 mod Explained
 mod FetchLaws
+mod RunsOn
+mod ResumedRuns

@@ -45,7 +45,7 @@ pub fn valid_objects_run()
     runs_end();
 }
 
-/// A run that goes on from a lawful state of an object comes to its end, over any entries that fit.
+/// A run that goes on from any lawful state of an object, whoever saved it, comes to its end, over any entries that fit.
 pub fn restored_runs_end()
     ensures { RestoredRunsEnd }
 {}
