@@ -1,5 +1,5 @@
 -- What goes over a journal from a saved state of a run: its object's machine, which goes on from there.
-use Rattle.std.specs.Prelude.{◌≡◌, List, []}
+use Rattle.std.specs.Prelude.{◌≡◌, ℕ, List, []}
 use Rattle.pearl_instructions.specs.Engines.{engine}
 use Rattle.pearl_instructions.specs.Lawful.{IsObject}
 use Rattle.pearl_instructions.specs.Setups.{setup_of}
