@@ -3,6 +3,7 @@ use Rattle.std.proofs.Common.{◌≡◌, ◌≢◌, ℕ, List, Option, refl, ap�
 use Rattle.pearl_rules.specs.declared.entry.Entry.{Entry}
 use Rattle.pearl_rules.specs.Runs.{source_offers, source_run}
 use Rattle.pearl_rules.proofs.Offered.{source_ends}
+use Rattle.pearl_saved_laws.specs.Laws.{RestoredRunsEnd}
 use Rattle.pearl_meaning.specs.Programs.{offer}
 use Rattle.pearl_program.specs.PlainPrograms.{PlainProg}
 use Rattle.pearl_fields.specs.Codec.{IsLawful}
@@ -24,7 +25,6 @@ use Rattle.pearl_top.specs.Laws.{FilesInOrderEndWell, HasSomething, ValidObjects
 use Rattle.pearl_top.specs.ObjectDue.{IsCodeOf, IsListed, IsNoObject, IsRefused}
 use Rattle.pearl_top.specs.Outcome.{Due, IsOutcome}
 use Rattle.pearl_top.specs.Reading.{ASource, AnObject}
-use Rattle.pearl_top.specs.Resumed.{RestoredRunsEnd}
 use Rattle.pearl_top.specs.RunDue.{IsSource}
 use Rattle.pearl_top.specs.PrintDue.{IsPrinted}
 use Rattle.pearl_top.specs.Runners.{by_code, by_rules}

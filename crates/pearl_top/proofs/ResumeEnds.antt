@@ -7,11 +7,12 @@ use Rattle.pearl_instructions.specs.Setups.{setup_of}
 use Rattle.pearl_journal.specs.Entries.{Entries}
 use Rattle.pearl_journal.specs.Lines.{journal_lines}
 use Rattle.pearl_journal.proofs.Offered.{entries-fit}
+use Rattle.pearl_saved_laws.specs.Going.{ComesToItsEnd, going_on}
+use Rattle.pearl_saved_laws.specs.Laws.{RestoredRunsEnd}
 use Rattle.pearl_top.specs.declared.status.Status.TheVariants.{Done}
 use Rattle.pearl_top.specs.Complete.{CanResume}
-use Rattle.pearl_top.specs.Resumed.{ComesToItsEnd, RestoredRunsEnd}
 use Rattle.pearl_top.specs.ResumeDue.{ResumeDue}
-use Rattle.pearl_top.specs.Runners.{by_state, going_on}
+use Rattle.pearl_top.specs.Runners.{by_state}
 use Rattle.pearl_top.specs.Transcript.{ended_of}
 
 pub has_resumed : RestoredRunsEnd → (file journal : List ℕ) → CanResume file journal → (bytes : List ℕ) × ResumeDue file journal ⊥ ⊥ Done bytes

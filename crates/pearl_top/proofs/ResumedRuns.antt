@@ -13,10 +13,12 @@ use Rattle.pearl_machine.proofs.Offered.{handles_on}
 use Rattle.pearl_script.specs.declared.refusal.Refusal.{Refusal}
 use Rattle.pearl_script.specs.Lines.{close_line, lines_of}
 use Rattle.pearl_script.specs.Refusals.{refusal_line}
+use Rattle.pearl_saved_laws.specs.Going.{ComesToItsEnd}
+use Rattle.pearl_saved_laws.specs.Laws.{RestoredRunsEnd}
 use Rattle.pearl_stack.specs.Frames.{Frame}
 use Rattle.pearl_top.specs.Followers.{Tells, TellsLast}
 use Rattle.pearl_top.specs.Going.{GoesInTurn, WritesItsRun}
-use Rattle.pearl_top.specs.Resumed.{ComesToItsEnd, IsResumed, RestoredRunsEnd, by_seen, resumed_going}
+use Rattle.pearl_top.specs.Resumed.{IsResumed, by_seen, resumed_going}
 use Rattle.pearl_top.specs.Transcript.{Close, Closed, Cut, closing, ended_of}
 use Rattle.pearl_top.proofs.Endings.{is_done, states_at}
 use Rattle.pearl_top.proofs.MachineRuns.{machine_in_turn}

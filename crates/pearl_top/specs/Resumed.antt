@@ -1,9 +1,5 @@
 -- What goes over a journal from a saved state of a run: its object's machine, which goes on from there.
-use Rattle.std.specs.Prelude.{◌≡◌, ℕ, List, [], None}
-use Rattle.pearl_rules.specs.declared.entry.Entry.{Entry}
-use Rattle.pearl_rules.specs.Entries.{AreFitting}
-use Rattle.pearl_rules.specs.Runs.{machine_after, machine_next, unsettled}
-use Rattle.pearl_instructions.specs.declared.object.Parts.{Parts as Object}
+use Rattle.std.specs.Prelude.{◌≡◌, List, []}
 use Rattle.pearl_instructions.specs.Engines.{engine}
 use Rattle.pearl_instructions.specs.Lawful.{IsObject}
 use Rattle.pearl_instructions.specs.Setups.{setup_of}
@@ -15,7 +11,7 @@ use Rattle.pearl_saved.specs.Rules.{IsMachineState}
 use Rattle.pearl_top.specs.Followers.{machine_going}
 use Rattle.pearl_top.specs.Going.{Going}
 use Rattle.pearl_top.specs.ResumeDue.{IsStateOf}
-use Rattle.pearl_top.specs.Runners.{EndsByCode, Runner, going_on}
+use Rattle.pearl_top.specs.Runners.{EndsByCode, Runner}
 use Rattle.pearl_top.specs.Transcript.{IsTranscript}
 
 -- an object's own machine from where it stands: of `resumed o s` it is `by_state o s`
@@ -42,15 +38,3 @@ pub record IsResumedOf (file : List ℕ) (seen : Seen) : Type 0 where
 -- it writes what any machine does, but no lines that open a run
 abbrev pub resumed_going : Going Seen
 resumed_going = record machine_going { starts = IsResumed; opening = λ seen. []; runner = by_seen }
-
--- a run that goes on over these entries from a state is at its end after some steps: each active task has offered its action, and no
--- mark comes
-pub record ComesToItsEnd (o : Object) (s : Saved) (es : List Entry) : Type 0 where
-  pub steps : ℕ
-  pub settled : unsettled (machine_after (engine o) (going_on o s es) steps) ≡ None
-  pub no_mark : machine_next (machine_after (engine o) (going_on o s es) steps) ≡ None
-
--- a run that goes on from any lawful state comes to its end
-abbrev pub RestoredRunsEnd : Type 0
-RestoredRunsEnd = (o : Object) (s : Saved) → IsObject o → IsMachineState o s → (es : List Entry) → AreFitting (setup_of o) es →
-    ComesToItsEnd o s es

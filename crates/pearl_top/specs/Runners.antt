@@ -12,9 +12,8 @@ use Rattle.pearl_instructions.specs.Engines.{engine}
 use Rattle.pearl_instructions.specs.Setups.{setup_of}
 use Rattle.pearl_journal.specs.Pieces.{begin_later, reading_at}
 use Rattle.pearl_journal.specs.Readings.{Reading, start}
-use Rattle.pearl_machine.specs.Resumed.{resumed}
 use Rattle.pearl_saved.specs.declared.saved.Saved.{Saved}
-use Rattle.pearl_stack.specs.Frames.{Frame}
+use Rattle.pearl_saved_laws.specs.Going.{going_on}
 use Rattle.pearl_top.specs.Transcript.{Close, Ended, IsTranscript, ended_of}
 
 -- The tables by which a journal is read and what is told is written, how far a journal counts as read before its first line, and what
@@ -50,10 +49,6 @@ by_rules p = record { setup = tables_of p; first = start; writes = λ es. IsTran
 -- an object's own machine, from its start
 abbrev pub by_code : Object → Runner
 by_code o = record { setup = setup_of o; first = start; writes = λ es. IsTranscript (setup_of o) (CodeEnds o es) }
-
--- a state of an object's run, from which it goes on over these entries
-abbrev pub going_on : Object → Saved → List Entry → Machine (List Frame)
-going_on o s es = record (resumed o s).state { entries = es }
 
 -- an object's own machine, from a saved state of it: nothing opens the run, and the lines of its journal count anew, though entries
 -- were accepted before

@@ -3,11 +3,11 @@
 
 ghost use Rattle.pearl_top.specs.Laws.{HasOneMeaning, HasOneTranscript, HasOneStatus, HasOneText};
 ghost use Rattle.pearl_top.specs.Laws.{CompiledRunsAlike, FilesInOrderEndWell, ObjectsWriteAlike, PrintsItsText, ValidObjectsRun};
-ghost use Rattle.pearl_top.specs.Resumed.{RestoredRunsEnd};
 ghost use Rattle.pearl_top.specs.SoundPrograms.{BodiesRenewRight, ProgramsAreSound};
 
 use pearl_instructions::runs::objects_run_as_they_offer;
 use pearl_instructions_laws::laws::runs_end;
+use pearl_saved_laws::laws::restored_runs_end;
 use pearl_snap::laws::snapshots_are_read_as_they_are_spelled;
 
 /// What goes into the variables of tasks and procedures as first values suits them.
@@ -44,11 +44,6 @@ pub fn valid_objects_run()
     objects_run_as_they_offer();
     runs_end();
 }
-
-/// A run that goes on from any lawful state of an object, whoever saved it, comes to its end, over any entries that fit.
-pub fn restored_runs_end()
-    ensures { RestoredRunsEnd }
-{}
 
 /// A command and its files have at most one status, where nothing outside fails and memory is there.
 pub fn one_status()

@@ -7,12 +7,12 @@ ghost use Rattle.pearl_top.specs.Resumed.{IsResumedOf};
 
 use crate::failure::Failure;
 use crate::follower::Follower;
-use crate::laws::restored_runs_end;
 use crate::limits::SNAPSHOT_LIMIT;
 use pearl_io::{Sink, WriteFault};
 use pearl_machine::Machine;
 use pearl_rules::entry::Entry;
 use pearl_rules::setup::Setup;
+use pearl_saved_laws::laws::restored_runs_end;
 use pearl_snap::restore::restore;
 use std::alloc::Global;
 use std::marker::Model;
