@@ -1,6 +1,6 @@
 -- From what a machine did over a journal of which nothing was written, and from its snapshot, to what is due for a saved run.
 use Rattle.std.proofs.Common.{◌≡◌, ◌+◌, ◌⊎◌, ◌++◌, ℕ, List, [], None, Result, Ok, Err, inl, inr, refl, ap, ap₂, sym, ◌∙◌, subst, arith}
-use Rattle.std.specs.Prelude.{IfErr, OnOk}
+use Rattle.std.specs.Prelude.{IfErr, OnErr, OnOk}
 use Rattle.pearl_io.specs.Outside.{WriteFailed, Files}
 use Rattle.pearl_rules.specs.declared.entry.Entry.{Entry}
 use Rattle.pearl_rules.specs.Core.{Report}
@@ -15,6 +15,7 @@ use Rattle.pearl_journal.specs.Readings.{Reading, start}
 use Rattle.pearl_machine.specs.Resumed.{saved_of}
 use Rattle.pearl_machine.specs.Seen.{Seen, at, retold, Goes, Handles}
 use Rattle.pearl_machine.proofs.Offered.{handles_on}
+use Rattle.pearl_saved.specs.declared.saved.Saved.{Saved}
 use Rattle.pearl_saved.specs.Rules.{IsMachineState}
 use Rattle.pearl_snap.specs.Restoring.{IsSnapshot}
 use Rattle.pearl_script.specs.declared.refusal.Refusal.TheVariants as refusal
@@ -40,13 +41,23 @@ never_failed (inl (inl less)) = absurd (omega (arith, less))
 never_failed (inl (inr last)) = absurd (omega (arith, last))
 never_failed (inr full) = full
 
+-- so what it answers is no failure
+pub all_taken : {E : Type 0} (r : Result (Unit {0}) E) (P : Type 0) → OnErr r (WriteFailed 0 0 ⊥) → OnOk r P → P
+all_taken (Ok done) P never is = is
+all_taken (Err fault) P never is = absurd (never_failed never)
+
 -- OVER THE JOURNAL
 
-module _ (seen opened : Seen) (ready : IsReady seen) (same : opened ≡ retold seen opened.state.core.told) (none : opened.state.core.told ≡ [])
-    (first : Reading) (here : first ≡ start) where
+-- it is at moment 0 there
+pub opened_at : (seen opened : Seen) → IsReady seen → opened ≡ retold seen [] → opened.state.core.moment ≡ 0
+opened_at seen opened ready same = ap (λ (s : Seen). s.state.core.moment) same ∙ ap (λ (s : Seen). s.state.core.moment) ready.starts
+
+module _ (seen opened : Seen) (ready : IsReady seen) (same : opened ≡ retold seen []) (first : Reading) (here : first ≡ start) where
   -- what it does behind what opens the run, it does from the start on
   from_start : (now : Seen) (es : List Entry) (text : List ℕ) → Tells opened es [] now text → Tells seen es [] now text
-  from_start now es text tells = machine_in_turn.in_turn seen opened now es es [] [] text (tells_opened seen opened same none es) tells
+  from_start now es text tells =
+      let none : opened.state.core.told ≡ [] = ap (λ (s : Seen). s.state.core.told) same in
+      machine_in_turn.in_turn seen opened now es es [] [] text (tells_opened seen opened (same ∙ ap (retold seen) (sym none)) none es) tells
 
   -- the journal is read by its object's tables
   read_there : (lines : List (List ℕ)) → entries_from (setup_of seen.object) start lines ≡ entries_from (setup_of opened.object) first lines
@@ -55,7 +66,7 @@ module _ (seen opened : Seen) (ready : IsReady seen) (same : opened ≡ retold s
 
   -- where all of its lines were carried out
   has_run : (journal : List ℕ) (rose failed : Type 0) (now : Seen) → CarriesOut machine_going (Ok tt) first journal rose failed opened now None None →
-      HasRun seen.object journal now
+      HasRun seen journal now
   has_run journal rose failed now ends =
       let done = ends.1 in
       let tells = from_start now done.es done.text done.writes in record {
@@ -63,7 +74,7 @@ module _ (seen opened : Seen) (ready : IsReady seen) (same : opened ≡ retold s
         es = done.es;
         read = read_there (journal_lines journal) ∙ done.read;
         told = tells.told;
-        handles = subst (λ s. Handles s done.es [] now tells.told) ready.starts tells.handles;
+        handles = tells.handles;
         object = tells.object;
         rests = done.rests;
       }
@@ -97,7 +108,7 @@ module _ (seen opened : Seen) (ready : IsReady seen) (same : opened ≡ retold s
       (file : List ℕ) × has file × CarriesOut machine_going ended first file rose failed opened now None None
 
   pub went_over : (rose failed : Type 0) (has : List ℕ → Type 0) (now : Seen) (ended : Result (Unit {0}) Failure) → Carried rose has now ended failed →
-      OnOk ended ((file : List ℕ) × has file × HasRun seen.object file now)
+      OnOk ended ((file : List ℕ) × has file × HasRun seen file now)
   went_over rose failed has now (Ok done) carried = (carried.0, carried.1, has_run carried.0 rose failed now carried.2)
   went_over rose failed has now (Err why) carried = tt
 
@@ -127,8 +138,22 @@ is_saved o es seen told bytes ran same shot =
       state = subst (λ held. IsMachineState held (saved_of (after o es end.steps))) object (subst (IsMachineState last.object) (sym kept) shot.state);
     }
 
+-- what was saved of where it stood then, and what that is spelled as
+pub is_snapshot_of : (seen last : Seen) (o : Object) (saved : Saved) (bytes : List ℕ) → ((from : List Entry) → Handles seen from from last []) →
+    unsettled last.state ≡ None → last.object ≡ seen.object → o ≡ last.object → saved ≡ saved_of last.state → IsMachineState last.object saved →
+    IsSnapshot bytes o saved → IsSnapshotOf seen bytes
+is_snapshot_of seen last o saved bytes handles settled object same kept state spelled = record {
+  last = last;
+  handles = handles;
+  settled = settled;
+  object = object;
+  spelled = subst (IsSnapshot bytes last.object) kept (subst (λ held. IsSnapshot bytes held saved) same spelled);
+  state = subst (IsMachineState last.object) kept state;
+}
+
 -- so its bytes are due at the end of the journal
-pub saved_run : (o : Object) (journal : List ℕ) (seen : Seen) (bytes : List ℕ) → HasRun o journal seen → IsSnapshotOf seen bytes →
-    IsRun (by_save o) (journal_lines journal) All Closed bytes
-saved_run o journal seen bytes run shot =
-    record { es = run.es; read = run.read; written = is_saved o run.es seen run.told bytes run.handles run.object shot }
+pub saved_run : (old : Seen) (journal : List ℕ) (seen : Seen) (bytes : List ℕ) → IsReady old → HasRun old journal seen → IsSnapshotOf seen bytes →
+    IsRun (by_save old.object) (journal_lines journal) All Closed bytes
+saved_run old journal seen bytes ready run shot =
+    let ran : Handles (started old.object) run.es [] seen run.told = subst (λ s. Handles s run.es [] seen run.told) ready.starts run.handles in
+    record { es = run.es; read = run.read; written = is_saved old.object run.es seen run.told bytes ran run.object shot }

@@ -19,7 +19,7 @@ use Rattle.pearl_top.specs.Complete.{CanExecute}
 use Rattle.pearl_top.specs.JournalDue.{IsBadJournal, JournalDue}
 use Rattle.pearl_top.specs.ObjectDue.{IsCodeOf, IsRefused, ObjectDue}
 use Rattle.pearl_top.specs.Reading.{AnObject, UnreadDue}
-use Rattle.pearl_top.specs.Ready.{start_of}
+use Rattle.pearl_top.specs.Ready.{IsReady, start_of}
 use Rattle.pearl_top.specs.SaveDue.{IsSaved, SaveDue, WritesSaved, by_save}
 use Rattle.pearl_top.specs.Saving.{HasRun, IsSnapshotOf}
 use Rattle.pearl_top.specs.Taken.{Finishes, Leaves}
@@ -50,29 +50,29 @@ save_accepted read file journal rose also later o status bytes same on code due 
     from_held AnObject file (IsRefused file) (IsCodeOf file) by_save journal o rose also later status bytes on (subst (λ f. IsCodeOf f o) same code) due
 
 -- the snapshot is due
-save_due : (read file journal : List ℕ) (rose also : Type 0) (o : Object) (seen : Seen) (bytes : List ℕ) → read ≡ file → IsCodeOf read o → HasRun o journal seen →
-    IsSnapshotOf seen bytes → SaveDue file journal rose also Done bytes
-save_due read file journal rose also o seen bytes same code run shot =
-    save_accepted read file journal rose also also o Done bytes same (λ x. x) code (run.within, saved_run o journal seen bytes run shot)
+save_due : (read file journal : List ℕ) (rose also : Type 0) (old seen : Seen) (bytes : List ℕ) → read ≡ file → IsCodeOf read old.object → IsReady old →
+    HasRun old journal seen → IsSnapshotOf seen bytes → SaveDue file journal rose also Done bytes
+save_due read file journal rose also old seen bytes same code ready run shot =
+    save_accepted read file journal rose also also old.object Done bytes same (λ x. x) code (run.within, saved_run old journal seen bytes ready run shot)
 
 -- and was taken whole, or only a front of it
-pub saved_whole : (read file journal : List ℕ) (rose also failed : Type 0) (o : Object) (seen : Seen) (text piece : List ℕ) (old new : Option (List ℕ)) →
-    read ≡ file → IsCodeOf read o → HasRun o journal seen → IsSnapshotOf seen text → piece ≡ text → Takes old new piece →
-    Leaves old new failed (SaveDue file journal rose also) (Ok tt)
-saved_whole read file journal rose also failed o seen text piece old new same code run shot is taken = record {
+pub saved_whole : (read file journal : List ℕ) (rose also failed : Type 0) (old seen : Seen) (text piece : List ℕ) (before after : Option (List ℕ)) →
+    read ≡ file → IsCodeOf read old.object → IsReady old → HasRun old journal seen → IsSnapshotOf seen text → piece ≡ text → Takes before after piece →
+    Leaves before after failed (SaveDue file journal rose also) (Ok tt)
+saved_whole read file journal rose also failed old seen text piece before after same code ready run shot is taken = record {
   bytes = piece;
-  is_due = save_due read file journal rose also o seen piece same code run (subst (IsSnapshotOf seen) (sym is) shot);
+  is_due = save_due read file journal rose also old seen piece same code ready run (subst (IsSnapshotOf seen) (sym is) shot);
   taken = taken;
 }
 
-pub saved_short : (read file journal : List ℕ) (rose also failed : Type 0) (o : Object) (seen : Seen) (text piece : List ℕ) (old new : Option (List ℕ)) →
-    read ≡ file → IsCodeOf read o → HasRun o journal seen → IsSnapshotOf seen text → piece ≡ text → failed → TakesFront old new piece →
-    Leaves old new failed (SaveDue file journal rose also) (Err failure.WriteFault)
-saved_short read file journal rose also failed o seen text piece old new same code run shot is cause front = (
+pub saved_short : (read file journal : List ℕ) (rose also failed : Type 0) (old seen : Seen) (text piece : List ℕ) (before after : Option (List ℕ)) →
+    read ≡ file → IsCodeOf read old.object → IsReady old → HasRun old journal seen → IsSnapshotOf seen text → piece ≡ text → failed →
+    TakesFront before after piece → Leaves before after failed (SaveDue file journal rose also) (Err failure.WriteFault)
+saved_short read file journal rose also failed old seen text piece before after same code ready run shot is cause front = (
   cause,
-  stops_short old new (SaveDue file journal rose also) Done piece []
+  stops_short before after (SaveDue file journal rose also) Done piece []
       (subst (SaveDue file journal rose also Done) (sym (append_nil piece))
-      (save_due read file journal rose also o seen piece same code run (subst (IsSnapshotOf seen) (sym is) shot))) front,
+      (save_due read file journal rose also old seen piece same code ready run (subst (IsSnapshotOf seen) (sym is) shot))) front,
 )
 
 -- FOR ALL WORDS
