@@ -1,5 +1,5 @@
 -- A run that goes on from a saved state writes something, over the entries of a journal of which no line is refused.
-use Rattle.std.proofs.Common.{◌≡◌, ℕ, List, refl, subst, inr}
+use Rattle.std.proofs.Common.{ℕ, List, refl, subst, inr}
 use Rattle.pearl_rules.specs.Entries.{AreFitting}
 use Rattle.pearl_rules.specs.Runs.{machine_after, machine_offers}
 use Rattle.pearl_instructions.specs.Engines.{engine}
@@ -15,7 +15,8 @@ use Rattle.pearl_top.specs.ResumeDue.{ResumeDue}
 use Rattle.pearl_top.specs.Runners.{by_state}
 use Rattle.pearl_top.specs.Transcript.{ended_of}
 
-pub has_resumed : RestoredRunsEnd → (file journal : List ℕ) → CanResume file journal → (bytes : List ℕ) × ResumeDue file journal ⊥ ⊥ Done bytes
+pub has_resumed : RestoredRunsEnd → (file journal : List ℕ) → CanResume file journal →
+    (bytes : List ℕ) × ResumeDue file journal ⊥ ⊥ Done bytes
 has_resumed runs_end file journal order =
     let o = order.state.0 in
     let s = order.state.1 in

@@ -1,5 +1,6 @@
 -- A machine's run from any state: what was told stays told, and where no mark comes any more nothing more is told.
-use Rattle.std.proofs.Common.{◌≡◌, ◌<◌, ◌≤◌, ◌⊎◌, ℕ, zero, suc, ◌+◌, ◌-◌, List, [], ◌++◌, Option, Some, None, refl, ap, sym, ◌∙◌, subst, inl, inr, append-nil, append_assoc, add-zero, add-suc, arith}
+use Rattle.std.proofs.Common.{◌≡◌, ◌<◌, ◌≤◌, ◌⊎◌, ℕ, zero, suc, ◌+◌, ◌-◌, List, [], ◌++◌, Option, Some, None, refl, ap}
+use Rattle.std.proofs.Common.{sym, ◌∙◌, subst, inl, inr, append-nil, append_assoc, add-zero, add-suc, arith}
 use Rattle.std.proofs.lemmas.Bool.{cases_lt}
 use Rattle.std.proofs.lemmas.Option.{none-some}
 use Rattle.pearl_rules.specs.declared.action.Action.{Action}
@@ -7,7 +8,9 @@ use Rattle.pearl_rules.specs.declared.entry.Entry.{Entry}
 use Rattle.pearl_rules.specs.Core.{Core, Report, told_before}
 use Rattle.pearl_rules.specs.Pick.{pick, states}
 use Rattle.pearl_rules.specs.Plans.{millisecond}
-use Rattle.pearl_rules.specs.Runs.{Acts, Arrives, Coming, Engine, Machine, Mark, Passes, Running, Tells, Turns, kept_at, machine_acts, machine_after, machine_does, machine_mark, machine_mark_by, machine_next, machine_offers, machine_step, machine_step_by, unsettled}
+use Rattle.pearl_rules.specs.Runs.{Acts, Arrives, Coming, Engine, Machine, Mark, Passes, Running, Tells, Turns, kept_at}
+use Rattle.pearl_rules.specs.Runs.{machine_acts, machine_after, machine_does, machine_mark, machine_mark_by}
+use Rattle.pearl_rules.specs.Runs.{machine_next, machine_offers, machine_step, machine_step_by, unsettled}
 use Rattle.pearl_rules.proofs.Offered.{arrived-told, effect-told, millisecond-told_before, turned-is}
 use Rattle.pearl_instructions.specs.declared.object.Parts.{Parts as Object}
 use Rattle.pearl_instructions.specs.Engines.{engine}
@@ -37,15 +40,18 @@ millisecond_tells core =
     let behind : core ≡ told_before core.told (untold core) =
     ap (λ told. let c : Core = record core { told = told } in c) (sym (append-nil core.told)) in (
       (millisecond (untold core)).told,
-      ap (λ c. (millisecond c).told) behind ∙ ap (λ (c : Core). c.told) (millisecond-told_before core.told (untold core)),
+      ap (λ c. (millisecond c).told) behind
+          ∙ ap (λ (c : Core). c.told) (millisecond-told_before core.told (untold core)),
     )
 
 module _ {S : Type 0} (e : Engine S) where
-  does_tell : (m : Machine S) (t : ℕ) (rest : List Entry) (stack : S) (offer : Option Action) → TellsOn m (machine_does e m t rest stack offer)
+  does_tell : (m : Machine S) (t : ℕ) (rest : List Entry) (stack : S) (offer : Option Action) →
+      TellsOn m (machine_does e m t rest stack offer)
   does_tell m t rest stack None = tells_same m
   does_tell m t rest stack (Some action) = effect-told m.core t action
 
-  acts_tell : (m : Machine S) (t : ℕ) (rest : List Entry) (running : Option (Running S)) → TellsOn m (machine_acts e m t rest running)
+  acts_tell : (m : Machine S) (t : ℕ) (rest : List Entry) (running : Option (Running S)) →
+      TellsOn m (machine_acts e m t rest running)
   acts_tell m t rest None = tells_same m
   acts_tell m t rest (Some running) = does_tell m t rest running.stack running.offer
 
@@ -72,12 +78,14 @@ module _ {S : Type 0} (e : Engine S) where
   after_tells : (start : Machine S) (n k : ℕ) → TellsOn (machine_after e start n) (machine_after e start (n + k))
   after_tells start n zero = rw add-zero (tells_same (machine_after e start n))
   after_tells start n (suc k) =
-      rw add-suc (tells_both (machine_after e start n) (machine_after e start (n + k)) (machine_step e (machine_after e start (n + k)))
+      rw add-suc (tells_both (machine_after e start n) (machine_after e start (n + k))
+      (machine_step e (machine_after e start (n + k)))
       (after_tells start n k) (step_tells (machine_after e start (n + k))))
 
 -- WHERE NO MARK COMES ANY MORE
 
-done_step : (o : Object) (m : Machine (List Frame)) → IsDone m → IsDone (machine_step (engine o) m) × ((machine_step (engine o) m).core ≡ m.core)
+done_step : (o : Object) (m : Machine (List Frame)) → IsDone m →
+    IsDone (machine_step (engine o) m) × ((machine_step (engine o) m).core ≡ m.core)
 unfolding machine_step
 done_step o m done = by_unsettled (unsettled m) refl
   where
@@ -86,7 +94,8 @@ done_step o m done = by_unsettled (unsettled m) refl
     by_unsettled None is =
         subst (λ next. IsDone (machine_mark_by (engine o) m next) × ((machine_mark_by (engine o) m next).core ≡ m.core))
         (sym (done (pick m.core (machine_offers m)) (λ settled. refl))) (done, refl)
-    by_unsettled (Some (t, stack)) is = (λ q chosen. done q (λ settled. absurd (none-some (t, stack) (sym settled ∙ is))), refl)
+    by_unsettled (Some (t, stack)) is =
+        (λ q chosen. done q (λ settled. absurd (none-some (t, stack) (sym settled ∙ is))), refl)
 
 done_after : (o : Object) (m : Machine (List Frame)) (k : ℕ) → IsDone m →
     IsDone (machine_after (engine o) m k) × ((machine_after (engine o) m k).core ≡ m.core)
@@ -125,14 +134,17 @@ module _ (o : Object) (start : Machine (List Frame)) (end : HasEnd o start) wher
       ap after e ∙ same_later (engine o) start end.steps (n - end.steps) end.over
 
   -- what was told on the way was told first
-  pub tells_first : (n : ℕ) → (more : List (ℕ × Report)) × TellsAtEnd o start ((machine_after (engine o) start n).core.told ++ more)
+  pub tells_first : (n : ℕ) →
+      (more : List (ℕ × Report)) × TellsAtEnd o start ((machine_after (engine o) start n).core.told ++ more)
   tells_first n = by_order (cases_lt end.steps n)
     where
-      by_order : (end.steps < n) ⊎ (n ≤ end.steps) → (more : List (ℕ × Report)) × TellsAtEnd o start ((after n).core.told ++ more)
+      by_order : (end.steps < n) ⊎ (n ≤ end.steps) →
+          (more : List (ℕ × Report)) × TellsAtEnd o start ((after n).core.told ++ more)
       by_order (inl before) = (
         [],
         at_end ((after n).core.told ++ [])
-            (ap (λ (m : Machine (List Frame)). m.core.told) (sym (stays_there n (omega arith))) ∙ sym (append-nil (after n).core.told)),
+            (ap (λ (m : Machine (List Frame)). m.core.told) (sym (stays_there n (omega arith)))
+            ∙ sym (append-nil (after n).core.told)),
       )
       by_order (inr up) =
           let e : end.steps ≡ n + (end.steps - n) = omega arith in
@@ -140,20 +152,24 @@ module _ (o : Object) (start : Machine (List Frame)) (end : HasEnd o start) wher
           (more.0, at_end ((after n).core.told ++ more.0) (ap (λ k. (after k).core.told) e ∙ more.1))
 
   -- and all of it, where no mark came any more
-  pub tells_when_done : (n : ℕ) → IsDone (machine_after (engine o) start n) → TellsAtEnd o start (machine_after (engine o) start n).core.told
+  pub tells_when_done : (n : ℕ) → IsDone (machine_after (engine o) start n) →
+      TellsAtEnd o start (machine_after (engine o) start n).core.told
   tells_when_done n done = by_order (cases_lt end.steps n)
     where
       by_order : (end.steps < n) ⊎ (n ≤ end.steps) → TellsAtEnd o start (after n).core.told
       by_order (inl before) =
-          at_end (after n).core.told (ap (λ (m : Machine (List Frame)). m.core.told) (sym (stays_there n (omega arith))))
+          at_end (after n).core.told
+          (ap (λ (m : Machine (List Frame)). m.core.told) (sym (stays_there n (omega arith))))
       by_order (inr up) =
           let e : end.steps ≡ n + (end.steps - n) = omega arith in
           at_end (after n).core.told
-          (ap (λ k. (after k).core.told) e ∙ ap (λ (m : Machine (List Frame)). m.core.told) (steps_add (engine o) start n (end.steps - n))
+          (ap (λ k. (after k).core.told) e
+          ∙ ap (λ (m : Machine (List Frame)). m.core.told) (steps_add (engine o) start n (end.steps - n))
           ∙ ap (λ (core : Core). core.told) (done_after o (after n) (end.steps - n) done).1)
 
 -- a run ends in one way, wherever it begins
-pub end_once : {S : Type 0} (e : Engine S) (start : Machine S) (end other : Ended) → EndsByCode e start end → EndsByCode e start other → end ≡ other
+pub end_once : {S : Type 0} (e : Engine S) (start : Machine S) (end other : Ended) → EndsByCode e start end →
+    EndsByCode e start other → end ≡ other
 end_once e start end other one two =
     one.is
     ∙ ap (λ m. ended_of m.core (machine_offers m)) (one_machine e start one.steps two.steps

@@ -19,7 +19,8 @@ abbrev pub by_seen : Seen → Runner
 by_seen seen = record {
   setup = setup_of seen.object;
   first = reading_at begin_later seen.state.core.moment;
-  writes = λ es. IsTranscript (setup_of seen.object) (EndsByCode (engine seen.object) (record seen.state { entries = es }));
+  writes = λ es. IsTranscript (setup_of seen.object)
+      (EndsByCode (engine seen.object) (record seen.state { entries = es }));
 }
 
 -- it stands at a saved state of its object, and goes on from there; nothing was written yet

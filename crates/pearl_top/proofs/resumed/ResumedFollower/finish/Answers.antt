@@ -15,7 +15,12 @@ returns-clause-ok g c =
     subst (λ (s : Seen). OnOk c.close.result ((text : List ℕ) × TellsLast s text × Takes old new text)) c.self.view_is
     (on_ok c.close.result _ _ (λ taken. (
       machine_closing (setup_of c.self.inside.machine.object) c.close.new.self.state,
-      record { last = c.close.new.self; handles = c.close.ensures.handles; settled = c.close.ensures.settled; lines = refl },
+      record {
+        last = c.close.new.self;
+        handles = c.close.ensures.handles;
+        settled = c.close.ensures.settled;
+        lines = refl;
+      },
       taken,
     )) c.close.ensures.ok)
 
@@ -23,10 +28,16 @@ pub returns-clause-err : goal.returns-clause-err
 returns-clause-err g c =
     let old = g.K.Sink.taken c.args.sink.now in
     let new = g.K.Sink.taken c.close.new.sink in
-    subst (λ (s : Seen). OnErr c.close.result ((text : List ℕ) × TellsLast s text × TakesFront old new text)) c.self.view_is
+    subst (λ (s : Seen). OnErr c.close.result ((text : List ℕ) × TellsLast s text × TakesFront old new text))
+    c.self.view_is
     (on_err c.close.result _ _ (λ front. (
       machine_closing (setup_of c.self.inside.machine.object) c.close.new.self.state,
-      record { last = c.close.new.self; handles = c.close.ensures.handles; settled = c.close.ensures.settled; lines = refl },
+      record {
+        last = c.close.new.self;
+        handles = c.close.ensures.handles;
+        settled = c.close.ensures.settled;
+        lines = refl;
+      },
       front,
     )) c.close.ensures.err)
 

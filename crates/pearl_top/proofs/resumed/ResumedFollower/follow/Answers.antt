@@ -15,7 +15,8 @@ pub returns-clause-ok : goal.returns-clause-ok
 returns-clause-ok g c =
     let old = g.K.Sink.taken c.args.sink.now in
     let new = g.K.Sink.taken c.entry.new.sink in
-    subst (λ (s : Seen). OnOk c.entry.result ((text : List ℕ) × Tells s (c.args.entry ∷ []) [] c.entry.new.self text × Takes old new text)) c.self.view_is
+    subst (λ (s : Seen). OnOk c.entry.result ((text : List ℕ) × Tells s (c.args.entry ∷ []) [] c.entry.new.self text
+    × Takes old new text)) c.self.view_is
     (on_ok c.entry.result _ _ (λ done. (
       lines_of (setup_of c.self.inside.machine.object) done.0,
       record { told = done.0; object = c.entry.ensures.object; handles = done.1; lines = refl },
@@ -26,7 +27,8 @@ pub returns-clause-err : goal.returns-clause-err
 returns-clause-err g c =
     let old = g.K.Sink.taken c.args.sink.now in
     let new = g.K.Sink.taken c.entry.new.sink in
-    subst (λ (s : Seen). OnErr c.entry.result ((text : List ℕ) × (left : List Entry) × Tells s (c.args.entry ∷ []) left c.entry.new.self text
+    subst (λ (s : Seen). OnErr c.entry.result ((text : List ℕ) × (left : List Entry) ×
+    Tells s (c.args.entry ∷ []) left c.entry.new.self text
     × TakesFront old new text)) c.self.view_is
     (on_err c.entry.result _ _ (λ cut. (
       lines_of (setup_of c.self.inside.machine.object) cut.0,
@@ -40,14 +42,16 @@ entry-requires-clause-taken g c = subst (λ (s : Seen). s.state.core.told ≡ []
 
 pub entry-requires-clause-fits : goal.entry-requires-clause-fits
 entry-requires-clause-fits g c =
-    subst (λ (s : Seen). EntryFits (setup_of s.object) s.state.core.moment c.args.entry) (sym c.self.view_is) c.requires.fits
+    subst (λ (s : Seen). EntryFits (setup_of s.object) s.state.core.moment c.args.entry) (sym c.self.view_is)
+    c.requires.fits
 
 pub returns-clause-rests : goal.returns-clause-rests
 returns-clause-rests g c = c.entry.ensures.all
 
 pub returns-clause-moment : goal.returns-clause-moment
 returns-clause-moment g c =
-    subst (λ (s : Seen). OnOk c.entry.result (c.entry.new.self.state.core.moment ≡ moment_after s.state.core.moment c.args.entry)) c.self.view_is
+    subst (λ (s : Seen). OnOk c.entry.result
+    (c.entry.new.self.state.core.moment ≡ moment_after s.state.core.moment c.args.entry)) c.self.view_is
     c.entry.ensures.moment
 
 pub returns-clause-cause : goal.returns-clause-cause
