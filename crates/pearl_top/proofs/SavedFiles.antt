@@ -16,7 +16,7 @@ use Rattle.pearl_instructions.specs.Valid.{IsValid}
 use Rattle.pearl_journal.specs.Entries.{All, Bad, Entries, entries, entries_from}
 use Rattle.pearl_journal.specs.Lines.{journal_lines}
 use Rattle.pearl_journal.specs.Pieces.{begin_later, reading_at}
-use Rattle.pearl_top.specs.LaterHere.{EndsEachLine, HasNoClock, renumbered, with_front}
+use Rattle.pearl_journal_laws.specs.Later.{EndsEachLine, HasNoClock, renumbered, with_front}
 use Rattle.pearl_machine.specs.Resumed.{saved_of}
 use Rattle.pearl_saved.specs.declared.saved.Saved.{Saved}
 use Rattle.pearl_script.specs.declared.refusal.Refusal.TheVariants as refusal

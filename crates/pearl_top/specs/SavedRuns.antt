@@ -6,7 +6,7 @@ use Rattle.pearl_instructions.specs.declared.object.Parts.{Parts as Object}
 use Rattle.pearl_instructions.specs.Setups.{setup_of}
 use Rattle.pearl_journal.specs.Entries.{All, entries}
 use Rattle.pearl_journal.specs.Lines.{journal_lines}
-use Rattle.pearl_top.specs.LaterHere.{EndsEachLine, HasNoClock}
+use Rattle.pearl_journal_laws.specs.Later.{EndsEachLine, HasNoClock}
 use Rattle.pearl_script.specs.declared.refusal.Refusal.TheVariants as refusal
 use Rattle.pearl_script.specs.Lines.{lines_of}
 use Rattle.pearl_script.specs.Refusals.{refusal_line}

@@ -9,6 +9,7 @@ ghost use Rattle.pearl_top.specs.SoundPrograms.{BodiesRenewRight, ProgramsAreSou
 
 use pearl_instructions::runs::objects_run_as_they_offer;
 use pearl_instructions_laws::laws::runs_end;
+use pearl_journal_laws::journals::{journals_go_on, journals_join};
 use pearl_rules::laws::time_passes;
 use pearl_snap::laws::snapshots_are_read_as_they_are_spelled;
 
@@ -102,5 +103,7 @@ pub fn saved_runs_go_on()
     ensures { SavedRunsGoOn }
 {
     time_passes();
+    journals_join();
+    journals_go_on();
     snapshots_are_read_as_they_are_spelled();
 }

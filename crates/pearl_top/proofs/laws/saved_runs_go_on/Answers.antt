@@ -6,7 +6,7 @@ pub returns : goal.returns
 returns c =
     saved_runs_go_on (record {
       moments = moments_come c.time_passes.ensures.acts c.time_passes.ensures.passes c.time_passes.ensures.arrives;
-      join = ?;
-      go_on = ?;
+      join = c.journals_join.ensures.lines;
+      go_on = c.journals_go_on.ensures;
       again = ?;
     }) c.snapshots_are_read_as_they_are_spelled.ensures.lawful
