@@ -19,8 +19,8 @@ use Rattle.pearl_top.specs.Outcome.{IsOutcome}
 use Rattle.pearl_top.specs.Runners.{CodeEnds}
 use Rattle.pearl_top.specs.Transcript.{Closed, Ended, closing}
 
--- The transcript of an object's own machine over a journal is the first of these bytes and then the second: the lines of all that is
--- told, and the closing lines, which are those of the tasks' states and the last one.
+-- The transcript of an object's own machine over a journal has two parts: the lines of all that is told, and behind them
+-- the closing lines, which are those of the tasks' states and the last one.
 pub record IsTranscriptOf (object journal front last : List ℕ) : Type 0 where
   pub o : Object
   pub code : IsCodeOf object o
@@ -45,13 +45,14 @@ AreRenumbered count BadJournal bytes others = IsRefusedLater count bytes others
 AreRenumbered count status bytes others = others ≡ bytes
 
 -- `exec` over a journal writes these bytes behind the front, and ends with this status
-pub record EndsBehind (object journal : List ℕ) (files : List ℕ → List ℕ) (front : List ℕ) (count : ℕ) (status : Status) (bytes : List ℕ) : Type 0 where
+pub record EndsBehind (object journal : List ℕ) (files : List ℕ → List ℕ) (front : List ℕ) (count : ℕ)
+    (status : Status) (bytes : List ℕ) : Type 0 where
   pub others : List ℕ
   pub renumbered : AreRenumbered count status bytes others
   pub outcome : IsOutcome (Exec object journal) files status (front ++ others)
 
--- `exec` writes a transcript over the first journal; without its closing lines, and with whatever `resume` writes over the second one
--- behind it, it is what `exec` writes over the whole, with the same status
+-- `exec` writes a transcript over the first journal. Without its closing lines, and with whatever `resume` writes over the
+-- second one behind it, it is what `exec` writes over the whole, with the same status.
 pub record GoesOn (object snapshot first second whole : List ℕ) (files : List ℕ → List ℕ) : Type 0 where
   pub front : List ℕ
   pub last : List ℕ
@@ -60,8 +61,8 @@ pub record GoesOn (object snapshot first second whole : List ℕ) (files : List 
   pub goes_on : (status : Status) (bytes : List ℕ) → IsOutcome (Resume snapshot second) files status bytes →
       EndsBehind object whole files front (length (journal_lines (files first))) status bytes
 
--- A file holds what `save` wrote of an object over a first journal, of which each line is ended. A second journal has no line that
--- sets the clock, and a third file holds both, one behind the other. Then `resume` goes on with the run.
+-- A file holds what `save` wrote of an object over a first journal, of which each line is ended. A second journal has no
+-- line that sets the clock, and a third file holds both, one behind the other. Then `resume` goes on with the run.
 abbrev pub SavedRunsGoOn : Type 0
 SavedRunsGoOn = (object snapshot first second whole : List ℕ) (files : List ℕ → List ℕ) →
     IsOutcome (Save object first) files Done (files snapshot) → IsBytes (files snapshot) →
