@@ -1,0 +1,15 @@
+mod Places
+mod Marks
+mod Steps
+mod Sound
+mod Ending
+mod Objects
+mod Cores
+mod Runs
+mod LastMoments
+mod Moments
+mod Again
+mod Saved
+mod OfferedAgain
+mod Offering
+mod Restored
