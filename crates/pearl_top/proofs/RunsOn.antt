@@ -109,7 +109,7 @@ pub record TellsAtEnd (o : Object) (start : Machine (List Frame)) (told : List (
   pub told_is : end.told ≡ told
 
 module _ (o : Object) (start : Machine (List Frame)) (end : HasEnd o start) where
-  after : ℕ → Machine (List Frame)
+  abbrev after : ℕ → Machine (List Frame)
   after n = machine_after (engine o) start n
 
   at_end : (told : List (ℕ × Report)) → (after end.steps).core.told ≡ told → TellsAtEnd o start told
