@@ -11,6 +11,7 @@ use pearl_instructions::runs::objects_run_as_they_offer;
 use pearl_instructions_laws::laws::runs_end;
 use pearl_journal_laws::journals::{journals_go_on, journals_join};
 use pearl_rules::laws::time_passes;
+use pearl_saved_laws::laws::offers_come_again;
 use pearl_snap::laws::snapshots_are_read_as_they_are_spelled;
 
 /// What goes into the variables of tasks and procedures as first values suits them.
@@ -105,5 +106,6 @@ pub fn saved_runs_go_on()
     time_passes();
     journals_join();
     journals_go_on();
+    offers_come_again();
     snapshots_are_read_as_they_are_spelled();
 }

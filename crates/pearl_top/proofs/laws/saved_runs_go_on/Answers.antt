@@ -8,5 +8,6 @@ returns c =
       moments = moments_come c.time_passes.ensures.acts c.time_passes.ensures.passes c.time_passes.ensures.arrives;
       join = c.journals_join.ensures.lines;
       go_on = c.journals_go_on.ensures;
-      again = ?;
+      again = λ o valid lawful es fits n near settled more.
+          let comes = c.offers_come_again.ensures o valid lawful es fits n near settled more in (comes.steps, comes.is, comes.each);
     }) c.snapshots_are_read_as_they_are_spelled.ensures.lawful
