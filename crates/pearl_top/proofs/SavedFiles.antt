@@ -5,7 +5,6 @@ use Rattle.pearl_rules.specs.declared.entry.Entry.{Entry}
 use Rattle.pearl_rules.specs.declared.setup.Setup.{Setup}
 use Rattle.pearl_rules.specs.Entries.{AreFitting, last_moment_of_all, time_in}
 use Rattle.pearl_rules.specs.Runs.{Machine, machine_offers, unsettled}
-use Rattle.pearl_run_laws.proofs.Offered.{moments_come}
 use Rattle.pearl_run_laws.specs.Laws.{MomentsCome}
 use Rattle.pearl_fields.specs.Codec.{IsBytes, IsLawful}
 use Rattle.pearl_stack.specs.Frames.{Frame}
@@ -23,7 +22,6 @@ use Rattle.pearl_saved.specs.declared.saved.Saved.{Saved}
 use Rattle.pearl_script.specs.declared.refusal.Refusal.TheVariants as refusal
 use Rattle.pearl_script.specs.Lines.{lines_of}
 use Rattle.pearl_script.specs.Refusals.{refusal_line}
-use Rattle.pearl_snap.specs.Restoring.{IsSnapshot}
 use Rattle.pearl_snap.specs.Snapshots.{snapshot}
 use Rattle.pearl_top.specs.declared.limits.TheConstants.{JOURNAL_LIMIT, SNAPSHOT_LIMIT}
 use Rattle.pearl_top.specs.declared.status.Status.{Status}
@@ -32,7 +30,7 @@ use Rattle.pearl_top.specs.declared.status.Status.TheVariants.{ReadFault, WriteF
 use Rattle.pearl_top.specs.JournalDue.{IsBadJournal, IsRun, JournalDue}
 use Rattle.pearl_top.specs.ObjectDue.{IsCodeOf}
 use Rattle.pearl_top.specs.Outcome.{IsOutcome}
-use Rattle.pearl_top.specs.Commands.{Exec, Resume, Save}
+use Rattle.pearl_top.specs.Commands.{Exec, Resume}
 use Rattle.pearl_top.specs.Reading.{ASnapshot}
 use Rattle.pearl_top.specs.ResumeDue.{IsNotRestored, IsStateOf, ResumeDue}
 use Rattle.pearl_top.specs.Runners.{CodeEnds, by_code, by_state}
@@ -75,7 +73,7 @@ pub record Stands : Type 0 where
 
 -- ONE SAVED RUN
 
--- a valid object's file, the entries of a first journal, and the state at the end of the run over them, of which these are the bytes
+-- a valid object's file, the entries of a first journal, and the bytes of the state at the end of the run over them
 pub record HasSaved (file first bytes : List ℕ) : Type 0 where
   pub o : Object
   pub code : IsCodeOf file o
@@ -147,7 +145,8 @@ module _ (stands : Stands) (file first second bytes : List ℕ) (has : HasSaved 
     all_read later is =
         ap (entries setup) (stands.join first second ended)
         ∙ stands.go_on setup (journal_lines first) (journal_lines second) has.es has.read clocks
-        ∙ ap (λ moment. behind (entries_from setup (reading_at begin_later moment) (journal_lines second))) (sym moment_is)
+        ∙ ap (λ moment. behind (entries_from setup (reading_at begin_later moment) (journal_lines second)))
+        (sym moment_is)
         ∙ ap behind is
       where
         behind : Entries → Entries
@@ -165,7 +164,8 @@ module _ (stands : Stands) (file first second bytes : List ℕ) (has : HasSaved 
     }
 
     pub bad_whole : (line code : ℕ) (written : List ℕ) →
-        (run : IsRun (by_state o state) (journal_lines second) (Bad line code) (Cut (refusal.Journal line code)) written) →
+        (run : IsRun (by_state o state) (journal_lines second) (Bad line code)
+        (Cut (refusal.Journal line code)) written) →
         IsRun (by_code o) (journal_lines (first ++ second)) (Bad (line + before) code)
         (Cut (refusal.Journal (line + before) code))
         (front ++ (lines_of setup run.written.end.told ++ refusal_line (refusal.Journal (line + before) code)))
@@ -202,18 +202,21 @@ module _ (stands : Stands) (object file first second whole : List ℕ) (files : 
           omega (arith, both, within)
 
       -- the run over the whole journal, by that over the second one
-      whole_done : (bytes : List ℕ) → IsRun (by_state has.o saved_state) (journal_lines (files second)) All Closed bytes →
+      whole_done : (bytes : List ℕ) →
+          IsRun (by_state has.o saved_state) (journal_lines (files second)) All Closed bytes →
           IsRun (by_code has.o) (journal_lines (files whole)) All Closed (head ++ bytes)
       whole_done bytes run =
           subst (λ journal. IsRun (by_code has.o) (journal_lines journal) All Closed (head ++ bytes)) (sym joined)
           (done_whole stands (files object) (files first) (files second) (files file) has ended clocks bytes run)
 
       whole_bad : (bytes : List ℕ) → IsBadJournal (by_state has.o saved_state) (files second) bytes →
-          (others : List ℕ) × IsRefusedLater count bytes others × IsBadJournal (by_code has.o) (files whole) (head ++ others)
+          (others : List ℕ) × IsRefusedLater count bytes others
+          × IsBadJournal (by_code has.o) (files whole) (head ++ others)
       whole_bad bytes bad =
           let here = refusal.Journal bad.line bad.code in
           let there = refusal.Journal (bad.line + count) bad.code in
-          let run : IsRun (by_state has.o saved_state) (journal_lines (files second)) (Bad bad.line bad.code) (Cut here) bytes =
+          let run : IsRun (by_state has.o saved_state) (journal_lines (files second)) (Bad bad.line bad.code)
+          (Cut here) bytes =
           subst (λ lines. IsRun (by_state has.o saved_state) lines (Bad bad.line bad.code) (Cut here) bytes)
           (handled-whole (files second) second_within) bad.run in
           let text : List ℕ = lines_of (setup_of has.o) run.written.end.told in
@@ -223,9 +226,11 @@ module _ (stands : Stands) (object file first second whole : List ℕ) (files : 
             record {
               line = bad.line + count;
               code = bad.code;
-              run = subst (λ lines. IsRun (by_code has.o) lines (Bad (bad.line + count) bad.code) (Cut there) (head ++ others))
+              run = subst (λ lines. IsRun (by_code has.o) lines (Bad (bad.line + count) bad.code) (Cut there)
+                  (head ++ others))
                   (sym (handled-whole (files whole) within ∙ ap journal_lines joined))
-                  (bad_whole stands (files object) (files first) (files second) (files file) has ended clocks bad.line bad.code bytes run);
+                  (bad_whole stands (files object) (files first) (files second)
+                  (files file) has ended clocks bad.line bad.code bytes run);
             },
           )
 
@@ -278,7 +283,8 @@ module _ (stands : Stands) (object file first second whole : List ℕ) (files : 
               (subst (λ (q : Object × Saved). JournalDue (by_state q.0 q.1) (files second) ⊥ status bytes)
               (one_state lawful (files file) p (has.o, saved_state) its.is is_state.is) due)
 
-  saved_goes_on : IsLawful snapshot → SaveDue (files object) (files first) ⊥ ⊥ Done (files file) → IsBytes (files file) →
+  saved_goes_on : IsLawful snapshot → SaveDue (files object) (files first) ⊥ ⊥ Done (files file) →
+      IsBytes (files file) →
       length (files file) ≤ SNAPSHOT_LIMIT → EndsEachLine (files first) → HasNoClock (journal_lines (files second)) →
       files whole ≡ files first ++ files second → length (files whole) ≤ JOURNAL_LIMIT →
       GoesOn object file first second whole files
@@ -292,7 +298,15 @@ module _ (stands : Stands) (object file first second whole : List ℕ) (files : 
         parts = parts stands (files object) (files first) (files second) (files file) has;
         first_ends = record {
           memory = done_known;
-          due = inr (o, code, (first_within, first_run stands (files object) (files first) (files second) (files file) has));
+          due = inr (
+            o,
+            code,
+            (
+              first_within,
+              first_run stands (files object) (files first) (files second)
+                  (files file) has,
+            ),
+          );
         };
         goes_on = goes_on has ended clocks joined within lawful in_bytes short;
       }

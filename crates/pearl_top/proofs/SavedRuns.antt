@@ -1,17 +1,16 @@
 -- The run over two journals is that over the first one, and then that which goes on from its saved state.
-use Rattle.std.proofs.Common.{◌≡◌, ◌≢◌, ◌+◌, ◌-◌, ◌<◌, ◌≤◌, ◌⊎◌, ℕ, List, [], ◌∷◌, ◌++◌, Option, Some, None, inl}
-use Rattle.std.proofs.Common.{inr, refl, ap, sym, ◌∙◌, subst, append_assoc, zero-add, arith}
+use Rattle.std.proofs.Common.{◌≡◌, ◌≢◌, ◌↔◌, ◌+◌, ◌-◌, ◌<◌, ◌≤◌, ◌⊎◌, ℕ, List, [], ◌∷◌, ◌++◌, Option, Some, None, inl}
+use Rattle.std.proofs.Common.{inr, refl, ap, sym, ◌∙◌, subst, append_assoc, arith}
 use Rattle.std.proofs.lemmas.Bool.{cases_lt}
 use Rattle.std.proofs.lemmas.Option.{none-some}
 use Rattle.pearl_rules.specs.declared.entry.Entry.{Entry}
 use Rattle.pearl_rules.specs.Core.{Core, Report, told_before}
-use Rattle.pearl_rules.specs.Entries.{time_in}
-use Rattle.pearl_rules.specs.Pick.{states}
 use Rattle.pearl_rules.specs.Runs.{Coming, Machine, mapped, machine_after, machine_next, machine_offers, offer_of}
 use Rattle.pearl_rules.specs.Runs.{kept_at, unsettled, unsettled_from}
 use Rattle.pearl_rules.proofs.Offered.{states-offers}
+use Rattle.pearl_run_laws.specs.Parts.{IsParted}
 use Rattle.pearl_run_laws.specs.GoingOn.{EndsAfter, StandAlike, gone_on, over}
-use Rattle.pearl_run_laws.proofs.Offered.{after_after, moments_come, runs_go_on}
+use Rattle.pearl_run_laws.proofs.Offered.{after_after, entries_part, runs_go_on}
 use Rattle.pearl_stack.specs.Frames.{Frame}
 use Rattle.pearl_instructions.specs.declared.object.Parts.{Parts as Object}
 use Rattle.pearl_instructions.specs.Engines.{engine}
@@ -19,7 +18,8 @@ use Rattle.pearl_instructions.specs.Setups.{setup_of}
 use Rattle.pearl_machine.specs.Resumed.{saved_of}
 use Rattle.pearl_script.specs.Lines.{lines_of}
 use Rattle.pearl_top.specs.Ready.{start_of}
-use Rattle.pearl_top.specs.Runners.{CodeEnds, EndsByCode, going_on}
+use Rattle.pearl_top.specs.Runners.{CodeEnds, EndsByCode, by_code, going_on}
+use Rattle.pearl_top.specs.SavedRuns.{PartsWriteAlike}
 use Rattle.pearl_top.specs.Transcript.{Close, Closed, Cut, Ended, IsTranscript, closing, ended_of}
 use Rattle.pearl_top.proofs.TranscriptLaws.{lines_of-append}
 
@@ -49,7 +49,8 @@ ends_alike : (before : List (ℕ × Report)) (a b : Machine (List Frame)) → St
 ends_alike before a b alike =
     ap (λ (c : Core). ended_of c (machine_offers b)) alike.core
     ∙ ap (λ stand. told_first before (record { told = a.core.told; stand = stand; moment = a.core.moment }))
-    (states-offers (told_before before a.core) a.core (machine_offers b) (machine_offers a) refl refl refl refl refl refl
+    (states-offers (told_before before a.core) a.core (machine_offers b)
+    (machine_offers a) refl refl refl refl refl refl
     (λ t. ap (λ running. offer_of (kept_at running t)) alike.running))
 
 module _ (o : Object) (es : List Entry) (n : ℕ)
@@ -83,10 +84,12 @@ module _ (o : Object) (es : List Entry) (n : ℕ)
         by_order (inr later) = later
 
         as_told : (told : Ended) →
-            told ≡ ended_of (on_after o last more ended.steps).core (machine_offers (on_after o last more ended.steps)) →
+            told ≡ ended_of (on_after o last more ended.steps).core
+            (machine_offers (on_after o last more ended.steps)) →
             (j : ℕ) →
             StandAlike last.core.told (on_after o last more ended.steps)
-            (machine_after (engine o) (start_of o (es ++ more)) j) → CodeEnds o (es ++ more) (told_first last.core.told told)
+            (machine_after (engine o) (start_of o (es ++ more)) j) →
+            CodeEnds o (es ++ more) (told_first last.core.told told)
         as_told told is j alike = record {
           steps = j;
           settled = ap (unsettled_from 0) alike.running ∙ ended.settled;
@@ -112,6 +115,49 @@ module _ (o : Object) (es : List Entry) (n : ℕ)
           end = told_first last.core.told end;
           ends = whole_ends more end again ended;
           text = sym (append_assoc front behind (closing (setup_of o) end close))
-              ∙ ap (λ x. x ++ closing (setup_of o) end close) (sym (lines_of-append (setup_of o) last.core.told end.told))
+              ∙ ap (λ x. x ++ closing (setup_of o) end close)
+              (sym (lines_of-append (setup_of o) last.core.told end.told))
               ∙ ap (λ x. lines_of (setup_of o) (last.core.told ++ end.told) ++ x) (sym (closing_same end close));
         }
+
+-- ENTRIES IN PARTS
+
+module _ (o : Object) (before after : List Entry) (one : Entry) (parts : List Entry) (is : IsParted one parts) where
+  abbrev whole : Machine (List Frame)
+  whole = start_of o (before ++ one ∷ after)
+
+  abbrev parted : Machine (List Frame)
+  parted = start_of o (before ++ (parts ++ after))
+
+  alike : (n : ℕ) → StandAlike [] (machine_after (engine o) whole n) (machine_after (engine o) parted n)
+  alike n = entries_part (engine o) (start_of o []) before after one parts is n
+
+  to_parts : (end : Ended) → EndsByCode (engine o) whole end → EndsByCode (engine o) parted end
+  to_parts end ended =
+      let same = alike ended.steps in
+      record {
+        steps = ended.steps;
+        settled = ap (unsettled_from 0) same.running ∙ ended.settled;
+        no_mark = none_comes _ _ same.next ended.no_mark;
+        is = ended.is ∙ sym (ends_alike [] _ _ same);
+      }
+
+  from_parts : (end : Ended) → EndsByCode (engine o) parted end → EndsByCode (engine o) whole end
+  from_parts end ended =
+      let same = alike ended.steps in
+      record {
+        steps = ended.steps;
+        settled = ap (unsettled_from 0) (sym same.running) ∙ ended.settled;
+        no_mark = none_comes _ _ (sym same.next) ended.no_mark;
+        is = ended.is ∙ ends_alike [] _ _ same;
+      }
+
+  write_alike : (close : Close) (bytes : List ℕ) →
+      (by_code o).writes (before ++ one ∷ after) close bytes ↔ (by_code o).writes (before ++ (parts ++ after)) close bytes
+  write_alike closes bytes = (
+    λ written. record { end = written.end; ends = to_parts written.end written.ends; text = written.text },
+    λ written. record { end = written.end; ends = from_parts written.end written.ends; text = written.text },
+  )
+
+pub parts_write_alike : PartsWriteAlike
+parts_write_alike o before after one parts is close bytes = write_alike o before after one parts is close bytes

@@ -4,7 +4,7 @@
 ghost use Rattle.pearl_top.specs.Laws.{HasOneMeaning, HasOneTranscript, HasOneStatus, HasOneText};
 ghost use Rattle.pearl_top.specs.Laws.{CompiledRunsAlike, FilesInOrderEndWell, ObjectsWriteAlike, PrintsItsText, ValidObjectsRun};
 ghost use Rattle.pearl_top.specs.Resumed.{RestoredRunsEnd};
-ghost use Rattle.pearl_top.specs.SavedRuns.{SavedRunsGoOn};
+ghost use Rattle.pearl_top.specs.SavedRuns.{PartsWriteAlike, SavedRunsGoOn};
 ghost use Rattle.pearl_top.specs.SoundPrograms.{BodiesRenewRight, ProgramsAreSound};
 
 use pearl_instructions::runs::objects_run_as_they_offer;
@@ -109,3 +109,9 @@ pub fn saved_runs_go_on()
     offers_come_again();
     snapshots_are_read_as_they_are_spelled();
 }
+
+/// Each mark can be the end of a first journal. Over `run`, `tick` or `pass` in two parts, wherever it stands, an object's own
+/// machine writes what it writes over the whole of it.
+pub fn parts_write_alike()
+    ensures { PartsWriteAlike }
+{}
