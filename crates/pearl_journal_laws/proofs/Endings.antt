@@ -19,7 +19,7 @@ use Rattle.pearl_journal_laws.proofs.Writing.{ends_behind}
 abbrev pub EndsWell : List ℕ → Type 0
 EndsWell text = (text ≢ []) × EndsInNoReturn text
 
-behind : (before text : List ℕ) → EndsWell text → EndsWell (before ++ text)
+pub behind : (before text : List ℕ) → EndsWell text → EndsWell (before ++ text)
 behind before text well = (some before, ends_behind before text well.0 well.1)
   where
     some : (before : List ℕ) → before ++ text ≢ []

@@ -1,5 +1,6 @@
 mod Writing
 mod Parting
+mod Trimming
 mod Endings
 mod Saying
 mod Numbers
@@ -14,7 +15,9 @@ mod Durations
 mod Literals
 mod Values
 mod Readings
+mod Joining
 mod StepLaws
 mod ArrivalLaws
 mod Returns
+mod Looking
 mod Examples

@@ -14,7 +14,7 @@ abbrev pub Begins : List ℕ → Type 0
 Begins text = (byte : ℕ) (rest : List ℕ) → text ≡ byte ∷ rest → is_blank byte ≡ false
 
 -- no blank comes last
-abbrev Ends : List ℕ → Type 0
+abbrev pub Ends : List ℕ → Type 0
 Ends text = (front : List ℕ) (byte : ℕ) → text ≡ front ++ byte ∷ [] → is_blank byte ≡ false
 
 -- blanks, and a text that begins with none
@@ -48,12 +48,12 @@ fronted (b ∷ bytes) = by (is_blank b) refl (fronted bytes)
         }
 
 -- a text that ends in no blank, and blanks
-record Backed (bytes : List ℕ) : Type 0 where
+pub record Backed (bytes : List ℕ) : Type 0 where
   pub text : List ℕ
-  back : List ℕ
-  is_gap : IsGap back
+  pub back : List ℕ
+  pub is_gap : IsGap back
   pub spelled : bytes ≡ text ++ back
-  ends : Ends text
+  pub ends : Ends text
 
 no_last : (front : List ℕ) (byte : ℕ) → [] ≡ front ++ byte ∷ [] → ⊥
 no_last [] byte e = cc
@@ -67,7 +67,7 @@ more_ends : (b next : ℕ) (text : List ℕ) → Ends (next ∷ text) → Ends (
 more_ends b next text ends [] byte e = let no : ⊥ = cc in absurd no
 more_ends b next text ends (c ∷ front) byte e = ends front byte cc
 
-backed : (bytes : List ℕ) → Backed bytes
+pub backed : (bytes : List ℕ) → Backed bytes
 backed [] =
     record { text = []; back = []; is_gap = tt; spelled = refl; ends = λ front byte e. absurd (no_last front byte e) }
 backed (b ∷ bytes) = let r = backed bytes in by r.text r.back r.is_gap r.spelled r.ends (is_blank b) refl
@@ -152,7 +152,7 @@ worded (b ∷ bytes) = by (is_blank b) refl (worded bytes)
         }
 
 -- what is behind others ends as all do
-ends_of : (before text : List ℕ) → Ends (before ++ text) → Ends text
+pub ends_of : (before text : List ℕ) → Ends (before ++ text) → Ends text
 ends_of before text ends front byte e =
     ends (before ++ front) byte (ap (λ t. before ++ t) e ∙ sym (append_assoc before front (byte ∷ [])))
 

@@ -20,8 +20,8 @@ use Rattle.pearl_journal.specs.Readings.{Reading}
 use Rattle.pearl_journal.specs.Texts.{quoted, text_literal}
 use Rattle.pearl_journal.specs.Values.{literal}
 use Rattle.pearl_journal.specs.Words.{before_blanks, behind_blanks, behind_word, first_word, is_blank, number, task_named}
-use Rattle.pearl_journal.proofs.Offered.{StopsWord, after_first-word, before_blanks-bare, before_blanks-first}
-use Rattle.pearl_journal.proofs.Offered.{before_first-word, behind_blanks-bare, behind_blanks-gap, without_return-drops}
+use Rattle.pearl_journal.proofs.Offered.{before_blanks-bare, before_blanks-first}
+use Rattle.pearl_journal.proofs.Offered.{behind_blanks-bare, behind_blanks-gap, without_return-drops}
 use Rattle.pearl_journal_laws.specs.Says.{IsOther}
 use Rattle.pearl_journal_laws.proofs.ArrivalLaws.{numbered_none, terminal_no_text}
 use Rattle.pearl_journal_laws.proofs.Endings.{EndsWell, id_ends, literal_ends, no_return_by, number_ends, text_ends, time_ends}
@@ -32,6 +32,7 @@ use Rattle.pearl_journal_laws.proofs.Saying.{need_either}
 use Rattle.pearl_journal_laws.proofs.StepLaws.{no_form}
 use Rattle.pearl_journal_laws.proofs.Texts.{no_literal, no_text}
 use Rattle.pearl_journal_laws.proofs.TimesOfDay.{was_time}
+use Rattle.pearl_journal_laws.proofs.Trimming.{behind_is, word_is}
 use Rattle.pearl_journal_laws.proofs.Writing.{last_behind}
 
 -- LAST BYTES
@@ -53,7 +54,7 @@ last_same (f ∷ front) [] byte last e = let none : front ++ byte ∷ [] ≡ [] 
     empty (b ∷ bytes) e = cc
 last_same (f ∷ front) (o ∷ other) byte last e = last_same front other byte last cc
 
-no_gap : (front : List ℕ) → IsGap (front ++ 13 ∷ []) → ⊥
+pub no_gap : (front : List ℕ) → IsGap (front ++ 13 ∷ []) → ⊥
 no_gap [] gap = let no : false ≡ true = gap.0 in false≢true no
 no_gap (b ∷ front) gap = no_gap front gap.1
 
@@ -180,30 +181,7 @@ other_word word is =
     other : (known : List ℕ) → EndsInNoReturn known → word ≢ known
     other known ends e = ends is.0 (sym e ∙ is.1)
 
-stops : (w : List ℕ) (text : List ℕ) → IsGap w → (w ≡ [] → text ≡ []) → StopsWord (w ++ text)
-stops [] text is parted byte more e = let none = parted refl in cc (e, none)
-stops (b ∷ gap) text is parted byte more e = cc (e, is.0)
-
-text_behind : (gap text : List ℕ) → IsGap gap → (gap ≡ [] → text ≡ []) →
-    ((byte : ℕ) (rest : List ℕ) → text ≡ byte ∷ rest → is_blank byte ≡ false) →
-    behind_blanks (drop 1 (gap ++ text)) ≡ text
-text_behind [] text is parted begins =
-    let none = parted refl in ap (λ t. behind_blanks (drop 1 t)) none ∙ sym none
-text_behind (b ∷ gap) text is parted begins = behind_blanks-gap gap text is.1 ∙ behind_blanks-bare text begins
-
 module _ (text : List ℕ) (is : EndsInReturn text) (w : Worded text) where
-  word_is : first_word text ≡ w.word
-  word_is =
-      ap first_word w.spelled
-      ∙ before_first-word w.word (w.gap ++ w.text) w.solid (stops w.gap w.text w.is_gap w.parted)
-
-  behind_is : behind_word text ≡ w.text
-  behind_is =
-      ap behind_word w.spelled
-      ∙ ap behind_blanks
-      (after_first-word w.word (w.gap ++ w.text) w.solid (stops w.gap w.text w.is_gap w.parted))
-      ∙ text_behind w.gap w.text w.is_gap w.parted w.begins
-
   word_ends : (gap : List ℕ) → IsGap gap → text ≡ w.word ++ gap → EndsInReturn w.word
   word_ends [] gap e = (is.0, sym (e ∙ append-nil w.word) ∙ is.1)
   word_ends (b ∷ bytes) gap e =
@@ -213,8 +191,8 @@ module _ (text : List ℕ) (is : EndsInReturn text) (w : Worded text) where
   -- where nothing stands behind the word, the last byte is the word's
   first_ends : behind_word text ≡ [] → EndsInReturn (first_word text)
   first_ends none =
-      let nothing : w.text ≡ [] = sym behind_is ∙ none in
-      subst EndsInReturn (sym word_is)
+      let nothing : w.text ≡ [] = sym (behind_is text w) ∙ none in
+      subst EndsInReturn (sym (word_is text w))
       (word_ends w.gap w.is_gap
       (w.spelled ∙ ap (λ t. w.word ++ (w.gap ++ t)) nothing ∙ ap (λ t. w.word ++ t) (append-nil w.gap)))
 

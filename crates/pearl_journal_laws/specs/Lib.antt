@@ -10,3 +10,5 @@ pub mod Durations
 pub mod Literals
 -- how far a journal was read
 pub mod Readings
+-- what the lines of a journal mean behind those of another one, and what is the same if they stand alone
+pub mod Later

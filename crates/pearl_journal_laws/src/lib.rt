@@ -2,5 +2,6 @@
 #![tactic(auto)]
 
 pub mod arrivals;
+pub mod journals;
 pub mod lines;
 pub mod steps;

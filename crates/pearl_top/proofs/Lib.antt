@@ -39,3 +39,5 @@ mod Explained
 mod FetchLaws
 mod RunsOn
 mod ResumedRuns
+mod SavedRuns
+mod SavedFiles

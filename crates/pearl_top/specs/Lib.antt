@@ -56,3 +56,5 @@ pub mod Ready
 pub mod Followers
 -- a machine that goes on from a saved state, as what goes over a journal
 pub mod Resumed
+-- when a run that was saved goes on as if it had not been stopped
+pub mod SavedRuns

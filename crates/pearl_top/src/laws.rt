@@ -3,11 +3,14 @@
 
 ghost use Rattle.pearl_top.specs.Laws.{HasOneMeaning, HasOneTranscript, HasOneStatus, HasOneText};
 ghost use Rattle.pearl_top.specs.Laws.{CompiledRunsAlike, FilesInOrderEndWell, ObjectsWriteAlike, PrintsItsText, ValidObjectsRun};
+ghost use Rattle.pearl_top.specs.SavedRuns.{PartsWriteAlike, SavedRunsGoOn};
 ghost use Rattle.pearl_top.specs.SoundPrograms.{BodiesRenewRight, ProgramsAreSound};
 
 use pearl_instructions::runs::objects_run_as_they_offer;
 use pearl_instructions_laws::laws::runs_end;
-use pearl_saved_laws::laws::restored_runs_end;
+use pearl_journal_laws::journals::{journals_go_on, journals_join};
+use pearl_rules::laws::time_passes;
+use pearl_saved_laws::laws::{offers_come_again, restored_runs_end};
 use pearl_snap::laws::snapshots_are_read_as_they_are_spelled;
 
 /// What goes into the variables of tasks and procedures as first values suits them.
@@ -84,4 +87,25 @@ pub fn compiled_runs_alike()
 /// hours or more and what was written is no longer than a source may be.
 pub fn prints_its_text()
     ensures { PrintsItsText }
+{}
+
+/// A run that was saved goes on as if it had not been stopped. Let `save` have written a snapshot of an object's run over a first
+/// journal, of which each line is ended by byte 10, and let no line of a second journal set the clock. Then the transcript over the
+/// first one, without its closing lines, followed by what `resume` writes of the snapshot over the second one, is the transcript over
+/// both journals, one behind the other, and the status is the same; only the number of a refused line counts the lines of the first
+/// journal too.
+pub fn saved_runs_go_on()
+    ensures { SavedRunsGoOn }
+{
+    time_passes();
+    journals_join();
+    journals_go_on();
+    offers_come_again();
+    snapshots_are_read_as_they_are_spelled();
+}
+
+/// Each mark can be the end of a first journal. Over `run`, `tick` or `pass` in two parts, wherever it stands, an object's own
+/// machine writes what it writes over the whole of it.
+pub fn parts_write_alike()
+    ensures { PartsWriteAlike }
 {}
