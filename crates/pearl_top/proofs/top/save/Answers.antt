@@ -1,4 +1,4 @@
-use Rattle.std.proofs.Common.{[], refl, ap, sym, subst, ◌∙◌, Err}
+use Rattle.std.proofs.Common.{[], refl, sym, subst, ◌∙◌, Err, arith}
 use Rattle.std.proofs.lemmas.Result.{err_from_is_err_and}
 use Rattle.pearl_io.specs.Outside.{CountRose, WriteFailed}
 use Rattle.pearl_io.proofs.Offered.{rose_since}
@@ -157,3 +157,66 @@ go_over-requires-clause-unread g c = c.in_ok-lines.ensures
 
 pub snapshot_of-requires : goal.snapshot_of-requires
 snapshot_of-requires g c = c.in_ok-go_over.ensures.ok.2.rests
+
+pub returns-in_err-bytes-clause-held : goal.returns-in_err-bytes-clause-held
+returns-in_err-bytes-clause-held g c = c.read_whole.ensures.held
+
+pub returns-in_err-bytes-clause-shelf_later : goal.returns-in_err-bytes-clause-shelf_later
+returns-in_err-bytes-clause-shelf_later g c = c.read_whole.ensures.later
+
+pub returns-in_err-bytes-clause-sink_later : goal.returns-in_err-bytes-clause-sink_later
+returns-in_err-bytes-clause-sink_later g c = omega arith
+
+pub returns-in_err-machine-clause-held : goal.returns-in_err-machine-clause-held
+returns-in_err-machine-clause-held g c = c.read_whole.ensures.held
+
+pub returns-in_err-machine-clause-shelf_later : goal.returns-in_err-machine-clause-shelf_later
+returns-in_err-machine-clause-shelf_later g c = c.read_whole.ensures.later
+
+pub returns-in_err-machine-clause-sink_later : goal.returns-in_err-machine-clause-sink_later
+returns-in_err-machine-clause-sink_later g c = omega arith
+
+pub returns-in_err-lines-clause-held : goal.returns-in_err-lines-clause-held
+returns-in_err-lines-clause-held g c = c.read_whole.ensures.held
+
+pub returns-in_err-lines-clause-shelf_later : goal.returns-in_err-lines-clause-shelf_later
+returns-in_err-lines-clause-shelf_later g c = c.read_whole.ensures.later
+
+pub returns-in_err-lines-clause-sink_later : goal.returns-in_err-lines-clause-sink_later
+returns-in_err-lines-clause-sink_later g c = omega arith
+
+pub returns-in_err-go_over-clause-held : goal.returns-in_err-go_over-clause-held
+returns-in_err-go_over-clause-held g c = c.go_over.ensures.held ∙ c.read_whole.ensures.held
+
+pub returns-in_err-go_over-clause-shelf_later : goal.returns-in_err-go_over-clause-shelf_later
+returns-in_err-go_over-clause-shelf_later g c name = omega (arith, c.read_whole.ensures.later name, c.go_over.ensures.shelf_later name)
+
+pub returns-in_err-go_over-clause-sink_later : goal.returns-in_err-go_over-clause-sink_later
+returns-in_err-go_over-clause-sink_later g c = omega arith
+
+pub returns-in_err-text-clause-held : goal.returns-in_err-text-clause-held
+returns-in_err-text-clause-held g c = c.go_over.ensures.held ∙ c.read_whole.ensures.held
+
+pub returns-in_err-text-clause-shelf_later : goal.returns-in_err-text-clause-shelf_later
+returns-in_err-text-clause-shelf_later g c name = omega (arith, c.read_whole.ensures.later name, c.go_over.ensures.shelf_later name)
+
+pub returns-in_err-text-clause-sink_later : goal.returns-in_err-text-clause-sink_later
+returns-in_err-text-clause-sink_later g c = omega arith
+
+pub returns-in_err-put_all-clause-held : goal.returns-in_err-put_all-clause-held
+returns-in_err-put_all-clause-held g c = c.go_over.ensures.held ∙ c.read_whole.ensures.held
+
+pub returns-in_err-put_all-clause-shelf_later : goal.returns-in_err-put_all-clause-shelf_later
+returns-in_err-put_all-clause-shelf_later g c name = omega (arith, c.read_whole.ensures.later name, c.go_over.ensures.shelf_later name)
+
+pub returns-in_err-put_all-clause-sink_later : goal.returns-in_err-put_all-clause-sink_later
+returns-in_err-put_all-clause-sink_later g c = c.put_all.ensures.later
+
+pub returns-clause-held : goal.returns-clause-held
+returns-clause-held g c = c.go_over.ensures.held ∙ c.read_whole.ensures.held
+
+pub returns-clause-shelf_later : goal.returns-clause-shelf_later
+returns-clause-shelf_later g c name = omega (arith, c.read_whole.ensures.later name, c.go_over.ensures.shelf_later name)
+
+pub returns-clause-sink_later : goal.returns-clause-sink_later
+returns-clause-sink_later g c = c.put_all.ensures.later
