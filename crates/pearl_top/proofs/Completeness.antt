@@ -3,8 +3,11 @@ use Rattle.std.proofs.Common.{◌≡◌, ◌≢◌, ℕ, List, Option, refl, ap�
 use Rattle.pearl_rules.specs.declared.entry.Entry.{Entry}
 use Rattle.pearl_rules.specs.Runs.{source_offers, source_run}
 use Rattle.pearl_rules.proofs.Offered.{source_ends}
+use Rattle.pearl_saved_laws.specs.Laws.{RestoredRunsEnd}
 use Rattle.pearl_meaning.specs.Programs.{offer}
 use Rattle.pearl_program.specs.PlainPrograms.{PlainProg}
+use Rattle.pearl_fields.specs.Codec.{IsLawful}
+use Rattle.pearl_snap.specs.Snapshots.{snapshot}
 use Rattle.pearl_top.specs.declared.status.Status.{Status}
 use Rattle.pearl_top.specs.declared.status.Status.TheVariants.{Done, ReadFault, WriteFault, NoMemory}
 use Rattle.pearl_instructions.specs.declared.object.Parts.{Parts as Object}
@@ -12,7 +15,7 @@ use Rattle.pearl_instructions.specs.Setups.{setup_of}
 use Rattle.pearl_bench.specs.Texts.{source_of}
 use Rattle.pearl_top.specs.BenchDue.{IsBench}
 use Rattle.pearl_top.specs.CheckDue.{IsAccepted, IsUnaccepted}
-use Rattle.pearl_top.specs.Commands.{Command, Run, Check, Print, Compile, Exec, Listed, Bench, Watch, NoCommand}
+use Rattle.pearl_top.specs.Commands.{Command, Run, Check, Print, Compile, Exec, Listed, Bench, Watch, Save, Resume, NoCommand}
 use Rattle.pearl_top.specs.CompileDue.{IsCompiled}
 use Rattle.pearl_top.specs.Complete.{AreInOrder, CanExecute, IsInOrder}
 use Rattle.pearl_journal.specs.Entries.{All, entries}
@@ -39,6 +42,9 @@ use Rattle.pearl_top.proofs.ObjectLaws.{never_none, never_refused, one_code}
 use Rattle.pearl_top.proofs.OneProgram.{one_meaning}
 use Rattle.pearl_top.proofs.DueLaws.{handled-whole}
 use Rattle.pearl_top.proofs.PrintLaws.{never_unspelled}
+use Rattle.pearl_top.proofs.ResumeEnds.{has_resumed}
+use Rattle.pearl_top.proofs.ResumeLaws.{resume_completes, resume_unread_free}
+use Rattle.pearl_top.proofs.SaveLaws.{save_completes, save_unread_free}
 use Rattle.pearl_top.proofs.TakenLaws.{finishes_of}
 use Rattle.pearl_top.proofs.WatchEnds.{has_watched}
 use Rattle.pearl_top.proofs.WatchLaws.{watch_completes, watch_unread_free}
@@ -56,40 +62,44 @@ code_not_bad o object journal bytes code order bad =
     not_bad (by_code o) journal bytes order.es
     (ap₂ (λ q lines. entries (setup_of q) lines) (sym same) (handled-whole journal order.within) ∙ order.read) bad
 
-due_completes : (command : Command) (files : List ℕ → List ℕ) (rose : List ℕ → Type 0) (status : Status) (bytes : List ℕ) → IsInOrder command files →
+due_completes : IsLawful snapshot → (command : Command) (files : List ℕ → List ℕ) (rose : List ℕ → Type 0) (status : Status) (bytes : List ℕ) → IsInOrder command files →
     Due command files rose status bytes → status ≢ NoMemory → status ≢ ReadFault → status ≡ Done
-due_completes NoCommand files rose status bytes order due no_memory no_read = absurd order
-due_completes (Run source journal) files rose status bytes order due no_memory no_read =
+due_completes spelled NoCommand files rose status bytes order due no_memory no_read = absurd order
+due_completes spelled (Run source journal) files rose status bytes order due no_memory no_read =
     from_completes ASource (files source) (IsUnaccepted (files source)) (IsSource (files source)) by_rules (files journal) (rose source) (rose journal) status bytes
     order.is_source.is.is.within (λ line. not_refused (files source) line order.p order.is_source) order.within
     (λ p line is. rules_not_bad p (files source) (files journal) line is order) due no_memory no_read
-due_completes (Exec object journal) files rose status bytes order due no_memory no_read =
+due_completes spelled (Exec object journal) files rose status bytes order due no_memory no_read =
     from_completes AnObject (files object) (IsRefused (files object)) (IsCodeOf (files object)) by_code (files journal) (rose object) (rose journal) status bytes
     order.is.is.within (λ line. never_refused (files object) line order.o order.is) order.within
     (λ o line code. code_not_bad o (files object) (files journal) line code order) due no_memory no_read
-due_completes (Watch object journal names) files rose status bytes order due no_memory no_read =
+due_completes spelled (Watch object journal names) files rose status bytes order due no_memory no_read =
     watch_completes (files object) names (files journal) (rose object) (rose journal) status bytes order due no_memory no_read
-due_completes (Check source) files rose status bytes order due no_memory no_read =
+due_completes spelled (Save object journal) files rose status bytes order due no_memory no_read =
+    save_completes (files object) (files journal) (rose object) (rose journal) status bytes order due no_memory no_read
+due_completes spelled (Resume state journal) files rose status bytes order due no_memory no_read =
+    resume_completes spelled (files state) (files journal) (rose state) (rose journal) status bytes order due no_memory no_read
+due_completes spelled (Check source) files rose status bytes order due no_memory no_read =
     at_file_completes ASource (files source) (IsAccepted (files source)) (IsUnaccepted (files source)) (rose source) status bytes order.is.within
     (λ line. never_unaccepted (files source) line order) due no_memory no_read
-due_completes (Print source) files rose status bytes order due no_memory no_read =
+due_completes spelled (Print source) files rose status bytes order due no_memory no_read =
     at_file_completes ASource (files source) (IsPrinted (files source)) (IsUnspelled (files source)) (rose source) status bytes order.1.within
     (λ line. never_unspelled (files source) line order.0 order.1) due no_memory no_read
-due_completes (Compile source) files rose status bytes order due no_memory no_read =
+due_completes spelled (Compile source) files rose status bytes order due no_memory no_read =
     at_file_completes ASource (files source) (IsCompiled (files source)) (IsUnaccepted (files source)) (rose source) status bytes order.is.within
     (λ line. never_unaccepted (files source) line order) due no_memory no_read
-due_completes (Listed object) files rose status bytes order due no_memory no_read =
+due_completes spelled (Listed object) files rose status bytes order due no_memory no_read =
     at_file_completes AnObject (files object) (IsListed (files object)) (IsNoObject (files object)) (rose object) status bytes order.1.within
     (λ line. never_none (files object) line order.0 order.1) due no_memory no_read
-due_completes (Bench n) files rose status bytes order due no_memory no_read =
+due_completes spelled (Bench n) files rose status bytes order due no_memory no_read =
     at_file_completes ASource (source_of n) (IsBench n) (IsUnaccepted (source_of n)) ⊥ status bytes order.is_source.is.is.within
     (λ line. never_unaccepted (source_of n) line order.is_source.is) due no_memory no_read
 
-pub completes : (command : Command) (files : List ℕ → List ℕ) (rose : List ℕ → Type 0) (old new : Option (List ℕ)) (status : Status) →
+pub completes : IsLawful snapshot → (command : Command) (files : List ℕ → List ℕ) (rose : List ℕ → Type 0) (old new : Option (List ℕ)) (status : Status) →
     Ends old new (Due command files rose) status → IsInOrder command files → status ≢ NoMemory → status ≢ ReadFault → status ≢ WriteFault → status ≡ Done
-completes command files rose old new status ends order no_memory no_read no_write =
+completes spelled command files rose old new status ends order no_memory no_read no_write =
     let done = finishes_of old new (Due command files rose) status no_write ends in
-    due_completes command files rose status done.bytes order done.is_due no_memory no_read
+    due_completes spelled command files rose status done.bytes order done.is_due no_memory no_read
 
 -- WHAT IS DUE THEN
 
@@ -105,10 +115,10 @@ has_transcript p es =
       },
     )
 
-has_outcome : ValidObjectsRun → (command : Command) (files : List ℕ → List ℕ) → IsInOrder command files → HasSomething command files →
+has_outcome : ValidObjectsRun → RestoredRunsEnd → (command : Command) (files : List ℕ → List ℕ) → IsInOrder command files → HasSomething command files →
     (bytes : List ℕ) × IsOutcome command files Done bytes
-has_outcome run NoCommand files order some = absurd order
-has_outcome run (Run source journal) files order some =
+has_outcome run ends NoCommand files order some = absurd order
+has_outcome run ends (Run source journal) files order some =
     let written = has_transcript order.p order.es in (
       written.0,
       record {
@@ -116,7 +126,7 @@ has_outcome run (Run source journal) files order some =
         due = inr (order.p, order.is_source, (order.within, record { es = order.es; read = order.read; written = written.1 }));
       },
     )
-has_outcome run (Exec object journal) files order some =
+has_outcome run ends (Exec object journal) files order some =
     let rules = run order.o order.is.valid order.is.is.lawful in
     let written = has_written order.o rules order.es Closed (read_fit order.o (journal_lines (files journal)) order.es All order.read) in (
       written.0,
@@ -125,7 +135,7 @@ has_outcome run (Exec object journal) files order some =
         due = inr (order.o, order.is, (order.within, record { es = order.es; read = order.read; written = written.1 }));
       },
     )
-has_outcome run (Watch object journal names) files order some =
+has_outcome run ends (Watch object journal names) files order some =
     let can = order.can in
     let rules = run can.o can.is.valid can.is.is.lawful in
     let written = has_watched names can.o rules can.es Closed (read_fit can.o (journal_lines (files journal)) can.es All can.read) in (
@@ -139,11 +149,14 @@ has_outcome run (Watch object journal names) files order some =
         ));
       },
     )
-has_outcome run (Check source) files order some = (_, record { memory = λ e. cc; due = record { is = order; text = refl } })
-has_outcome run (Print source) files order some = (_, record { memory = λ e. cc; due = record { tree = order.0; is = order.1; text = refl } })
-has_outcome run (Compile source) files order some = (some.0, record { memory = λ e. cc; due = some.1 })
-has_outcome run (Listed object) files order some = (_, record { memory = λ e. cc; due = record { o = order.0; is = order.1; text = refl } })
-has_outcome run (Bench n) files order some =
+has_outcome run ends (Save object journal) files order some = (some.0, record { memory = λ e. cc; due = some.1 })
+has_outcome run ends (Resume state journal) files order some =
+    let written = has_resumed ends (files state) (files journal) order in (written.0, record { memory = λ e. cc; due = written.1 })
+has_outcome run ends (Check source) files order some = (_, record { memory = λ e. cc; due = record { is = order; text = refl } })
+has_outcome run ends (Print source) files order some = (_, record { memory = λ e. cc; due = record { tree = order.0; is = order.1; text = refl } })
+has_outcome run ends (Compile source) files order some = (some.0, record { memory = λ e. cc; due = some.1 })
+has_outcome run ends (Listed object) files order some = (_, record { memory = λ e. cc; due = record { o = order.0; is = order.1; text = refl } })
+has_outcome run ends (Bench n) files order some =
     let written = has_transcript order.p order.es in (
       _,
       record {
@@ -164,6 +177,8 @@ unread (Run source journal) files bytes (inr (p, is_source, due)) = due.0
 unread (Exec object journal) files bytes (inl due) = due.0
 unread (Exec object journal) files bytes (inr (o, code, due)) = due.0
 unread (Watch object journal names) files bytes due = watch_unread_free (files object) names (files journal) bytes due
+unread (Save object journal) files bytes due = save_unread_free (files object) (files journal) bytes due
+unread (Resume state journal) files bytes due = resume_unread_free (files state) (files journal) bytes due
 unread (Check source) files bytes due = due.0
 unread (Print source) files bytes due = due.0
 unread (Compile source) files bytes due = due.0
@@ -171,12 +186,12 @@ unread (Listed object) files bytes due = due.0
 unread (Bench n) files bytes due = due.0
 
 -- and nothing else than the command's end
-only_done : (command : Command) (files : List ℕ → List ℕ) (status : Status) (bytes : List ℕ) → IsInOrder command files → IsOutcome command files status bytes →
+only_done : IsLawful snapshot → (command : Command) (files : List ℕ → List ℕ) (status : Status) (bytes : List ℕ) → IsInOrder command files → IsOutcome command files status bytes →
     status ≡ Done
-only_done command files status bytes order is =
-    due_completes command files (λ name. ⊥) status bytes order is.due is.memory (λ e. unread command files bytes (subst (λ s. Due command files (λ name. ⊥) s bytes) e is.due))
+only_done spelled command files status bytes order is =
+    due_completes spelled command files (λ name. ⊥) status bytes order is.due is.memory (λ e. unread command files bytes (subst (λ s. Due command files (λ name. ⊥) s bytes) e is.due))
 
-pub ends_well : ValidObjectsRun → FilesInOrderEndWell
-ends_well run command files order some =
-    let done = has_outcome run command files order some in
-    record { bytes = done.0; outcome = done.1; only = λ status others is. only_done command files status others order is }
+pub ends_well : ValidObjectsRun → RestoredRunsEnd → IsLawful snapshot → FilesInOrderEndWell
+ends_well run ends spelled command files order some =
+    let done = has_outcome run ends command files order some in
+    record { bytes = done.0; outcome = done.1; only = λ status others is. only_done spelled command files status others order is }

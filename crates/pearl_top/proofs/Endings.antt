@@ -29,13 +29,13 @@ picked_at seen told left =
     pick-offers (at seen told left).core seen.state.core (machine_offers (at seen told left)) (machine_offers seen.state) refl refl refl refl refl (λ t. refl)
 
 -- how the tasks stand, whatever was told
-states_at : (seen : Seen) (told : List (ℕ × Report)) (left : List Entry) →
+pub states_at : (seen : Seen) (told : List (ℕ × Report)) (left : List Entry) →
     states (at seen told left).core (machine_offers (at seen told left)) ≡ states seen.state.core (machine_offers seen.state)
 states_at seen told left =
     states-offers (at seen told left).core seen.state.core (machine_offers (at seen told left)) (machine_offers seen.state) refl refl refl refl refl refl (λ t. refl)
 
 -- no mark comes any more
-is_done : (seen : Seen) (told : List (ℕ × Report)) (left : List Entry) → SameNext seen left [] → IsDone (at seen told left)
+pub is_done : (seen : Seen) (told : List (ℕ × Report)) (left : List Entry) → SameNext seen left [] → IsDone (at seen told left)
 is_done seen told left same q chosen = same q (λ settled. chosen settled ∙ picked_at seen told left)
 
 -- the lines of what was told so far, with the opening lines

@@ -4,7 +4,7 @@ use Rattle.pearl_script.specs.declared.refusal.Refusal.TheVariants as refusal
 use Rattle.pearl_script.specs.Refusals.{refusal_line}
 use Rattle.pearl_top.specs.declared.status.Status.{Status}
 use Rattle.pearl_top.specs.declared.status.Status.TheVariants.{Done, Usage, Refused, BadObject, BadJournal, ReadFault, WriteFault, NoMemory, TooLong, BadName}
-use Rattle.pearl_top.specs.Reading.{Sort, ASource, AnObject, DueAt, UnreadDue, limit_of}
+use Rattle.pearl_top.specs.Reading.{Sort, ASource, AnObject, ASnapshot, DueAt, UnreadDue, limit_of}
 
 -- what is due at a file, told otherwise
 pub at_file_as : (sort : Sort) (file : List ℕ) (done refused finer coarser : List ℕ → Type 0) (rose risen : Type 0) (status : Status) (bytes : List ℕ) →
@@ -14,8 +14,10 @@ at_file_as sort file done refused finer coarser rose risen Done bytes ends break
 at_file_as sort file done refused finer coarser rose risen Usage bytes ends breaks on due = due
 at_file_as ASource file done refused finer coarser rose risen Refused bytes ends breaks on due = breaks bytes due
 at_file_as AnObject file done refused finer coarser rose risen Refused bytes ends breaks on due = due
+at_file_as ASnapshot file done refused finer coarser rose risen Refused bytes ends breaks on due = due
 at_file_as ASource file done refused finer coarser rose risen BadObject bytes ends breaks on due = due
 at_file_as AnObject file done refused finer coarser rose risen BadObject bytes ends breaks on due = breaks bytes due
+at_file_as ASnapshot file done refused finer coarser rose risen BadObject bytes ends breaks on due = breaks bytes due
 at_file_as sort file done refused finer coarser rose risen BadJournal bytes ends breaks on due = due
 at_file_as sort file done refused finer coarser rose risen ReadFault bytes ends breaks on due = (on due.0, due.1)
 at_file_as sort file done refused finer coarser rose risen WriteFault bytes ends breaks on due = due
@@ -30,8 +32,10 @@ at_file_unrisen sort file done refused rose Done bytes free due = due
 at_file_unrisen sort file done refused rose Usage bytes free due = due
 at_file_unrisen ASource file done refused rose Refused bytes free due = due
 at_file_unrisen AnObject file done refused rose Refused bytes free due = due
+at_file_unrisen ASnapshot file done refused rose Refused bytes free due = due
 at_file_unrisen ASource file done refused rose BadObject bytes free due = due
 at_file_unrisen AnObject file done refused rose BadObject bytes free due = due
+at_file_unrisen ASnapshot file done refused rose BadObject bytes free due = due
 at_file_unrisen sort file done refused rose BadJournal bytes free due = due
 at_file_unrisen sort file done refused rose ReadFault bytes free due = absurd (free refl)
 at_file_unrisen sort file done refused rose WriteFault bytes free due = due
@@ -46,8 +50,10 @@ at_file_unread sort file done refused rose Done bytes due = absurd due
 at_file_unread sort file done refused rose Usage bytes due = due
 at_file_unread ASource file done refused rose Refused bytes due = absurd due
 at_file_unread AnObject file done refused rose Refused bytes due = due
+at_file_unread ASnapshot file done refused rose Refused bytes due = due
 at_file_unread ASource file done refused rose BadObject bytes due = due
 at_file_unread AnObject file done refused rose BadObject bytes due = absurd due
+at_file_unread ASnapshot file done refused rose BadObject bytes due = absurd due
 at_file_unread sort file done refused rose BadJournal bytes due = due
 at_file_unread sort file done refused rose ReadFault bytes due = due
 at_file_unread sort file done refused rose WriteFault bytes due = due
@@ -63,8 +69,10 @@ at_file_completes sort file done refused rose Done bytes within never due no_mem
 at_file_completes sort file done refused rose Usage bytes within never due no_memory no_read = absurd due
 at_file_completes ASource file done refused rose Refused bytes within never due no_memory no_read = absurd (never bytes due)
 at_file_completes AnObject file done refused rose Refused bytes within never due no_memory no_read = absurd due
+at_file_completes ASnapshot file done refused rose Refused bytes within never due no_memory no_read = absurd due
 at_file_completes ASource file done refused rose BadObject bytes within never due no_memory no_read = absurd due
 at_file_completes AnObject file done refused rose BadObject bytes within never due no_memory no_read = absurd (never bytes due)
+at_file_completes ASnapshot file done refused rose BadObject bytes within never due no_memory no_read = absurd (never bytes due)
 at_file_completes sort file done refused rose BadJournal bytes within never due no_memory no_read = absurd due
 at_file_completes sort file done refused rose ReadFault bytes within never due no_memory no_read = absurd (no_read refl)
 at_file_completes sort file done refused rose WriteFault bytes within never due no_memory no_read = absurd due
@@ -89,6 +97,7 @@ IsLong sort file bytes = (limit_of sort < length file) × (bytes ≡ refusal_lin
 abbrev pub refused_as : Sort → Status
 refused_as ASource = Refused
 refused_as AnObject = BadObject
+refused_as ASnapshot = BadObject
 
 -- the file is done with, is refused, or is too long
 abbrev pub Ended : Sort → List ℕ → (done refused : List ℕ → Type 0) → Status → List ℕ → Type 0
@@ -101,8 +110,10 @@ ended sort file done refused Done bytes known due = inl (refl, due)
 ended sort file done refused Usage bytes known due = absurd due
 ended ASource file done refused Refused bytes known due = inr (inl (refl, due))
 ended AnObject file done refused Refused bytes known due = absurd due
+ended ASnapshot file done refused Refused bytes known due = absurd due
 ended ASource file done refused BadObject bytes known due = absurd due
 ended AnObject file done refused BadObject bytes known due = inr (inl (refl, due))
+ended ASnapshot file done refused BadObject bytes known due = inr (inl (refl, due))
 ended sort file done refused BadJournal bytes known due = absurd due
 ended sort file done refused ReadFault bytes known due = absurd due.0
 ended sort file done refused WriteFault bytes known due = absurd due

@@ -14,6 +14,10 @@ mod MachineRuns
 mod WatchEnds
 mod WatchRuns
 mod WatchLaws
+mod SaveEnds
+mod SaveLaws
+mod ResumeEnds
+mod ResumeLaws
 mod RunEnds
 mod TranscriptLaws
 mod Names
@@ -33,3 +37,7 @@ mod OneProgram
 mod OneOutcome
 mod Explained
 mod FetchLaws
+mod RunsOn
+mod ResumedRuns
+mod SavedRuns
+mod SavedFiles

@@ -14,12 +14,14 @@ use Rattle.pearl_top.specs.declared.status.Status.{Status}
 use Rattle.pearl_top.specs.declared.status.Status.TheVariants.{Done, Usage, Refused, BadObject, BadJournal, ReadFault, WriteFault, NoMemory, TooLong, BadName}
 use Rattle.pearl_top.specs.BenchDue.{BenchDue}
 use Rattle.pearl_top.specs.CheckDue.{CheckDue, IsAccepted, IsUnaccepted}
-use Rattle.pearl_top.specs.Commands.{Command, Run, Check, Print, Compile, Exec, Listed, Bench, Watch, NoCommand, ReadsObject, names_of}
+use Rattle.pearl_top.specs.Commands.{Command, Run, Check, Print, Compile, Exec, Listed, Bench, Watch, Save, Resume, NoCommand, ReadsObject, names_of}
 use Rattle.pearl_top.specs.CompileDue.{CompileDue, IsCompiled}
 use Rattle.pearl_top.specs.ObjectDue.{ExecDue, IsCodeOf, IsListed, IsNoObject, IsRefused, ListDue, ObjectDue}
 use Rattle.pearl_top.specs.JournalDue.{JournalDue}
 use Rattle.pearl_top.specs.Outcome.{Due, DueFor, IsOutcome}
+use Rattle.pearl_top.specs.ResumeDue.{ResumeDue}
 use Rattle.pearl_top.specs.RunDue.{IsSource, RunDue, SourceDue}
+use Rattle.pearl_top.specs.SaveDue.{SaveDue}
 use Rattle.pearl_top.specs.PrintDue.{IsPrinted, PrintDue}
 use Rattle.pearl_top.specs.Sources.{IsUnspelled}
 use Rattle.pearl_top.specs.Reading.{ASource, AnObject, MayHave, UnreadDue}
@@ -30,6 +32,8 @@ use Rattle.pearl_top.specs.WatchDue.{WatchDue}
 use Rattle.pearl_top.proofs.FileLaws.{at_file_unrisen}
 use Rattle.pearl_top.proofs.FromLaws.{from_held, from_read, from_refused, from_unread, from_unrisen, from_usage}
 use Rattle.pearl_top.proofs.FaithfulRuns.{journals_alike}
+use Rattle.pearl_top.proofs.ResumeLaws.{resume_read, resume_unrisen, resume_usage}
+use Rattle.pearl_top.proofs.SaveLaws.{save_read, save_unrisen, save_usage}
 use Rattle.pearl_top.proofs.TakenLaws.{ends_as, finishes_of}
 use Rattle.pearl_top.proofs.WatchLaws.{watch_read, watch_unrisen, watch_usage}
 
@@ -131,6 +135,10 @@ unrisen (Listed object) files rose status bytes free due =
 unrisen (Bench n) files rose status bytes free due = due
 unrisen (Watch object journal names) files rose status bytes free due =
     watch_unrisen (files object) names (files journal) (rose object) (rose journal) status bytes free due
+unrisen (Save object journal) files rose status bytes free due =
+    save_unrisen (files object) (files journal) (rose object) (rose journal) status bytes free due
+unrisen (Resume snapshot journal) files rose status bytes free due =
+    resume_unrisen (files snapshot) (files journal) (rose snapshot) (rose journal) status bytes free due
 
 -- where the status is none of want of memory, a read fault and a write fault, it is an outcome
 pub settles : (command : Command) (files : List ℕ → List ℕ) (rose : List ℕ → Type 0) (old new : Option (List ℕ)) (status : Status) →
@@ -191,6 +199,21 @@ watch_files object journal names (first ∷ []) rose status bytes due = absurd d
 watch_files object journal names (first ∷ second ∷ []) rose status bytes due = (first, second, due)
 watch_files object journal names (first ∷ second ∷ third ∷ more) rose status bytes due = absurd due
 
+save_files : (object journal : List ℕ) (contents : List (List ℕ)) (rose : List ℕ → Type 0) (status : Status) (bytes : List ℕ) →
+    DueFor (Save object journal) contents rose status bytes → (first second : List ℕ) × SaveDue first second (rose object) (rose journal) status bytes
+save_files object journal [] rose status bytes due = absurd due
+save_files object journal (first ∷ []) rose status bytes due = absurd due
+save_files object journal (first ∷ second ∷ []) rose status bytes due = (first, second, due)
+save_files object journal (first ∷ second ∷ third ∷ more) rose status bytes due = absurd due
+
+resume_files : (snapshot journal : List ℕ) (contents : List (List ℕ)) (rose : List ℕ → Type 0) (status : Status) (bytes : List ℕ) →
+    DueFor (Resume snapshot journal) contents rose status bytes →
+    (first second : List ℕ) × ResumeDue first second (rose snapshot) (rose journal) status bytes
+resume_files snapshot journal [] rose status bytes due = absurd due
+resume_files snapshot journal (first ∷ []) rose status bytes due = absurd due
+resume_files snapshot journal (first ∷ second ∷ []) rose status bytes due = (first, second, due)
+resume_files snapshot journal (first ∷ second ∷ third ∷ more) rose status bytes due = absurd due
+
 bench_due : (n : ℕ) (contents : List (List ℕ)) (rose : List ℕ → Type 0) (status : Status) (bytes : List ℕ) → DueFor (Bench n) contents rose status bytes →
     BenchDue n status bytes
 bench_due n [] rose status bytes due = due
@@ -226,6 +249,11 @@ usage_due (Listed object) contents rose bytes due = absurd (let is = list_file o
 usage_due (Bench n) contents rose bytes due = absurd (bench_due n contents rose Usage bytes due)
 usage_due (Watch object journal names) contents rose bytes due =
     let is = watch_files object journal names contents rose Usage bytes due in absurd (watch_usage is.0 names is.1 (rose object) (rose journal) bytes is.2)
+usage_due (Save object journal) contents rose bytes due =
+    let is = save_files object journal contents rose Usage bytes due in absurd (save_usage is.0 is.1 (rose object) (rose journal) bytes is.2)
+usage_due (Resume snapshot journal) contents rose bytes due =
+    let is = resume_files snapshot journal contents rose Usage bytes due in
+    absurd (resume_usage is.0 is.1 (rose snapshot) (rose journal) bytes is.2)
 
 none_due : (contents : List (List ℕ)) (rose : List ℕ → Type 0) (status : Status) (bytes : List ℕ) → DueFor NoCommand contents rose status bytes →
     OnlyDue Usage (refusal_line refusal.Usage) status bytes
@@ -240,6 +268,8 @@ object_due (Run source journal) contents rose bytes due =
 object_due (Exec object journal) contents rose bytes due = tt
 object_due (Listed object) contents rose bytes due = tt
 object_due (Watch object journal names) contents rose bytes due = tt
+object_due (Save object journal) contents rose bytes due = tt
+object_due (Resume snapshot journal) contents rose bytes due = tt
 object_due (Compile source) contents rose bytes due = let is = compile_file source contents rose BadObject bytes due in is.1
 object_due (Check source) contents rose bytes due = let is = check_file source contents rose BadObject bytes due in is.1
 object_due (Print source) contents rose bytes due = let is = print_file source contents rose BadObject bytes due in is.1
@@ -261,6 +291,12 @@ read_due (Exec object journal) contents rose bytes due =
 read_due (Watch object journal names) contents rose bytes due =
     let is = watch_files object journal names contents rose ReadFault bytes due in
     some_rose object journal rose (watch_read is.0 names is.1 (rose object) (rose journal) bytes is.2)
+read_due (Save object journal) contents rose bytes due =
+    let is = save_files object journal contents rose ReadFault bytes due in
+    some_rose object journal rose (save_read is.0 is.1 (rose object) (rose journal) bytes is.2)
+read_due (Resume snapshot journal) contents rose bytes due =
+    let is = resume_files snapshot journal contents rose ReadFault bytes due in
+    some_rose snapshot journal rose (resume_read is.0 is.1 (rose snapshot) (rose journal) bytes is.2)
 read_due (Compile source) contents rose bytes due =
     let is = compile_file source contents rose ReadFault bytes due in (0, source, omega arith, refl, is.1.0)
 read_due (Listed object) contents rose bytes due =

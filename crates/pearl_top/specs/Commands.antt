@@ -15,6 +15,8 @@ pub data Command : Type 0 where
   Listed : (object : List ℕ) → Command
   Bench : (n : ℕ) → Command
   Watch : (object journal : List ℕ) → (names : List (List ℕ)) → Command
+  Save : (object journal : List ℕ) → Command
+  Resume : (snapshot journal : List ℕ) → Command
   NoCommand : Command
 
 -- the workload of the number that these digits spell, if it is one from 1 to n
@@ -32,7 +34,7 @@ of_one =
 
 -- those that stand before two more
 abbrev pub of_two : List (List ℕ × (List ℕ → List ℕ → Command))
-of_two = (codes "run", Run) ∷ (codes "exec", Exec) ∷ []
+of_two = (codes "run", Run) ∷ (codes "exec", Exec) ∷ (codes "save", Save) ∷ (codes "resume", Resume) ∷ []
 
 -- those that stand before two more and names behind these
 abbrev pub of_names : List (List ℕ × (List ℕ → List ℕ → List (List ℕ) → Command))
@@ -65,9 +67,11 @@ names_of (Exec object journal) = object ∷ journal ∷ []
 names_of (Listed object) = object ∷ []
 names_of (Bench n) = []
 names_of (Watch object journal names) = object ∷ journal ∷ []
+names_of (Save object journal) = object ∷ journal ∷ []
+names_of (Resume snapshot journal) = snapshot ∷ journal ∷ []
 names_of NoCommand = []
 
--- the command reads an object
+-- the command reads an object, by itself or in a snapshot
 abbrev pub ReadsObject : Command → Type 0
 ReadsObject (Run source journal) = ⊥
 ReadsObject (Check source) = ⊥
@@ -77,6 +81,8 @@ ReadsObject (Exec object journal) = Unit {0}
 ReadsObject (Listed object) = Unit {0}
 ReadsObject (Bench n) = ⊥
 ReadsObject (Watch object journal names) = Unit {0}
+ReadsObject (Save object journal) = Unit {0}
+ReadsObject (Resume snapshot journal) = Unit {0}
 ReadsObject NoCommand = ⊥
 
 -- the code's command, which borrows the names, is this one
@@ -89,4 +95,6 @@ IsCommand (borrowed.Exec object journal) command = command ≡ Exec object.now j
 IsCommand (borrowed.List object) command = command ≡ Listed object.now
 IsCommand (borrowed.Bench n) command = (command ≡ Bench n) × (1 ≤ n) × (n ≤ 100)
 IsCommand (borrowed.Watch object journal names) command = command ≡ Watch object.now journal.now (map string_bytes names.now)
+IsCommand (borrowed.Save object journal) command = command ≡ Save object.now journal.now
+IsCommand (borrowed.Resume snapshot journal) command = command ≡ Resume snapshot.now journal.now
 IsCommand borrowed.None command = command ≡ NoCommand

@@ -12,8 +12,11 @@ use Rattle.pearl_verify.specs.declared.verify.VerifyFault.{VerifyFault}
 use Rattle.pearl_verify.specs.declared.verify.VerifyFault.TheVariants as verify
 use Rattle.pearl_watch.specs.declared.fault.WatchFault.{WatchFault}
 use Rattle.pearl_watch.specs.declared.fault.WatchFault.TheVariants as watch
+use Rattle.pearl_snap.specs.declared.fault.SnapFault.{SnapFault}
+use Rattle.pearl_snap.specs.declared.fault.SnapFault.TheVariants as snap
+use Rattle.pearl_snap.specs.Numbers.{number}
 use Rattle.pearl_script.specs.declared.refusal.Refusal.{Refusal}
-use Rattle.pearl_script.specs.declared.refusal.Refusal.TheVariants.{Syntax, Source, Object, Unsound, Memory, Name}
+use Rattle.pearl_script.specs.declared.refusal.Refusal.TheVariants.{Syntax, Source, Object, Unsound, Snapshot, State, Memory, Name}
 use Rattle.pearl_script.specs.Refusals.{refusal_line}
 use Rattle.pearl_top.specs.declared.failure.Failure.{Failure}
 use Rattle.pearl_top.specs.declared.failure.Failure.TheVariants.{Refused, WriteFault}
@@ -49,6 +52,12 @@ verify_refusal verify.NoMemory = Memory
 abbrev pub watch_refusal : WatchFault → Refusal
 watch_refusal (watch.BadName number) = Name number
 watch_refusal watch.NoMemory = Memory
+
+-- of bytes from which no run goes on
+abbrev pub snap_refusal : SnapFault → Refusal
+snap_refusal (snap.BadBytes place) = Snapshot place
+snap_refusal (snap.BadState rule) = State (number rule)
+snap_refusal snap.NoMemory = Memory
 
 -- the failure is a refusal, whose line alone is due with its status
 abbrev pub IsDue : (Status → List ℕ → Type 0) → Failure → Type 0

@@ -17,13 +17,14 @@ use Rattle.pearl_print.specs.Reading.{FitsHours}
 use Rattle.pearl_top.specs.declared.limits.TheConstants.{SOURCE_LIMIT, OBJECT_LIMIT}
 use Rattle.pearl_top.specs.declared.status.Status.{Status}
 use Rattle.pearl_top.specs.declared.status.Status.TheVariants.{Done}
-use Rattle.pearl_top.specs.Commands.{Command, Run, Print, Compile, Exec}
+use Rattle.pearl_top.specs.Commands.{Command, Run, Print, Compile, Exec, Save}
 use Rattle.pearl_top.specs.CompileDue.{IsCompiled}
 use Rattle.pearl_top.specs.Outcome.{IsOutcome}
 use Rattle.pearl_top.specs.RunDue.{IsSource}
 use Rattle.pearl_top.specs.Complete.{IsInOrder}
 use Rattle.pearl_top.specs.Ready.{RunsByRules}
 use Rattle.pearl_top.specs.Runners.{by_code, by_rules}
+use Rattle.pearl_top.specs.SaveDue.{SaveDue}
 use Rattle.pearl_top.specs.Transcript.{Close}
 
 -- a source means one program
@@ -72,9 +73,10 @@ pub record EndsWell (command : Command) (files : List ℕ → List ℕ) : Type 0
   pub outcome : IsOutcome command files Done bytes
   pub only : (status : Status) (others : List ℕ) → IsOutcome command files status others → status ≡ Done
 
--- there is something to be written: for `compile` some object that does what the source means
+-- there is something to be written: for `compile` some object that does what the source means, for `save` some snapshot of the run
 abbrev pub HasSomething : Command → (List ℕ → List ℕ) → Type 0
 HasSomething (Compile source) files = (bytes : List ℕ) × IsCompiled (files source) bytes
+HasSomething (Save object journal) files = (bytes : List ℕ) × SaveDue (files object) (files journal) ⊥ ⊥ Done bytes
 HasSomething _ _ = Unit {0}
 
 -- so it is where its files are in order

@@ -36,6 +36,12 @@ pub mod CompileDue
 pub mod ObjectDue
 -- what is due for an object of which some leaves are watched
 pub mod WatchDue
+-- what is due for an object of which a run is saved
+pub mod SaveDue
+-- where a machine stands behind a journal, and when bytes are its snapshot
+pub mod Saving
+-- what is due for a snapshot from which a run goes on
+pub mod ResumeDue
 -- what is due for the workload of a number
 pub mod BenchDue
 -- which status and which bytes belong to some words and files
@@ -48,3 +54,7 @@ pub mod Laws
 pub mod Ready
 -- a machine and a monitor, as what goes over a journal
 pub mod Followers
+-- a machine that goes on from a saved state, as what goes over a journal
+pub mod Resumed
+-- when a run that was saved goes on as if it had not been stopped
+pub mod SavedRuns

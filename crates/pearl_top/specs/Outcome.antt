@@ -6,11 +6,13 @@ use Rattle.pearl_top.specs.declared.status.Status.{Status}
 use Rattle.pearl_top.specs.declared.status.Status.TheVariants.{Usage, NoMemory}
 use Rattle.pearl_top.specs.BenchDue.{BenchDue}
 use Rattle.pearl_top.specs.CheckDue.{CheckDue}
-use Rattle.pearl_top.specs.Commands.{Command, Run, Check, Print, Compile, Exec, Listed, Bench, Watch, NoCommand, names_of}
+use Rattle.pearl_top.specs.Commands.{Command, Run, Check, Print, Compile, Exec, Listed, Bench, Watch, Save, Resume, NoCommand, names_of}
 use Rattle.pearl_top.specs.CompileDue.{CompileDue}
 use Rattle.pearl_top.specs.ObjectDue.{ExecDue, ListDue}
 use Rattle.pearl_top.specs.PrintDue.{PrintDue}
+use Rattle.pearl_top.specs.ResumeDue.{ResumeDue}
 use Rattle.pearl_top.specs.RunDue.{RunDue}
+use Rattle.pearl_top.specs.SaveDue.{SaveDue}
 use Rattle.pearl_top.specs.Taken.{OnlyDue}
 use Rattle.pearl_top.specs.WatchDue.{WatchDue}
 
@@ -26,6 +28,9 @@ DueFor (Exec object_name journal_name) (object ∷ journal ∷ []) rose = ExecDu
 DueFor (Listed object_name) (object ∷ []) rose = ListDue object (rose object_name)
 DueFor (Bench n) [] rose = BenchDue n
 DueFor (Watch object_name journal_name names) (object ∷ journal ∷ []) rose = WatchDue object names journal (rose object_name) (rose journal_name)
+DueFor (Save object_name journal_name) (object ∷ journal ∷ []) rose = SaveDue object journal (rose object_name) (rose journal_name)
+DueFor (Resume snapshot_name journal_name) (snapshot ∷ journal ∷ []) rose =
+    ResumeDue snapshot journal (rose snapshot_name) (rose journal_name)
 DueFor _ contents rose = λ status bytes. ⊥
 
 -- the same where `files` tells the bytes of each name

@@ -5,7 +5,7 @@ use Rattle.pearl_io.specs.Outside.{Files, content}
 use Rattle.pearl_script.specs.declared.refusal.Refusal.TheVariants as refusal
 use Rattle.pearl_script.specs.Refusals.{refusal_line}
 use Rattle.pearl_top.specs.declared.failure.Failure.{Failure}
-use Rattle.pearl_top.specs.declared.limits.TheConstants.{SOURCE_LIMIT, OBJECT_LIMIT}
+use Rattle.pearl_top.specs.declared.limits.TheConstants.{SOURCE_LIMIT, OBJECT_LIMIT, SNAPSHOT_LIMIT}
 use Rattle.pearl_top.specs.declared.status.Status.{Status}
 use Rattle.pearl_top.specs.declared.status.Status.TheVariants.{Done, Refused, BadObject, ReadFault, NoMemory, TooLong}
 use Rattle.pearl_top.specs.Failures.{IsDue}
@@ -21,20 +21,24 @@ UnreadDue file limit rose status bytes = ⊥
 pub data Sort : Type 0 where
   ASource : Sort
   AnObject : Sort
+  ASnapshot : Sort
 
 -- the most bytes that such a file may have
 abbrev pub limit_of : Sort → ℕ
 limit_of ASource = SOURCE_LIMIT
 limit_of AnObject = OBJECT_LIMIT
+limit_of ASnapshot = SNAPSHOT_LIMIT
 
--- what holds of a source alone, and of an object alone
+-- what holds of a source alone, and of a file that has an object: one alone, or one in a snapshot
 abbrev pub IfSource : Sort → Type 0 → Type 0
 IfSource ASource is = is
 IfSource AnObject is = ⊥
+IfSource ASnapshot is = ⊥
 
 abbrev pub IfObject : Sort → Type 0 → Type 0
 IfObject ASource is = ⊥
 IfObject AnObject is = is
+IfObject ASnapshot is = is
 
 -- what is due with each way to end at a file: where it is done with; where it is refused; where it is not read whole
 abbrev pub DueAt : Sort → List ℕ → (done refused : List ℕ → Type 0) → Type 0 → Status → List ℕ → Type 0

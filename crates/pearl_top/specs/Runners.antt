@@ -10,7 +10,10 @@ use Rattle.pearl_meaning.specs.ProgramRuns.{setup_of as tables_of}
 use Rattle.pearl_instructions.specs.declared.object.Parts.{Parts as Object}
 use Rattle.pearl_instructions.specs.Engines.{engine}
 use Rattle.pearl_instructions.specs.Setups.{setup_of}
+use Rattle.pearl_journal.specs.Pieces.{begin_later, reading_at}
 use Rattle.pearl_journal.specs.Readings.{Reading, start}
+use Rattle.pearl_saved.specs.declared.saved.Saved.{Saved}
+use Rattle.pearl_saved_laws.specs.Going.{going_on}
 use Rattle.pearl_top.specs.Transcript.{Close, Ended, IsTranscript, ended_of}
 
 -- The tables by which a journal is read and what is told is written, how far a journal counts as read before its first line, and what
@@ -46,3 +49,12 @@ by_rules p = record { setup = tables_of p; first = start; writes = λ es. IsTran
 -- an object's own machine, from its start
 abbrev pub by_code : Object → Runner
 by_code o = record { setup = setup_of o; first = start; writes = λ es. IsTranscript (setup_of o) (CodeEnds o es) }
+
+-- an object's own machine, from a saved state of it: nothing opens the run, and the lines of its journal count anew, though entries
+-- were accepted before
+abbrev pub by_state : Object → Saved → Runner
+by_state o s = record {
+  setup = setup_of o;
+  first = reading_at begin_later s.core.moment;
+  writes = λ es. IsTranscript (setup_of o) (EndsByCode (engine o) (going_on o s es));
+}

@@ -45,6 +45,16 @@ pub enum Command<'a> {
         journal: &'a str,
         names: &'a [String],
     },
+    /// `save OBJECT JOURNAL`.
+    Save {
+        object: &'a str,
+        journal: &'a str,
+    },
+    /// `resume SNAPSHOT JOURNAL`.
+    Resume {
+        snapshot: &'a str,
+        journal: &'a str,
+    },
     /// The words are none of the listed forms.
     None,
 }
@@ -97,6 +107,16 @@ fn of_two<'a>(word: &str, name: &'a str, second: &'a str) -> Command<'a>
     } else if word == "exec" {
         Command::Exec {
             object: name,
+            journal: second,
+        }
+    } else if word == "save" {
+        Command::Save {
+            object: name,
+            journal: second,
+        }
+    } else if word == "resume" {
+        Command::Resume {
+            snapshot: name,
             journal: second,
         }
     } else {

@@ -1,7 +1,7 @@
 // Why a command was not carried out to its end.
 
 ghost use Rattle.std.specs.Prelude.{◌≡◌};
-ghost use Rattle.pearl_top.specs.Failures.{check_refusal, lex_refusal, parse_refusal, read_refusal, verify_refusal, watch_refusal};
+ghost use Rattle.pearl_top.specs.Failures.{check_refusal, lex_refusal, parse_refusal, read_refusal, snap_refusal, verify_refusal, watch_refusal};
 ghost use Rattle.pearl_top.specs.declared.failure.Failure.TheVariants as failure;
 ghost use Rattle.pearl_script.specs.declared.refusal.Refusal.TheVariants as refusal;
 
@@ -12,6 +12,7 @@ use pearl_lex::fault::LexFault;
 use pearl_object::fault::ReadFail;
 use pearl_parse_expr::fault::ParseFault;
 use pearl_script::refusal::Refusal;
+use pearl_snap::fault::SnapFault;
 use pearl_tree::fault::RuleFault;
 use pearl_verify::verify::VerifyFault;
 use pearl_watch::fault::WatchFault;
@@ -126,6 +127,18 @@ impl From<WatchFault> for Failure {
         match fault {
             WatchFault::BadName(number) => Failure::Refused(Refusal::Name(number)),
             WatchFault::NoMemory => Failure::Refused(Refusal::Memory),
+        }
+    }
+}
+
+impl From<SnapFault> for Failure {
+    ghost from_gives = { λ fault e. e ≡ failure.Refused (snap_refusal fault) };
+
+    fn from(fault: SnapFault) -> Failure {
+        match fault {
+            SnapFault::BadBytes(place) => Failure::Refused(Refusal::Snapshot(place)),
+            SnapFault::BadState(rule) => Failure::Refused(Refusal::State(rule.number())),
+            SnapFault::NoMemory => Failure::Refused(Refusal::Memory),
         }
     }
 }

@@ -16,6 +16,8 @@ pub mod program;
 mod read;
 mod refuse;
 mod replay;
+mod resumed;
+mod save;
 mod source;
 pub mod status;
 pub mod top;

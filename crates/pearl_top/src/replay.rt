@@ -45,8 +45,8 @@ pub fn replay<F: Follower, S: Shelf, K: Sink>(
     Ok(())
 }
 
-// Carries out the journal, one piece after another.
-fn carry_out<F: Follower, S: Shelf, K: Sink>(
+/// Carries out the journal, one piece after another.
+pub(crate) fn carry_out<F: Follower, S: Shelf, K: Sink>(
     follower: &mut F,
     lines: &mut Lines,
     journal: &str,

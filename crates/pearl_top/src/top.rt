@@ -11,7 +11,9 @@ ghost use Rattle.pearl_top.specs.CompileDue.{CompileDue};
 ghost use Rattle.pearl_top.specs.Complete.{IsInOrder};
 ghost use Rattle.pearl_top.specs.ObjectDue.{ExecDue, ListDue};
 ghost use Rattle.pearl_top.specs.Outcome.{Due, DueFor, IsOutcome};
+ghost use Rattle.pearl_top.specs.ResumeDue.{ResumeDue};
 ghost use Rattle.pearl_top.specs.RunDue.{RunDue};
+ghost use Rattle.pearl_top.specs.SaveDue.{SaveDue};
 ghost use Rattle.pearl_top.specs.PrintDue.{PrintDue};
 ghost use Rattle.pearl_top.specs.Reading.{MayHave};
 ghost use Rattle.pearl_top.specs.Taken.{Ends, Finishes, OnlyDue, Leaves};
@@ -22,25 +24,28 @@ use crate::check::{line_of, sizes_of};
 use crate::command::{Command, command_of_words};
 use crate::compile::{compiled, machine_of};
 use crate::failure::Failure;
-use crate::limits::{OBJECT_LIMIT, SOURCE_LIMIT};
+use crate::limits::{OBJECT_LIMIT, SNAPSHOT_LIMIT, SOURCE_LIMIT};
 use crate::object::{listing_in, machine_in, monitor_in};
 use crate::print::canonical_text;
 use crate::read::read_whole;
 use crate::refuse::conclude;
 use crate::replay::replay;
+use crate::resumed::resumed_in;
+use crate::save::{go_over, snapshot_of};
 use crate::status::Status;
 use pearl_io::{Shelf, Sink, put_all};
 use pearl_journal::lines::Lines;
 use pearl_script::refusal::Refusal;
+use pearl_snap::laws::snapshots_are_read_as_they_are_spelled;
 use std::alloc::Global;
 
 /// Carries out the command of the words after the program's name: reads the files that it names from the shelf, and
-/// writes what is due to the sink. Tests hold that each line is one piece, and that a printed text, an object and a listing
-/// are one piece each.
+/// writes what is due to the sink. Tests hold that each line is one piece, and that a printed text, an object, a listing
+/// and a snapshot are one piece each.
 ///
-/// Memory may run out only before anything is written: while a source or an object is read or checked, while the text, the
-/// object, the listing or the machine is made of it, and while the workload runs. Then the line `error memory` alone is
-/// due. What is due otherwise, and with which status, is `Due`.
+/// Memory may run out only before anything is written: while a source, an object or a snapshot is read or checked, while the
+/// text, the object, the listing or the machine is made of it, while the workload runs, and while a snapshot is made. Then the
+/// line `error memory` alone is due. What is due otherwise, and with which status, is `Due`.
 pub fn pearl<S: Shelf, K: Sink>(
     alloc: Global,
     words: &[String],
@@ -87,6 +92,7 @@ pub fn pearl<S: Shelf, K: Sink>(
     ensures shelf_later { (name : List ℕ) → S.faults shelf.old name ≤ S.faults shelf.new name }
     ensures sink_later { K.faults sink.old ≤ K.faults sink.new }
 {
+    snapshots_are_read_as_they_are_spelled();
     let ended = carry_out(alloc, words, shelf, sink);
     conclude(ended, sink)
 }
@@ -120,6 +126,8 @@ fn carry_out<S: Shelf, K: Sink>(
             journal,
             names,
         } => watch(alloc, object, journal, names, shelf, sink),
+        Command::Save { object, journal } => save(alloc, object, journal, shelf, sink),
+        Command::Resume { snapshot, journal } => resume(alloc, snapshot, journal, shelf, sink),
         Command::None => Err(Failure::Refused(Refusal::Usage)),
     }
 }
@@ -253,6 +261,53 @@ fn watch<S: Shelf, K: Sink>(
     let mut monitor = monitor_in(alloc, bytes.as_slice(), names)?;
     let mut lines = Lines::new(alloc)?;
     replay(&mut monitor, &mut lines, journal, shelf, sink)
+}
+
+// Carries out `save OBJECT JOURNAL`.
+fn save<S: Shelf, K: Sink>(
+    alloc: Global,
+    object: &str,
+    journal: &str,
+    shelf: &mut S,
+    sink: &mut K,
+) -> Result<(), Failure>
+    ensures ends { let rose = λ (name : List ℕ). CountRose (S.faults shelf.old name) (S.faults shelf.new name) in
+        let failed = WriteFailed (K.faults sink.old) (K.faults sink.new) (K.full sink.new) in
+        (first second : List ℕ) × MayHave (S.holds shelf.old) object.now first × MayHave (S.holds shelf.old) journal.now second
+        × Leaves (K.taken sink.old) (K.taken sink.new) failed (SaveDue first second (rose object.now) (rose journal.now)) result }
+    ensures held { S.holds shelf.new ≡ S.holds shelf.old }
+    ensures shelf_later { (name : List ℕ) → S.faults shelf.old name ≤ S.faults shelf.new name }
+    ensures sink_later { K.faults sink.old ≤ K.faults sink.new }
+{
+    let bytes = read_whole(alloc, shelf, object, OBJECT_LIMIT)?;
+    let mut machine = machine_in(alloc, bytes.as_slice())?;
+    let mut lines = Lines::new(alloc)?;
+    go_over(&mut machine, &mut lines, journal, shelf)?;
+    let text = snapshot_of(alloc, &mut machine)?;
+    put_all(sink, text.as_slice())?;
+    Ok(())
+}
+
+// Carries out `resume SNAPSHOT JOURNAL`.
+fn resume<S: Shelf, K: Sink>(
+    alloc: Global,
+    snapshot: &str,
+    journal: &str,
+    shelf: &mut S,
+    sink: &mut K,
+) -> Result<(), Failure>
+    ensures ends { let rose = λ (name : List ℕ). CountRose (S.faults shelf.old name) (S.faults shelf.new name) in
+        let failed = WriteFailed (K.faults sink.old) (K.faults sink.new) (K.full sink.new) in
+        (first second : List ℕ) × MayHave (S.holds shelf.old) snapshot.now first × MayHave (S.holds shelf.old) journal.now second
+        × Leaves (K.taken sink.old) (K.taken sink.new) failed (ResumeDue first second (rose snapshot.now) (rose journal.now)) result }
+    ensures held { S.holds shelf.new ≡ S.holds shelf.old }
+    ensures shelf_later { (name : List ℕ) → S.faults shelf.old name ≤ S.faults shelf.new name }
+    ensures sink_later { K.faults sink.old ≤ K.faults sink.new }
+{
+    let bytes = read_whole(alloc, shelf, snapshot, SNAPSHOT_LIMIT)?;
+    let mut machine = resumed_in(alloc, bytes.as_slice())?;
+    let mut lines = Lines::later(alloc)?;
+    replay(&mut machine, &mut lines, journal, shelf, sink)
 }
 
 // Carries out `list OBJECT`.

@@ -24,6 +24,12 @@ pub const EXEC: &[&str] = &["exec", "s", "j"];
 /// The words of a monitor of x in s over j.
 pub const WATCH: &[&str] = &["watch", "s", "j", "x"];
 
+/// The words of a saved run of s over j.
+pub const SAVE: &[&str] = &["save", "s", "j"];
+
+/// The words of a run that goes on from s over j.
+pub const RESUME: &[&str] = &["resume", "s", "j"];
+
 /// The words of a listing of s.
 pub const LIST: &[&str] = &["list", "s"];
 

@@ -2,7 +2,7 @@
 
 use crate::case::{Case, Fault, Long, RUN, Table, ends_so, fails_so, first_other, long_ends_so};
 use crate::mark::joined;
-use crate::{bench, check, kept, print, run, tasks, timed, typed, watch, whole};
+use crate::{bench, check, kept, print, run, saved, tasks, timed, typed, watch, whole};
 use pearl_top::status::Status;
 use std::alloc::{AllocError, Global};
 use std::process::Abort;
@@ -270,6 +270,7 @@ fn other_words_are_no_command(rt: HostRuntime) -> Result<(), Fail> {
     are_no_commands(&rt, rt.alloc(), &print::OTHER_WORDS)?;
     are_no_commands(&rt, rt.alloc(), &kept::OTHER_WORDS)?;
     are_no_commands(&rt, rt.alloc(), &watch::OTHER_WORDS)?;
+    are_no_commands(&rt, rt.alloc(), &saved::OTHER_WORDS)?;
     are_no_commands(&rt, rt.alloc(), &bench::OTHER_WORDS)
 }
 

@@ -44,6 +44,8 @@ mod print;
 #[cfg(test)]
 mod run;
 #[cfg(test)]
+mod saved;
+#[cfg(test)]
 mod source;
 #[cfg(test)]
 mod tasks;

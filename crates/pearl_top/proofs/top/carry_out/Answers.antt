@@ -3,7 +3,7 @@ use Rattle.std.specs.Prelude.{Err, map, string_bytes}
 use Rattle.pearl_io.specs.Outside.{CountRose, WriteFailed}
 use Rattle.pearl_script.specs.declared.refusal.Refusal.TheVariants as refusal
 use Rattle.pearl_top.specs.declared.failure.Failure.TheVariants as failure
-use Rattle.pearl_top.specs.Commands.{Run, Check, Print, Compile, Exec, Listed, Bench, Watch, NoCommand}
+use Rattle.pearl_top.specs.Commands.{Run, Check, Print, Compile, Exec, Listed, Bench, Watch, Save, Resume, NoCommand}
 use Rattle.pearl_top.specs.Taken.{Leaves}
 use Rattle.pearl_top.proofs.TakenLaws.{takes_none}
 use Rattle.pearl_top.proofs.WordLaws.{due_as}
@@ -56,6 +56,22 @@ returns-in-Watch-clause-ends g c =
     let ends = c.watch.ensures.ends in
     due_as _ (Watch c.in-Watch.object.now c.in-Watch.journal.now (map string_bytes c.in-Watch.names.now)) (g.S.Shelf.holds c.args.shelf.now) (ends.0 ∷ ends.1 ∷ []) rose
     (λ due. Leaves (g.K.Sink.taken c.args.sink.now) (g.K.Sink.taken c.watch.new.sink) failed due c.watch.result) c.in-Watch.ensures (ends.2, (ends.3, tt)) ends.4
+
+pub returns-in-Save-clause-ends : goal.returns-in-Save-clause-ends
+returns-in-Save-clause-ends g c =
+    let rose : List ℕ → Type 0 = λ name. CountRose (g.S.Shelf.faults c.args.shelf.now name) (g.S.Shelf.faults c.save.new.shelf name) in
+    let failed : Type 0 = WriteFailed (g.K.Sink.faults c.args.sink.now) (g.K.Sink.faults c.save.new.sink) (g.K.Sink.full c.save.new.sink) in
+    let ends = c.save.ensures.ends in
+    due_as _ (Save c.in-Save.object.now c.in-Save.journal.now) (g.S.Shelf.holds c.args.shelf.now) (ends.0 ∷ ends.1 ∷ []) rose
+    (λ due. Leaves (g.K.Sink.taken c.args.sink.now) (g.K.Sink.taken c.save.new.sink) failed due c.save.result) c.in-Save.ensures (ends.2, (ends.3, tt)) ends.4
+
+pub returns-in-Resume-clause-ends : goal.returns-in-Resume-clause-ends
+returns-in-Resume-clause-ends g c =
+    let rose : List ℕ → Type 0 = λ name. CountRose (g.S.Shelf.faults c.args.shelf.now name) (g.S.Shelf.faults c.resume.new.shelf name) in
+    let failed : Type 0 = WriteFailed (g.K.Sink.faults c.args.sink.now) (g.K.Sink.faults c.resume.new.sink) (g.K.Sink.full c.resume.new.sink) in
+    let ends = c.resume.ensures.ends in
+    due_as _ (Resume c.in-Resume.snapshot.now c.in-Resume.journal.now) (g.S.Shelf.holds c.args.shelf.now) (ends.0 ∷ ends.1 ∷ []) rose
+    (λ due. Leaves (g.K.Sink.taken c.args.sink.now) (g.K.Sink.taken c.resume.new.sink) failed due c.resume.result) c.in-Resume.ensures (ends.2, (ends.3, tt)) ends.4
 
 pub returns-in-List-clause-ends : goal.returns-in-List-clause-ends
 returns-in-List-clause-ends g c =

@@ -40,7 +40,7 @@ returns-clause-complete g c files holds order no_memory no_read no_write =
     let command = command_of (map string_bytes c.args.words.now) in
     let rose : List ℕ → Type 0 = λ name. CountRose (g.S.Shelf.faults c.args.shelf.now name) (g.S.Shelf.faults c.carry_out-ended.new.shelf name) in
     let due = returns-clause-due g c in
-    completes command (content files) rose (g.K.Sink.taken c.args.sink.now) (g.K.Sink.taken c.conclude.new.sink) c.conclude.result
+    completes c.snapshots_are_read_as_they_are_spelled.ensures.lawful command (content files) rose (g.K.Sink.taken c.args.sink.now) (g.K.Sink.taken c.conclude.new.sink) c.conclude.result
     (due_told command (g.S.Shelf.holds c.args.shelf.now) files due.0 rose (g.K.Sink.taken c.args.sink.now) (g.K.Sink.taken c.conclude.new.sink) c.conclude.result holds due.1 due.2) order no_memory no_read no_write
 
 pub returns-clause-usage : goal.returns-clause-usage

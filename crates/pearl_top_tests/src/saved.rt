@@ -1,0 +1,343 @@
+// What `save` writes of a run, and how `resume` goes on from it.
+
+use crate::case::{COMPILE, EXEC, Ended, RESUME, ROOM, SAVE, end_of, failed};
+use crate::kept::{EMPTY, JUMP};
+use crate::whole::{HEAD, TAIL};
+use pearl_top::status::Status;
+use std::alloc::{AllocError, Global};
+use std::test::Fail;
+
+/// Words that are no command.
+pub static OTHER_WORDS: [&[&str]; 8] = [
+    &["save"],
+    &["save", "s"],
+    &["save", "s", "j", "x"],
+    &["Save", "s", "j"],
+    &["resume"],
+    &["resume", "s"],
+    &["resume", "s", "j", "x"],
+    &["Resume", "s", "j"],
+];
+
+// The snapshot of a module without anything, at the start of its run.
+const NOTHING: [u8; 24] = [
+    0x50, 0x52, 0x53, 0x31, 0x0a, 0x50, 0x52, 0x4c, 0x31, 0, 0, 0, 0, 0, 0, 0, 0, 0, 0, 0, 0, 0, 0, 0,
+];
+
+#[test]
+fn an_empty_run_has_24_bytes(rt: HostRuntime) -> Result<(), Fail> {
+    let saved = end_of(rt.alloc(), SAVE, EMPTY.as_slice(), "", ROOM)?;
+    assert!(rt; saved.is(Status::Done, NOTHING.as_slice()));
+    let resumed = end_of(rt.alloc(), RESUME, NOTHING.as_slice(), "", ROOM)?;
+    assert!(rt; resumed.is(Status::Done, b"0 close\n".as_slice()));
+    Ok(())
+}
+
+// Whether these bytes are refused with this line where a run is to go on from them.
+fn is_refused(alloc: Global, bytes: &[u8], line: &str) -> Result<bool, AllocError> {
+    let ended = end_of(alloc, RESUME, bytes, "run 9", ROOM)?;
+    Ok(ended.is(Status::BadObject, line.as_bytes()))
+}
+
+#[test]
+fn snapshots_that_are_cut_are_refused(rt: HostRuntime) -> Result<(), Fail> {
+    let alloc = rt.alloc();
+    for count in [0, 1, 2, 3, 23] {
+        let line = format!(in alloc; "error snapshot {count}\n")?;
+        assert!(rt; is_refused(alloc, &NOTHING[..count], line.as_str())?, "{count}");
+    }
+    let mut more = Vec::from_slice(alloc, NOTHING.as_slice())?;
+    more.push(0)?;
+    assert!(rt; is_refused(alloc, more.as_slice(), "error snapshot 24\n")?);
+    assert!(rt; is_refused(alloc, EMPTY.as_slice(), "error snapshot 0\n")?);
+    Ok(())
+}
+
+// The front of a snapshot, an object behind its length, what stands behind it, and the line with which that is refused.
+struct Broken {
+    object: &'static [u8],
+    state: &'static [u8],
+    line: &'static str,
+}
+
+static BROKEN: [Broken; 4] = [
+    Broken {
+        object: &JUMP,
+        state: &[0, 0, 0, 0, 0, 0, 0, 0, 1, 0, 0, 0],
+        line: "error snapshot state N1\n",
+    },
+    Broken {
+        object: &EMPTY,
+        state: &[0, 0, 0, 0, 0, 0, 0, 0, 1, 0, 0, 0],
+        line: "error snapshot state N2\n",
+    },
+    Broken {
+        object: &EMPTY,
+        state: &[0, 0, 1, 0, 0, 0, 0, 0, 0],
+        line: "error snapshot state N3\n",
+    },
+    Broken {
+        object: &[0x50, 0x52, 0x4c, 0x32, 0, 0, 0, 0, 0, 0],
+        state: &[0, 0, 0, 0, 0, 0, 0, 0, 0],
+        line: "error snapshot 4\n",
+    },
+];
+
+fn is_broken_so(alloc: Global, broken: &Broken) -> Result<bool, AllocError> {
+    let mut bytes = Vec::from_slice(alloc, b"PRS1".as_slice())?;
+    bytes.push(broken.object.len() as u8)?;
+    bytes.extend_from_slice(broken.object)?;
+    bytes.extend_from_slice(broken.state)?;
+    is_refused(alloc, bytes.as_slice(), broken.line)
+}
+
+#[test]
+fn states_that_break_a_rule_are_refused(rt: HostRuntime) -> Result<(), Fail> {
+    for (number, broken) in BROKEN.iter().enumerate() {
+        assert!(rt; is_broken_so(rt.alloc(), broken)?, "row {number}");
+    }
+    Ok(())
+}
+
+// What stands between the head and MODEND, a journal behind which the run is saved, one with which it goes on, and what is
+// written then.
+struct Row {
+    part: &'static str,
+    first: &'static str,
+    second: &'static str,
+    status: Status,
+    text: &'static str,
+}
+
+macro_rules! rows {
+    ($($part:expr, $first:literal, $second:literal => $status:ident $told:literal;)*) => {
+        [$(Row { part: $part, first: $first, second: $second, status: Status::$status, text: $told }),*]
+    };
+}
+
+// A task that waits, and one that prevents it and waits too.
+const WAITING: &str =
+    "a: TASK PRIO 1 MAIN; AFTER 5 SEC RESUME; PUT 'on' TO tty BY A; END; b: TASK PRIO 2 MAIN; \
+    PREVENT a; AFTER 6 SEC RESUME; AFTER 1 SEC CONTINUE a; END;";
+
+// Nothing opens a run that goes on. Its lines count anew, and a `clock` is none of them.
+static GOING_ON: [Row; 8] = rows![
+    WAITING, "run 10\ntick 6000\n", "state\nrun 10\ntick 1000\nrun 10"
+        => Done "6000 state a suspended 1\n6000 state b running 2\n6000 end b\n7000 out 1 'on'\n7000 end a\n\
+            7000 state a dormant\n7000 state b dormant\n7000 close\n";
+    WAITING, "run 10\r\n# x\ntick 6000", ""
+        => Done "6000 state a suspended 1\n6000 state b running 2\n6000 close\n";
+    WAITING, "", "run 2\nstate\nrun 99"
+        => Done "0 state a suspended 1\n0 state b running 2\n0 state a suspended 1\n0 state b suspended 2\n0 close\n";
+    "", "tick 7\n", "tick 3\nstate" => Done "10 close\n";
+    "", "clock 12:00:00\n", "tick 1" => Done "1 close\n";
+    WAITING, "", "clock 12:00:00\nrun 9" => BadJournal "error journal 1 1\n";
+    WAITING, "run 9\n", "# x\nclock 12:00:00" => BadJournal "error journal 2 1\n";
+    WAITING, "run 9\ntick 6000\n", "run 9\nrun x\nrun 9"
+        => BadJournal "6000 end b\nerror journal 2 1\n";
+];
+
+fn object_of(alloc: Global, part: &str) -> Result<Vec<u8>, AllocError> {
+    let source = format!(in alloc; "{HEAD}{part}{TAIL}")?;
+    Ok(end_of(alloc, COMPILE, source.as_bytes(), "", ROOM)?.bytes)
+}
+
+// How the run of a source that is saved behind the first journal goes on over the second.
+fn resumed(alloc: Global, part: &str, first: &str, second: &str) -> Result<Ended, AllocError> {
+    let object = object_of(alloc, part)?;
+    let saved = end_of(alloc, SAVE, object.as_slice(), first, ROOM)?;
+    end_of(alloc, RESUME, saved.bytes.as_slice(), second, ROOM)
+}
+
+fn goes_on_so(alloc: Global, row: &Row) -> Result<bool, AllocError> {
+    let ended = resumed(alloc, row.part, row.first, row.second)?;
+    Ok(ended.is(row.status, row.text.as_bytes()))
+}
+
+#[test]
+fn runs_go_on_where_they_were_saved(rt: HostRuntime) -> Result<(), Fail> {
+    for (number, row) in GOING_ON.iter().enumerate() {
+        assert!(rt; goes_on_so(rt.alloc(), row)?, "row {number}");
+    }
+    Ok(())
+}
+
+// A procedure that is called twice, while a plan starts another task that calls it too, and a task that waits for input.
+const CALLS: &str =
+    "DCL n FIXED; p: PROC(k FIXED IDENT); k := k + 1; PUT k TO tty BY F(3); END; a: TASK MAIN; ALL 2 \
+    SEC ACTIVATE b; p(n); AFTER 1 SEC RESUME; p(n); GET n FROM tty BY F(2); p(n); END; b: TASK PRIO 2; n := n + 10; \
+    p(n); END; c: TASK; WHEN irq RESUME; END;";
+
+// Two journals, and the lines that close the transcript of the first.
+static CUTS: [(&str, &str, usize); 16] = [
+    ("", "run 99\ntick 5000\nrun 99\nstate\n", 4),
+    ("run 1\n", "run 99\ntick 5000\nrun 99\n", 4),
+    ("run 2\n", "run 99\ntick 5000\nrun 99\n", 4),
+    ("run 3\n", "run 99\ntick 5000\nrun 99\n", 4),
+    ("run 4\n", "run 99\ntick 5000\nrun 99\n", 4),
+    ("run 5\n", "run 99\ntick 5000\nrun 99\n", 4),
+    ("run 6\n", "run 99\ntick 5000\nrun 99\n", 4),
+    ("run 7\n", "run 99\ntick 5000\nrun 99\n", 4),
+    ("run 8\n", "run 99\ntick 5000\nrun 99\n", 4),
+    ("run 9\n", "run 99\ntick 5000\nrun 99\n", 4),
+    ("turn c\nrun 99\n", "irpt 3\nrun 9\nstate\n", 4),
+    ("turn c\nrun 99\ntick 1999\n", "tick 1\nrun 3\nstate", 4),
+    ("pass 1000 9\n", "pass 1500 9\nline 1 '7'\nrun 99\n", 4),
+    ("run 99\ntick 999\nline 1 '41'\n", "pass 4000 20\n", 4),
+    ("clock 23:59:59\npass 2000 20\n", "irpt 3\nrun 99\npass 4000 99", 4),
+    ("run 99\nchars 1 '1'\n", "tick 1000\nrun 99\nline 1 '2'\nrun 99\nrun x\n", 4),
+];
+
+// What was written but for so many last lines.
+fn without_last(text: &[u8], lines: usize) -> &[u8] {
+    let mut left = lines;
+    let mut end = text.len();
+    while end > 0 {
+        if text[end - 1] == b'\n' {
+            if left == 0 {
+                return &text[..end];
+            }
+            left -= 1;
+        }
+        end -= 1;
+    }
+    &text[..0]
+}
+
+// Whether the transcript of both journals is that of the first, but for what closes it, and then what is written of the
+// second where the run goes on; and there, with as many lines of the journal fewer, the line of a refusal.
+fn is_cut_so(alloc: Global, first: &str, second: &str, last: usize) -> Result<bool, AllocError> {
+    let object = object_of(alloc, CALLS)?;
+    let front = end_of(alloc, EXEC, object.as_slice(), first, ROOM)?;
+    let rest = resumed(alloc, CALLS, first, second)?;
+    let journal = format!(in alloc; "{first}{second}")?;
+    let whole = end_of(alloc, EXEC, object.as_slice(), journal.as_str(), ROOM)?;
+    let mut text = Vec::from_slice(alloc, without_last(front.bytes.as_slice(), last))?;
+    if whole.status == Status::BadJournal {
+        text.extend_from_slice(without_last(rest.bytes.as_slice(), 1))?;
+        return Ok(rest.status == Status::BadJournal
+            && text.as_slice() == without_last(whole.bytes.as_slice(), 1));
+    }
+    text.extend_from_slice(rest.bytes.as_slice())?;
+    Ok(rest.status == whole.status && text.as_slice() == whole.bytes.as_slice())
+}
+
+#[test]
+fn a_run_may_be_saved_behind_each_mark(rt: HostRuntime) -> Result<(), Fail> {
+    for (number, (first, second, last)) in CUTS.iter().enumerate() {
+        assert!(rt; is_cut_so(rt.alloc(), first, second, *last)?, "row {number}");
+    }
+    Ok(())
+}
+
+// The bytes of an object, a journal, and the line that is written in place of a snapshot.
+struct Unsaved {
+    object: &'static [u8],
+    journal: &'static str,
+    status: Status,
+    line: &'static str,
+}
+
+static UNSAVED: [Unsaved; 5] = [
+    Unsaved {
+        object: &EMPTY,
+        journal: "tick 1\nrun x\ntick 1\n",
+        status: Status::BadJournal,
+        line: "error journal 2 1\n",
+    },
+    Unsaved {
+        object: &EMPTY,
+        journal: "tick 1\nturn a",
+        status: Status::BadJournal,
+        line: "error journal 2 2\n",
+    },
+    Unsaved {
+        object: &JUMP,
+        journal: "run x",
+        status: Status::BadObject,
+        line: "error object routine 0 instruction 1 V6\n",
+    },
+    Unsaved {
+        object: &[],
+        journal: "",
+        status: Status::BadObject,
+        line: "error object 0\n",
+    },
+    Unsaved {
+        object: &NOTHING,
+        journal: "",
+        status: Status::BadObject,
+        line: "error object 0\n",
+    },
+];
+
+fn is_unsaved_so(alloc: Global, unsaved: &Unsaved) -> Result<bool, AllocError> {
+    let ended = end_of(alloc, SAVE, unsaved.object, unsaved.journal, ROOM)?;
+    Ok(ended.is(unsaved.status, unsaved.line.as_bytes()))
+}
+
+#[test]
+fn a_refusal_is_all_that_is_written_for_save(rt: HostRuntime) -> Result<(), Fail> {
+    for (number, unsaved) in UNSAVED.iter().enumerate() {
+        assert!(rt; is_unsaved_so(rt.alloc(), unsaved)?, "row {number}");
+    }
+    Ok(())
+}
+
+// Where a read fails, nothing but the line of that is written for `save`; and nothing at all, where the write does.
+#[test]
+fn each_call_may_fail_while_a_run_is_saved(rt: HostRuntime) -> Result<(), Fail> {
+    let alloc = rt.alloc();
+    let object = object_of(alloc, WAITING)?;
+    let bytes = object.as_slice();
+    let journal = "run 10\ntick 6000\n";
+    for call in 1..=4 {
+        let ended = failed(alloc, SAVE, bytes, journal, &[call], &[])?;
+        assert!(rt; ended.is(Status::ReadFault, b"error read\n".as_slice()), "{call}");
+    }
+    let ended = failed(alloc, SAVE, bytes, journal, &[], &[1])?;
+    assert!(rt; ended.is(Status::WriteFault, b"".as_slice()));
+    let done = failed(alloc, SAVE, bytes, journal, &[5], &[2])?;
+    assert!(rt; done.status == Status::Done);
+    Ok(())
+}
+
+// The lines of a run that goes on, as far as the journal that was read, and so many of them as were taken.
+#[test]
+fn each_call_may_fail_while_a_run_goes_on(rt: HostRuntime) -> Result<(), Fail> {
+    let alloc = rt.alloc();
+    let object = object_of(alloc, WAITING)?;
+    let saved = end_of(alloc, SAVE, object.as_slice(), "run 10\ntick 6000\n", ROOM)?;
+    let bytes = saved.bytes.as_slice();
+    let row = &GOING_ON[0];
+    for call in 1..=3 {
+        let ended = failed(alloc, RESUME, bytes, row.second, &[call], &[])?;
+        assert!(rt; ended.is(Status::ReadFault, b"error read\n".as_slice()), "{call}");
+    }
+    let ended = failed(alloc, RESUME, bytes, row.second, &[4], &[])?;
+    let read = "6000 state a suspended 1\n6000 state b running 2\n6000 end b\nerror read\n";
+    assert!(rt; ended.is(Status::ReadFault, read.as_bytes()));
+    let mut taken = String::new(alloc);
+    let mut call = 1;
+    for line in row.text.split_inclusive('\n') {
+        let ended = failed(alloc, RESUME, bytes, row.second, &[], &[call])?;
+        assert!(rt; ended.is(Status::WriteFault, taken.as_bytes()), "{call}");
+        taken.push_str(line)?;
+        call += 1;
+    }
+    Ok(())
+}
+
+// A snapshot may have so many bytes; none of these is one.
+#[test]
+fn a_snapshot_has_at_most_268435456_bytes(rt: HostRuntime) -> Result<(), Fail> {
+    let alloc = rt.alloc();
+    let zero: &[u8] = &[0];
+    let mut bytes = zero.repeat(alloc, 268_435_456)?;
+    let within = end_of(alloc, RESUME, bytes.as_slice(), "", ROOM)?;
+    assert!(rt; within.is(Status::BadObject, b"error snapshot 0\n".as_slice()));
+    bytes.push(0)?;
+    let over = end_of(alloc, RESUME, bytes.as_slice(), "", ROOM)?;
+    assert!(rt; over.is(Status::TooLong, b"error too long 268435457\n".as_slice()));
+    Ok(())
+}
