@@ -21,7 +21,8 @@ pub static OTHER_WORDS: [&[&str]; 8] = [
 
 // The snapshot of a module without anything, at the start of its run.
 const NOTHING: [u8; 24] = [
-    0x50, 0x52, 0x53, 0x31, 0x0a, 0x50, 0x52, 0x4c, 0x31, 0, 0, 0, 0, 0, 0, 0, 0, 0, 0, 0, 0, 0, 0, 0,
+    0x50, 0x52, 0x53, 0x31, 0x0a, 0x50, 0x52, 0x4c, 0x31, 0, 0, 0, 0, 0, 0, 0, 0, 0, 0, 0, 0, 0, 0,
+    0,
 ];
 
 #[test]
@@ -46,7 +47,10 @@ fn snapshots_that_are_cut_are_refused(rt: HostRuntime) -> Result<(), Fail> {
     for (place, byte) in NOTHING.iter().enumerate() {
         if place < 4 || place == 23 {
             let line = format!(in alloc; "error snapshot {place}\n")?;
-            assert!(rt; is_refused(alloc, front.as_slice(), line.as_str())?, "{place}");
+            assert!(rt;
+                is_refused(alloc, front.as_slice(), line.as_str())?,
+                "{place}"
+            );
         }
         front.push(*byte)?;
     }
@@ -192,8 +196,16 @@ static CUTS: [(&str, &str, usize); 16] = [
     ("turn c\nrun 99\ntick 1999\n", "tick 1\nrun 3\nstate", 4),
     ("pass 1000 9\n", "pass 1500 9\nline 1 '7'\nrun 99\n", 4),
     ("run 99\ntick 999\nline 1 '41'\n", "pass 4000 20\n", 4),
-    ("clock 23:59:59\npass 2000 20\n", "irpt 3\nrun 99\npass 4000 99", 4),
-    ("run 99\nchars 1 '1'\n", "tick 1000\nrun 99\nline 1 '2'\nrun 99\n", 4),
+    (
+        "clock 23:59:59\npass 2000 20\n",
+        "irpt 3\nrun 99\npass 4000 99",
+        4,
+    ),
+    (
+        "run 99\nchars 1 '1'\n",
+        "tick 1000\nrun 99\nline 1 '2'\nrun 99\n",
+        4,
+    ),
 ];
 
 // What was written but for so many last lines.
@@ -244,7 +256,10 @@ fn is_cut_so(alloc: Global, first: &str, second: &str, last: usize) -> Result<bo
 #[test]
 fn a_run_may_be_saved_behind_each_mark(rt: HostRuntime) -> Result<(), Fail> {
     for (number, (first, second, last)) in CUTS.iter().enumerate() {
-        assert!(rt; is_cut_so(rt.alloc(), first, second, *last)?, "row {number}");
+        assert!(rt;
+            is_cut_so(rt.alloc(), first, second, *last)?,
+            "row {number}"
+        );
     }
     Ok(())
 }
@@ -329,7 +344,10 @@ fn each_call_may_fail_while_a_run_is_saved(rt: HostRuntime) -> Result<(), Fail> 
     let journal = "run 10\ntick 6000\n";
     for call in 1..=4 {
         let ended = failed(alloc, SAVE, bytes, journal, &[call], &[])?;
-        assert!(rt; ended.is(Status::ReadFault, b"error read\n".as_slice()), "{call}");
+        assert!(rt;
+            ended.is(Status::ReadFault, b"error read\n".as_slice()),
+            "{call}"
+        );
     }
     let ended = failed(alloc, SAVE, bytes, journal, &[], &[1])?;
     assert!(rt; ended.is(Status::WriteFault, b"".as_slice()));
@@ -348,7 +366,10 @@ fn each_call_may_fail_while_a_run_goes_on(rt: HostRuntime) -> Result<(), Fail> {
     let row = &GOING_ON[0];
     for call in 1..=3 {
         let ended = failed(alloc, RESUME, bytes, row.second, &[call], &[])?;
-        assert!(rt; ended.is(Status::ReadFault, b"error read\n".as_slice()), "{call}");
+        assert!(rt;
+            ended.is(Status::ReadFault, b"error read\n".as_slice()),
+            "{call}"
+        );
     }
     let ended = failed(alloc, RESUME, bytes, row.second, &[4], &[])?;
     let read = "6000 state a suspended 1\n6000 state b running 2\n6000 end b\nerror read\n";
