@@ -21,7 +21,8 @@ pub static OTHER_WORDS: [&[&str]; 8] = [
 
 // The snapshot of a module without anything, at the start of its run.
 const NOTHING: [u8; 24] = [
-    0x50, 0x52, 0x53, 0x31, 0x0a, 0x50, 0x52, 0x4c, 0x31, 0, 0, 0, 0, 0, 0, 0, 0, 0, 0, 0, 0, 0, 0, 0,
+    0x50, 0x52, 0x53, 0x31, 0x0a, 0x50, 0x52, 0x4c, 0x31, 0, 0, 0, 0, 0, 0, 0, 0, 0, 0, 0, 0, 0, 0,
+    0,
 ];
 
 #[test]
@@ -42,19 +43,26 @@ fn is_refused(alloc: Global, bytes: &[u8], line: &str) -> Result<bool, AllocErro
 #[test]
 fn snapshots_that_are_cut_are_refused(rt: HostRuntime) -> Result<(), Fail> {
     let alloc = rt.alloc();
-    for count in [0, 1, 2, 3, 23] {
-        let line = format!(in alloc; "error snapshot {count}\n")?;
-        assert!(rt; is_refused(alloc, &NOTHING[..count], line.as_str())?, "{count}");
+    let mut front = Vec::new(alloc);
+    for (place, byte) in NOTHING.iter().enumerate() {
+        if place < 4 || place == 23 {
+            let line = format!(in alloc; "error snapshot {place}\n")?;
+            assert!(rt;
+                is_refused(alloc, front.as_slice(), line.as_str())?,
+                "{place}"
+            );
+        }
+        front.push(*byte)?;
     }
-    let mut more = Vec::from_slice(alloc, NOTHING.as_slice())?;
-    more.push(0)?;
-    assert!(rt; is_refused(alloc, more.as_slice(), "error snapshot 24\n")?);
+    front.push(0)?;
+    assert!(rt; is_refused(alloc, front.as_slice(), "error snapshot 24\n")?);
     assert!(rt; is_refused(alloc, EMPTY.as_slice(), "error snapshot 0\n")?);
     Ok(())
 }
 
-// The front of a snapshot, an object behind its length, what stands behind it, and the line with which that is refused.
+// An object's length and bytes in a snapshot, what stands behind them, and the line with which that is refused.
 struct Broken {
+    length: u8,
     object: &'static [u8],
     state: &'static [u8],
     line: &'static str,
@@ -62,21 +70,25 @@ struct Broken {
 
 static BROKEN: [Broken; 4] = [
     Broken {
+        length: 26,
         object: &JUMP,
         state: &[0, 0, 0, 0, 0, 0, 0, 0, 1, 0, 0, 0],
         line: "error snapshot state N1\n",
     },
     Broken {
+        length: 10,
         object: &EMPTY,
         state: &[0, 0, 0, 0, 0, 0, 0, 0, 1, 0, 0, 0],
         line: "error snapshot state N2\n",
     },
     Broken {
+        length: 10,
         object: &EMPTY,
         state: &[0, 0, 1, 0, 0, 0, 0, 0, 0],
         line: "error snapshot state N3\n",
     },
     Broken {
+        length: 10,
         object: &[0x50, 0x52, 0x4c, 0x32, 0, 0, 0, 0, 0, 0],
         state: &[0, 0, 0, 0, 0, 0, 0, 0, 0],
         line: "error snapshot 4\n",
@@ -85,7 +97,7 @@ static BROKEN: [Broken; 4] = [
 
 fn is_broken_so(alloc: Global, broken: &Broken) -> Result<bool, AllocError> {
     let mut bytes = Vec::from_slice(alloc, b"PRS1".as_slice())?;
-    bytes.push(broken.object.len() as u8)?;
+    bytes.push(broken.length)?;
     bytes.extend_from_slice(broken.object)?;
     bytes.extend_from_slice(broken.state)?;
     is_refused(alloc, bytes.as_slice(), broken.line)
@@ -184,8 +196,16 @@ static CUTS: [(&str, &str, usize); 16] = [
     ("turn c\nrun 99\ntick 1999\n", "tick 1\nrun 3\nstate", 4),
     ("pass 1000 9\n", "pass 1500 9\nline 1 '7'\nrun 99\n", 4),
     ("run 99\ntick 999\nline 1 '41'\n", "pass 4000 20\n", 4),
-    ("clock 23:59:59\npass 2000 20\n", "irpt 3\nrun 99\npass 4000 99", 4),
-    ("run 99\nchars 1 '1'\n", "tick 1000\nrun 99\nline 1 '2'\nrun 99\nrun x\n", 4),
+    (
+        "clock 23:59:59\npass 2000 20\n",
+        "irpt 3\nrun 99\npass 4000 99",
+        4,
+    ),
+    (
+        "run 99\nchars 1 '1'\n",
+        "tick 1000\nrun 99\nline 1 '2'\nrun 99\n",
+        4,
+    ),
 ];
 
 // What was written but for so many last lines.
@@ -204,29 +224,60 @@ fn without_last(text: &[u8], lines: usize) -> &[u8] {
     &text[..0]
 }
 
-// Whether the transcript of both journals is that of the first, but for what closes it, and then what is written of the
-// second where the run goes on; and there, with as many lines of the journal fewer, the line of a refusal.
-fn is_cut_so(alloc: Global, first: &str, second: &str, last: usize) -> Result<bool, AllocError> {
+// What is written of the first journal but for what closes it, of the second where the run goes on behind it, and of both
+// as one.
+struct Cut {
+    front: Vec<u8>,
+    rest: Ended,
+    whole: Ended,
+}
+
+fn cut(alloc: Global, first: &str, second: &str, last: usize) -> Result<Cut, AllocError> {
     let object = object_of(alloc, CALLS)?;
-    let front = end_of(alloc, EXEC, object.as_slice(), first, ROOM)?;
+    let run = end_of(alloc, EXEC, object.as_slice(), first, ROOM)?;
     let rest = resumed(alloc, CALLS, first, second)?;
     let journal = format!(in alloc; "{first}{second}")?;
     let whole = end_of(alloc, EXEC, object.as_slice(), journal.as_str(), ROOM)?;
-    let mut text = Vec::from_slice(alloc, without_last(front.bytes.as_slice(), last))?;
-    if whole.status == Status::BadJournal {
-        text.extend_from_slice(without_last(rest.bytes.as_slice(), 1))?;
-        return Ok(rest.status == Status::BadJournal
-            && text.as_slice() == without_last(whole.bytes.as_slice(), 1));
-    }
+    Ok(Cut {
+        front: Vec::from_slice(alloc, without_last(run.bytes.as_slice(), last))?,
+        rest,
+        whole,
+    })
+}
+
+// Whether the second stands behind the first in both as one.
+fn is_cut_so(alloc: Global, first: &str, second: &str, last: usize) -> Result<bool, AllocError> {
+    let Cut { front, rest, whole } = cut(alloc, first, second, last)?;
+    let mut text = front;
     text.extend_from_slice(rest.bytes.as_slice())?;
-    Ok(rest.status == whole.status && text.as_slice() == whole.bytes.as_slice())
+    Ok(rest.status == Status::Done && whole.is(Status::Done, text.as_slice()))
 }
 
 #[test]
 fn a_run_may_be_saved_behind_each_mark(rt: HostRuntime) -> Result<(), Fail> {
     for (number, (first, second, last)) in CUTS.iter().enumerate() {
-        assert!(rt; is_cut_so(rt.alloc(), first, second, *last)?, "row {number}");
+        assert!(rt;
+            is_cut_so(rt.alloc(), first, second, *last)?,
+            "row {number}"
+        );
     }
+    Ok(())
+}
+
+// The lines of the second journal count anew.
+#[test]
+fn a_refused_line_has_its_number_in_its_own_journal(rt: HostRuntime) -> Result<(), Fail> {
+    let alloc = rt.alloc();
+    let second = "tick 1000\nrun 99\nline 1 '2'\nrun 99\nrun x\n";
+    let Cut { front, rest, whole } = cut(alloc, "run 99\nchars 1 '1'\n", second, 4)?;
+    let lines = without_last(rest.bytes.as_slice(), 1);
+    let mut told = Vec::from_slice(alloc, lines)?;
+    told.extend_from_slice(b"error journal 5 1\n".as_slice())?;
+    let mut text = front;
+    text.extend_from_slice(lines)?;
+    text.extend_from_slice(b"error journal 7 1\n".as_slice())?;
+    assert!(rt; rest.is(Status::BadJournal, told.as_slice()));
+    assert!(rt; whole.is(Status::BadJournal, text.as_slice()));
     Ok(())
 }
 
@@ -293,7 +344,10 @@ fn each_call_may_fail_while_a_run_is_saved(rt: HostRuntime) -> Result<(), Fail> 
     let journal = "run 10\ntick 6000\n";
     for call in 1..=4 {
         let ended = failed(alloc, SAVE, bytes, journal, &[call], &[])?;
-        assert!(rt; ended.is(Status::ReadFault, b"error read\n".as_slice()), "{call}");
+        assert!(rt;
+            ended.is(Status::ReadFault, b"error read\n".as_slice()),
+            "{call}"
+        );
     }
     let ended = failed(alloc, SAVE, bytes, journal, &[], &[1])?;
     assert!(rt; ended.is(Status::WriteFault, b"".as_slice()));
@@ -312,32 +366,31 @@ fn each_call_may_fail_while_a_run_goes_on(rt: HostRuntime) -> Result<(), Fail> {
     let row = &GOING_ON[0];
     for call in 1..=3 {
         let ended = failed(alloc, RESUME, bytes, row.second, &[call], &[])?;
-        assert!(rt; ended.is(Status::ReadFault, b"error read\n".as_slice()), "{call}");
+        assert!(rt;
+            ended.is(Status::ReadFault, b"error read\n".as_slice()),
+            "{call}"
+        );
     }
     let ended = failed(alloc, RESUME, bytes, row.second, &[4], &[])?;
     let read = "6000 state a suspended 1\n6000 state b running 2\n6000 end b\nerror read\n";
     assert!(rt; ended.is(Status::ReadFault, read.as_bytes()));
     let mut taken = String::new(alloc);
-    let mut call = 1;
+    let mut call: u64 = 1;
     for line in row.text.split_inclusive('\n') {
         let ended = failed(alloc, RESUME, bytes, row.second, &[], &[call])?;
         assert!(rt; ended.is(Status::WriteFault, taken.as_bytes()), "{call}");
         taken.push_str(line)?;
-        call += 1;
+        call = call.saturating_add(1);
     }
     Ok(())
 }
 
-// A snapshot may have so many bytes; none of these is one.
 #[test]
 fn a_snapshot_has_at_most_268435456_bytes(rt: HostRuntime) -> Result<(), Fail> {
     let alloc = rt.alloc();
     let zero: &[u8] = &[0];
-    let mut bytes = zero.repeat(alloc, 268_435_456)?;
-    let within = end_of(alloc, RESUME, bytes.as_slice(), "", ROOM)?;
-    assert!(rt; within.is(Status::BadObject, b"error snapshot 0\n".as_slice()));
-    bytes.push(0)?;
-    let over = end_of(alloc, RESUME, bytes.as_slice(), "", ROOM)?;
-    assert!(rt; over.is(Status::TooLong, b"error too long 268435457\n".as_slice()));
+    let bytes = zero.repeat(alloc, 268_435_457)?;
+    let ended = end_of(alloc, RESUME, bytes.as_slice(), "", ROOM)?;
+    assert!(rt; ended.is(Status::TooLong, b"error too long 268435457\n".as_slice()));
     Ok(())
 }
