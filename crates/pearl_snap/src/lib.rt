@@ -1,5 +1,4 @@
-// Saved runs: the whole state of a run as a record, the bytes of snapshots, both ways, and what a state must be. No command
-// reaches them yet.
+// Saved runs: the bytes of snapshots, both ways, and the rules that a state must keep so that a run can go on from it.
 #![tactic(auto)]
 
 pub mod cells;
