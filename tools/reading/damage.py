@@ -100,7 +100,7 @@ def source(dice, data, other):
 
 
 def made(dice, data, other):
-    """A damaged object, or its front with noise."""
+    """A damaged object or snapshot, or its front with noise."""
     if not dice.randrange(12):
         return dice.choice([b"", b"PRL1", b"PRL2", data[:dice.randrange(40)]]) + noise(dice)
     for _ in range(dice.choice([1, 1, 1, 1, 2, 4])):
@@ -142,6 +142,21 @@ def journal(dice, data, other):
         else:
             data = b"".join(by_parts(dice, tokens(data), [it for it in tokens(other) if it.strip()] or [b"1"]))
     return bounded(data)
+
+
+def parted(dice, data):
+    """A journal in two parts, the first of which ends with a line end: at a line, or within a `run`, `tick` or `pass`; and how
+    many of its lines are before the second part's first one."""
+    parts = lines(data if data[-1:] == b"\n" else data + b"\n")
+    at = dice.randrange(len(parts) + 1)
+    before, after = parts[:at], parts[at:]
+    found = re.fullmatch(rb"(run|tick|pass) (\d{1,9})( \d+)?\r?\n", after[0]) if after else None
+    if found and dice.randrange(2):
+        word, count, picks = found[1], int(found[2]), found[3] or b""
+        begun = dice.randrange(count + 1)
+        one, other = (b"%s %d%s\n" % (word, part, picks) for part in (begun, count - begun))
+        before, after = before + [one], [other] + after[1:]
+    return b"".join(before), b"".join(after), at
 
 
 def words(dice, paths):
