@@ -198,8 +198,9 @@ class Judge:
         made = written(self.folder, "object", self.plants.objects[place])
         first, rest, _ = damage.parted(dice, dice.choice(self.plants.logs[place]))
         saved = self.answer(["save", made, written(self.folder, "first", first)], compare)
-        path = written(self.folder, "snapshot", damage.made(dice, saved.out, saved.out))
-        self.answer(["resume", path, written(self.folder, "rest", rest)], compare)
+        if saved.status == DONE:
+            path = written(self.folder, "snapshot", damage.snapshot(dice, saved.out, saved.out))
+            self.answer(["resume", path, written(self.folder, "rest", rest)], compare)
 
     def words(self, dice, compare):
         """Words, among them paths."""

@@ -5,6 +5,7 @@ import re
 import subprocess
 from dataclasses import dataclass
 
+from . import objects, snapshot
 from .tokens import TOP
 
 DONE, USAGE, REFUSED, BAD_OBJECT, BAD_JOURNAL, READ_FAULT, WRITE_FAULT, NO_MEMORY, TOO_LONG, BAD_NAME = range(10)
@@ -242,4 +243,15 @@ def by_try(cases, flags, words=()):
     parts = re.split(rb"^== (\w+)\n", done.stdout, flags=re.M)
     outs = dict(zip(parts[1::2], parts[2::2]))
     ends = dict(re.findall(rb"^case=(\w+) run=ended status=(\d+)", done.stderr, re.M))
-    return {name.decode(): Answer(int(status), outs.get(name, b"")) for name, status in ends.items()}
+    return {name.decode(): Answer(int(status), without_end(outs.get(name, b""))) for name, status in ends.items()}
+
+
+def without_end(out):
+    """What a try wrote: the kit puts a line end behind an object or a snapshot, which is none of its bytes."""
+    for reader in (objects.parsed, snapshot.parsed):
+        try:
+            reader(out[:-1])
+            return out[:-1]
+        except objects.Unread:
+            continue
+    return out

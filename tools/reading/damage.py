@@ -2,6 +2,8 @@
 
 import re
 
+from .objects import Reader
+
 TOKEN = re.compile(rb"[A-Za-z]\w*|\d+(?:\.\d+)?|'[^'\n]*'|:=|/=|<=|>=|//|\*\*|<>|[ \t\r\n]+|.", re.S)
 TIMES = re.compile(rb"^([ \t]*(?:run|tick|pass)[ \t]+)(\d+)([ \t]+(\d+))?", re.M)
 EDGES = [0, 1, 2, 63, 64, 99, 100, 127, 128, 255, 256, 1024, 32767, 65535, 65536, 65537, 2**31 - 1, 2**31, 2**40, 2**40 + 1,
@@ -100,12 +102,30 @@ def source(dice, data, other):
 
 
 def made(dice, data, other):
-    """A damaged object or snapshot, or its front with noise."""
+    """A damaged object, or its front with noise."""
     if not dice.randrange(12):
         return dice.choice([b"", b"PRL1", b"PRL2", data[:dice.randrange(40)]]) + noise(dice)
     for _ in range(dice.choice([1, 1, 1, 1, 2, 4])):
         data = by_bytes(dice, data, other)
     return data
+
+
+def snapshot(dice, data, other):
+    """A damaged snapshot, or its front with noise: mostly what stands behind the object is damaged."""
+    if not dice.randrange(12):
+        return dice.choice([b"", b"PRS1", b"PRS1\n", data[:dice.randrange(40)]]) + noise(dice)
+    begin = object_end(data) if dice.randrange(5) else 0
+    front, state, other = data[:begin], data[begin:], other[object_end(other):]
+    for _ in range(dice.choice([1, 1, 1, 1, 2, 4])):
+        state = by_bytes(dice, state, other)
+    return front + state
+
+
+def object_end(data):
+    """Where the object of a snapshot ends."""
+    reader = Reader(data)
+    reader.begins(b"PRS1")
+    return reader.number() + reader.at
 
 
 def bounded(data):

@@ -58,7 +58,8 @@ class Damage(unittest.TestCase):
     def test_files_differ(self):
         """Most are none of those that they come of, and of two seeds they aren't the same."""
         source, log = read(SOURCE), read(JOURNAL)
-        for make, data in ((damage.source, source), (damage.made, b"PRL1" + bytes(60)), (damage.journal, log)):
+        saved = b"PRS1\x14PRL1" + bytes(40)
+        for make, data in ((damage.source, source), (damage.made, b"PRL1" + bytes(60)), (damage.snapshot, saved), (damage.journal, log)):
             one, again, other = ([make(random.Random(f"{seed}/{number}"), data, data) for number in range(200)] for seed in (1, 1, 2))
             self.assertEqual(one, again)
             self.assertGreater(sum(a != b for a, b in zip(one, other)), 150)
