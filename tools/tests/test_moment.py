@@ -1,6 +1,7 @@
 """tools/moment over kept snapshots, with a script in tests/moment that stands for the program."""
 
 import os
+import re
 import shutil
 import tempfile
 import unittest
@@ -120,13 +121,43 @@ class Bytes(unittest.TestCase):
                 reads(wrong)
         self.assertEqual([objects.Reader(bytes([it])).signed() for it in range(4)], [0, -1, 1, -2])
 
+
+
+def page(name):
+    return read(os.path.dirname(tool.TOOLS), "docs", "use", name)
+
+
+def table_bytes(text):
+    """The bytes of a page's table, and the place of the first one."""
+    rows = re.findall(r"^\| (\d+) \| `([0-9a-f ]+)` \|", text, re.M)
+    found, first = b"", int(rows[0][0])
+    for at, spelled in rows:
+        assert int(at) == first + len(found), at
+        found += bytes.fromhex(spelled)
+    return found, first
+
+
+class Pages(unittest.TestCase):
+    """What docs/use shows by bytes is what is read, and what it shows of the incident is what is told."""
+
     def test_the_lamp(self):
-        """The object that docs/use/object-format.md shows by bytes."""
-        made = objects.parsed(bytes.fromhex(
-            "50524c31020001030201010001 05636f756e74001f0101001f0600000205737461727 4ff0101000203390103000000420019"
-            "0005666c617368050000040909000 0001f022905001f0a00000101010501014801190 0".replace(" ", "")))
-        self.assertEqual([(it.name, it.priority, it.main) for it in made.tasks], [("start", 255, True), ("flash", 5, False)])
-        self.assertEqual(made.tasks[0].code, [("Activate", 1, (3, 0), 0, 0), ("Enable", 0), ("End",)])
+        """The object, and the snapshot that has it."""
+        made, first = table_bytes(page("object-format.md"))
+        self.assertEqual((first, len(made)), (0, 85))
+        lamp = objects.parsed(made)
+        self.assertEqual([(it.name, it.priority, it.main) for it in lamp.tasks], [("start", 255, True), ("flash", 5, False)])
+        self.assertEqual(lamp.tasks[0].code, [("Activate", 1, (3, 0), 0, 0), ("Enable", 0), ("End",)])
+        state, first = table_bytes(page("snapshot.md"))
+        self.assertEqual(b"PRS1\x55" + made + state, read_bytes("lamp.snapshot"))
+        found = snapshot.parsed(read_bytes("lamp.snapshot"))
+        self.assertEqual((first, found.code, found.clock, found.switches), (90, made, 52_200_000, [True]))
+        self.assertEqual(found.tasks[1].frames, [snapshot.Frame(1, 7, [], [(("BIT", 1), "1")])])
+
+    def test_the_incident(self):
+        shown = re.findall(r"^```\n(.*?)^```", page("moment.md"), re.M | re.S)
+        self.assertEqual(shown[1].split("\n", 1)[1], read(FOLDER, "trap.moment"))
+        for part in shown[2].split("...\n"):
+            self.assertIn(part, read(FOLDER, "hangs.moment"))
 
 
 class Places(unittest.TestCase):
