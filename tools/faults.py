@@ -168,9 +168,9 @@ def judged(whole, fault, answer, hit):
 
 def without_faults(whole):
     """Why the command isn't right where nothing fails, or None: its answer, and that a run takes no memory behind the
-    first byte of its journal."""
+    first byte of its journal; `save` takes some for what it writes."""
     why = unlawful(whole.words, whole.answer)
-    if why or not has_journal(whole.words) or len(whole.hit.opened) != 2:
+    if why or not has_journal(whole.words) or len(whole.hit.opened) != 2 or whole.words[0] == "save":
         return why
     taken = whole.hit.calls["alloc"] - whole.hit.opened[1]
     return f"{taken} allocations behind the journal's first byte" if taken else None
@@ -206,6 +206,19 @@ def object_of(runner, source, path):
     return path
 
 
+def halves_of(runner, made, journal):
+    """Writes the snapshot of an object's run over the first half of a journal's lines, and the other half."""
+    with open(journal, "rb") as file:
+        lines = file.read().splitlines(keepends=True)
+    first, rest, path = (f"{made}.{os.path.basename(journal)}.{name}" for name in ("first", "rest", "snapshot"))
+    for name, part in ((first, lines[:len(lines) // 2]), (rest, lines[len(lines) // 2:])):
+        with open(name, "wb") as file:
+            file.write(b"".join(part))
+    with open(path, "wb") as file:
+        file.write(runner.plain(["save", made, first]).out)
+    return path, rest
+
+
 def names_of(runner, made):
     """As many leaves of an object as can be watched together."""
     slots, found = leaves(runner.plain(["list", made]).out), []
@@ -226,6 +239,8 @@ def plants(runner, folder):
             yield ["run", plant, journal]
             yield ["exec", made, journal]
             yield ["watch", made, journal, *names_of(runner, made)]
+            yield ["save", made, journal]
+            yield ["resume", *halves_of(runner, made, journal)]
 
 
 def refused(folder):
@@ -253,11 +268,19 @@ def refused(folder):
         yield ["list", changed]
         yield ["exec", changed, journal]
         yield ["watch", changed, journal, "x"]
-    whole = os.path.join(folder, "crossing.object")
+        yield ["save", changed, journal]
+    whole, saved = os.path.join(folder, "crossing.object"), os.path.join(folder, "crossing.object.crossing.journal.snapshot")
+    with open(saved, "rb") as file:
+        state = file.read()
+    for changed in (kept("cut.snapshot", state[:-1]), kept("state.snapshot", bytes.fromhex(
+            "50525331 0a 50524c31 000000000000 00 80b89929 00 00 00 00 00 00 00")), os.path.join(folder, "missing")):
+        yield ["resume", changed, journal]
     for log in (journal, os.path.join(folder, "missing")):
         yield ["run", plant, log]
         yield ["exec", whole, log]
         yield ["watch", whole, log, "Nachts"]
+        yield ["save", whole, log]
+        yield ["resume", saved, log]
     for names in (["Nachts", "nachts"], ["Nachts", "Nachts"], [], ["x"] * 65):
         yield ["watch", whole, journal, *names]
     for words in (["bench", "1"], ["bench", "3"], ["bench", "0"], [], ["check"], ["run", plant], ["list", "a", "b"]):

@@ -10,13 +10,15 @@ the seed and its number alone, from the plants of crates/pearl_examples/data, th
 - a source: `check`, `print`, `compile` and `run`; of what is accepted `list` and `exec` of its object too; of what is
   printed `print` again;
 - an object: `list`, `exec` and `watch`;
-- a journal: `run`, `exec` and `watch` of the plant and its object;
+- a journal: `run`, `exec` and `watch` of the plant and its object; then in two parts, `save` and `resume`;
+- a snapshot of the plant over a front of its journal: `resume`;
 - words.
 
 Each answer has to be one that the command may have (tools/reading/answers.py), and those over one input have to go
 together: `check`, `print`, `compile` and `run` refuse a source with one line, `exec` of an object does what `run` of its
-source does, `watch` ends as `exec` does or refuses the name that `list` shows to be wrong, `list` and `exec` refuse the
-same bytes at the same place, the text of a text is itself. With --other another
+source does, `watch` ends as `exec` does or refuses the name that `list` shows to be wrong, `save` refuses what `exec` does,
+`resume` goes on as `exec` of both parts does, `list` and `exec` refuse the same bytes at the same place, the text of a text
+is itself. With --other another
 implementation is asked for each N-th input, run with the same words, and has to answer the same status and bytes; only the
 bytes of an object may be others, which it then lists and executes as well. Each run has ten seconds and 4 GiB.
 
@@ -40,11 +42,11 @@ from collections import Counter
 
 from reading import damage
 from reading.answers import (BAD_NAME, BAD_OBJECT, DONE, NO_WORDS, Answer, asked, by_try, disagreement, is_command, leaves,
-                             refused_name, unlawful)
+                             gone_on, refused_name, unlawful)
 
 TOP = os.path.dirname(os.path.dirname(os.path.abspath(__file__)))
 DATA = os.path.join(TOP, "crates", "pearl_examples", "data")
-SORTS = ("source", "source", "source", "object", "object", "journal", "journal", "words")
+SORTS = ("source", "source", "source", "object", "object", "journal", "journal", "snapshot", "snapshot", "words")
 SECONDS, MEMORY = 10, 4 << 30
 
 
@@ -176,6 +178,30 @@ class Judge:
             self.problems.append(f"run has {one.shown()}, exec of the object {two.shown()}")
         self.watch(dice, compare, (made, log), self.answer(["list", made], False), two)
 
+        self.parts(dice, compare, made, read(log), two)
+
+    def parts(self, dice, compare, made, data, whole):
+        """A journal in two parts, over an object that does this over the whole: saved behind the first, then gone on with."""
+        *both, lines = damage.parted(dice, data)
+        first, rest = (written(self.folder, name, part) for name, part in zip(("first", "rest"), both))
+        saved, run = self.answer(["save", made, first], compare), self.answer(["exec", made, first], False)
+        self.problems += filter(None, [disagreement({"exec": run, "save": saved})])
+        if saved.status == DONE and run.status == DONE:
+            path, nothing = written(self.folder, "snapshot", saved.out), written(self.folder, "nothing", b"")
+            closing, on = self.answer(["resume", path, nothing], compare), self.answer(["resume", path, rest], compare)
+            has_clock = re.search(rb"^[ \t]*clock", both[1], re.M)
+            self.problems += filter(None, [None if has_clock else gone_on(whole, run, closing, on, lines)])
+
+    def snapshot(self, dice, compare):
+        """A damaged snapshot of a plant over a front of its journal; what is taken is gone on with."""
+        place = dice.randrange(len(self.plants.paths))
+        made = written(self.folder, "object", self.plants.objects[place])
+        first, rest, _ = damage.parted(dice, dice.choice(self.plants.logs[place]))
+        saved = self.answer(["save", made, written(self.folder, "first", first)], compare)
+        if saved.status == DONE:
+            path = written(self.folder, "snapshot", damage.snapshot(dice, saved.out, saved.out))
+            self.answer(["resume", path, written(self.folder, "rest", rest)], compare)
+
     def words(self, dice, compare):
         """Words, among them paths."""
         self.answer(damage.words(dice, [*self.plants.paths[:2], self.folder, os.path.join(self.folder, "missing")]), compare)
@@ -272,7 +298,7 @@ def main():
     parser.add_argument("--count", type=int, default=1000)
     parser.add_argument("--seed", default="1")
     parser.add_argument("--from", dest="begin", type=int, default=1)
-    parser.add_argument("--only", default="", help="source, object, journal or words")
+    parser.add_argument("--only", default="", help="source, object, journal, snapshot or words")
     parser.add_argument("--other", help="another implementation's program")
     parser.add_argument("--each", type=int, default=1, help="with --other each N-th input is compared")
     parser.add_argument("--keep", help="a folder for inputs that are not answered right")

@@ -5,14 +5,16 @@ import re
 import subprocess
 from dataclasses import dataclass
 
+from . import objects, snapshot
 from .tokens import TOP
 
 DONE, USAGE, REFUSED, BAD_OBJECT, BAD_JOURNAL, READ_FAULT, WRITE_FAULT, NO_MEMORY, TOO_LONG, BAD_NAME = range(10)
 NO_WORDS = 10
 READ, MEMORY = b"error read\n", b"error memory\n"
-LIMITS = {"source": 1048576, "object": 16777216, "journal": 67108864}
+LIMITS = {"source": 1048576, "object": 16777216, "snapshot": 268435456, "journal": 67108864}
 FILES = {"run": ("source", "journal"), "compile": ("source",), "exec": ("object", "journal"), "check": ("source",),
-         "print": ("source",), "list": ("object",), "watch": ("object", "journal"), "bench": ()}
+         "print": ("source",), "list": ("object",), "watch": ("object", "journal"), "save": ("object", "journal"),
+         "resume": ("snapshot", "journal"), "bench": ()}
 # So many names may stand behind the files of `watch`, and so many slots may be watched.
 NAMES, SLOTS = 64, 1024
 
@@ -31,9 +33,10 @@ SYNTAX = rf"error syntax ({NUMBER})\n"
 RULE = rf"{SYNTAX}|error source ({NUMBER}) S[1-9]\d?\n"
 OBJECT = rf"error object ({NUMBER})\n"
 VALIDATOR = rf"{OBJECT}|error object routine {NUMBER} instruction {NUMBER} V[1-9]\d?\n"
+SNAPSHOT = rf"error snapshot (?:({NUMBER})|state N[1-6])\n"
 JOURNAL = r"error journal ([1-9]\d*) [1-4]\n"
 LONG_SOURCE, LONG_OBJECT = "error too long 1048577\n", "error too long 16777217\n"
-LONG_JOURNAL = "error too long 67108865\n"
+LONG_SNAPSHOT, LONG_JOURNAL = "error too long 268435457\n", "error too long 67108865\n"
 FORMS = {
     ("run", DONE): rf"{EVENTS}{NUMBER} close\n", ("run", REFUSED): RULE, ("run", BAD_JOURNAL): EVENTS + JOURNAL,
     ("run", TOO_LONG): rf"{LONG_SOURCE}|{EVENTS}{LONG_JOURNAL}",
@@ -45,6 +48,10 @@ FORMS = {
     ("compile", DONE): r"PRL[12][\x00-\xff]*", ("compile", REFUSED): RULE, ("compile", TOO_LONG): LONG_SOURCE,
     ("check", DONE): rf"accepted {NUMBER} {NUMBER} {NUMBER}\n", ("check", REFUSED): RULE, ("check", TOO_LONG): LONG_SOURCE,
     ("print", DONE): r"(?:[ -~]*\n)*MODEND ;\n", ("print", REFUSED): SYNTAX, ("print", TOO_LONG): LONG_SOURCE,
+    ("save", DONE): r"PRS1[\x00-\xff]*", ("save", BAD_OBJECT): VALIDATOR, ("save", BAD_JOURNAL): JOURNAL,
+    ("save", TOO_LONG): rf"{LONG_OBJECT}|{LONG_JOURNAL}",
+    ("resume", DONE): rf"{EVENTS}{NUMBER} close\n", ("resume", BAD_OBJECT): SNAPSHOT, ("resume", BAD_JOURNAL): EVENTS + JOURNAL,
+    ("resume", TOO_LONG): rf"{LONG_SNAPSHOT}|{EVENTS}{LONG_JOURNAL}",
     ("list", DONE): LISTED, ("list", BAD_OBJECT): OBJECT, ("list", TOO_LONG): LONG_OBJECT,
     ("bench", DONE): rf"bench {NUMBER} starts {NUMBER} ends {NUMBER} overruns {NUMBER}\n",
 }
@@ -132,7 +139,7 @@ def unlawful(words, answer):
         return None if right else f"words that are no command have {answer.shown()}"
     files = words[1:1 + len(FILES[words[0]])]
     if answer.status == READ_FAULT and any(length_of(path) is None for path in files):
-        before = VALUES if words[0] == "watch" else EVENTS
+        before = {"watch": VALUES, "save": ""}.get(words[0], EVENTS)
         right = re.fullmatch(rf"{before}error read\n", answer.out.decode("latin-1"), re.A)
         return None if right else "`error read` isn't all"
     form = FORMS.get((words[0], answer.status))
@@ -182,9 +189,27 @@ def disagreement(answers):
         return f"run has {runs[0].shown()}, exec of the object {runs[1].shown()}"
     if runs[0] and check and check.status != DONE and refusal(runs[0]) != refusal(check):
         return f"check has {check.shown()}, run {runs[0].shown()}"
-    watched = answers.get("watch")
+    watched, saved = answers.get("watch"), answers.get("save")
     if runs[1] and watched and not end_alike(runs[1], watched):
         return f"exec has {runs[1].shown()}, watch {watched.shown()}"
+    ends = [(it.status, it.status and last_line(it)) for it in (runs[1], saved) if it]
+    if runs[1] and saved and ends[0] != ends[1]:
+        return f"exec has {runs[1].shown()}, save {saved.shown()}"
+    return None
+
+
+def last_line(answer):
+    return b"".join(answer.out.splitlines(keepends=True)[-1:])
+
+
+def gone_on(whole, first, closing, rest, lines):
+    """Why a run doesn't go on from its snapshot as it should, or None: over both journals and over the first one the object
+    is run so, and from the snapshot over nothing and over the second one; the first journal has so many lines."""
+    out = re.sub(rb"(?<=^error journal )\d+", lambda found: b"%d" % (int(found[0]) + lines), rest.out, flags=re.M)
+    if closing.status != DONE or not first.out.endswith(closing.out):
+        return f"exec has {first.shown()}, resume of its snapshot {closing.shown()}"
+    if (rest.status, first.out.removesuffix(closing.out) + out) != (whole.status, whole.out):
+        return f"exec has {whole.shown()}, resume in its midst {rest.shown()}"
     return None
 
 
@@ -218,4 +243,15 @@ def by_try(cases, flags, words=()):
     parts = re.split(rb"^== (\w+)\n", done.stdout, flags=re.M)
     outs = dict(zip(parts[1::2], parts[2::2]))
     ends = dict(re.findall(rb"^case=(\w+) run=ended status=(\d+)", done.stderr, re.M))
-    return {name.decode(): Answer(int(status), outs.get(name, b"")) for name, status in ends.items()}
+    return {name.decode(): Answer(int(status), without_end(outs.get(name, b""))) for name, status in ends.items()}
+
+
+def without_end(out):
+    """What a try wrote: the kit puts a line end behind an object or a snapshot, which is none of its bytes."""
+    for reader in (objects.parsed, snapshot.parsed):
+        try:
+            reader(out[:-1])
+            return out[:-1]
+        except objects.Unread:
+            continue
+    return out

@@ -3,6 +3,7 @@
 import sys
 from decimal import Decimal
 
+from . import table
 from .causes import Source
 from .journal import Plant, clock
 
@@ -11,13 +12,18 @@ class Unusable(Exception):
     """A file or a word that can't be used, and why."""
 
 
-def plant_of(name):
-    """What the source in a file declares."""
+def source_of(name):
+    """The source in a file, which has no fault of syntax."""
     with open(name, "rb") as file:
         source = Source(file.read())
     if source.walk is None:
         raise Unusable(f"{name}: the source isn't accepted; ./pearl check {name} | tools/explain {name} tells why")
-    return Plant.of(source.walk)
+    return source
+
+
+def plant_of(name):
+    """What the source in a file declares."""
+    return Plant.of(source_of(name).walk)
 
 
 def start_of(word):
@@ -28,6 +34,19 @@ def start_of(word):
     if why:
         raise Unusable(f"--start: {why}")
     return start
+
+
+def moment_of(word, start, option):
+    """A moment in milliseconds, of digits or of a time of day."""
+    try:
+        moment, _, clock = table.time_of(word)
+    except table.Wrong as error:
+        raise Unusable(f"{option}: {error}") from error
+    if moment is not None:
+        return moment
+    if start is None:
+        raise Unusable(f"{option}: a time of day asks for the one at the start")
+    return (clock - start) % table.DAY
 
 
 def scales(words):

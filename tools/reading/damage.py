@@ -2,6 +2,8 @@
 
 import re
 
+from .objects import Reader
+
 TOKEN = re.compile(rb"[A-Za-z]\w*|\d+(?:\.\d+)?|'[^'\n]*'|:=|/=|<=|>=|//|\*\*|<>|[ \t\r\n]+|.", re.S)
 TIMES = re.compile(rb"^([ \t]*(?:run|tick|pass)[ \t]+)(\d+)([ \t]+(\d+))?", re.M)
 EDGES = [0, 1, 2, 63, 64, 99, 100, 127, 128, 255, 256, 1024, 32767, 65535, 65536, 65537, 2**31 - 1, 2**31, 2**40, 2**40 + 1,
@@ -108,6 +110,24 @@ def made(dice, data, other):
     return data
 
 
+def snapshot(dice, data, other):
+    """A damaged snapshot, or its front with noise: mostly what stands behind the object is damaged."""
+    if not dice.randrange(12):
+        return dice.choice([b"", b"PRS1", b"PRS1\n", data[:dice.randrange(40)]]) + noise(dice)
+    begin = object_end(data) if dice.randrange(5) else 0
+    front, state, other = data[:begin], data[begin:], other[object_end(other):]
+    for _ in range(dice.choice([1, 1, 1, 1, 2, 4])):
+        state = by_bytes(dice, state, other)
+    return front + state
+
+
+def object_end(data):
+    """Where the object of a snapshot ends."""
+    reader = Reader(data)
+    reader.begins(b"PRS1")
+    return reader.number() + reader.at
+
+
 def bounded(data):
     """The journal with fewer lines and smaller numbers, where these let a run take long: its `run`, `tick` and `pass`."""
     spent = 0
@@ -142,6 +162,21 @@ def journal(dice, data, other):
         else:
             data = b"".join(by_parts(dice, tokens(data), [it for it in tokens(other) if it.strip()] or [b"1"]))
     return bounded(data)
+
+
+def parted(dice, data):
+    """A journal in two parts, the first of which ends with a line end: at a line, or within a `run`, `tick` or `pass`; and how
+    many of its lines are before the second part's first one."""
+    parts = lines(data if data[-1:] == b"\n" else data + b"\n")
+    at = dice.randrange(len(parts) + 1)
+    before, after = parts[:at], parts[at:]
+    found = re.fullmatch(rb"(run|tick|pass) (\d{1,9})( \d+)?\r?\n", after[0]) if after else None
+    if found and dice.randrange(2):
+        word, count, picks = found[1], int(found[2]), found[3] or b""
+        begun = dice.randrange(count + 1)
+        one, other = (b"%s %d%s\n" % (word, part, picks) for part in (begun, count - begun))
+        before, after = before + [one], [other] + after[1:]
+    return b"".join(before), b"".join(after), at
 
 
 def words(dice, paths):

@@ -12,7 +12,7 @@ from .tokens import TOP
 
 RULES = os.path.join(TOP, "docs", "use", "rules.md")
 WORDS = ("run SOURCE JOURNAL", "check SOURCE", "print SOURCE", "compile SOURCE", "exec OBJECT JOURNAL", "list OBJECT",
-         "watch OBJECT JOURNAL NAME ..", "bench N")
+         "watch OBJECT JOURNAL NAME ..", "save OBJECT JOURNAL", "resume SNAPSHOT JOURNAL", "bench N")
 USAGE = "usage: " + "       ".join(f"pearl {words}\n" for words in WORDS)
 CODES = {
     1: "the line is none of a journal's (docs/use/journal.md), or is too long",
@@ -20,7 +20,7 @@ CODES = {
     3: "the moment would pass 2^40",
     4: "the value doesn't suit the input, or doesn't fit",
 }
-LENGTHS = {1_048_577: "source", 67_108_865: "journal"}
+LENGTHS = {1_048_577: "source", 67_108_865: "journal", 16_777_217: "object", 268_435_457: "snapshot"}
 
 
 def sentences():

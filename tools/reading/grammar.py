@@ -98,6 +98,7 @@ class Walk:
         self.tokens = Tokens([*all_tokens, Token("end", "", end, end, "end")])
         self.at, self.term, self.wanted, self.deep, self.opened = 0, self.tokens[0].term, [], 0, []
         self.devices, self.specs, self.tasks, self.transfers, self.known = {}, [], [], [], set()
+        self.semaphores = []
         self.lengths = {"FIXED": 31, "BIT": 1, "CHAR": 1}
 
     # Tokens.
@@ -273,8 +274,9 @@ class Walk:
         return found
 
     def declared(self):
-        self.names()
+        names = self.names()
         if self.skip("SEMA"):
+            self.semaphores += [it.text for it in names]
             if self.skip("PRESET"):
                 self.in_brackets(lambda: self.several(self.number))
         else:

@@ -124,6 +124,11 @@ def span(milliseconds):
 def sent(literal_text, kind):
     """A literal as a transcript tells it behind `send`, for the kind of an output."""
     value, _ = journal.literal(literal_text, 0)
+    return told(value, kind)
+
+
+def told(value, kind):
+    """A value of a kind as a transcript tells it: of BIT its digits, of CHAR its text, else a number."""
     sort, length = kind
     if sort == "BIT":
         return f"'{value.ljust(length, '0')}'B"

@@ -9,7 +9,7 @@ import unittest
 
 import tool
 import faults
-from reading.answers import Answer, disagreement, is_command, leaves, refused_name, unlawful
+from reading.answers import Answer, disagreement, gone_on, is_command, leaves, refused_name, unlawful
 
 PLANT, JOURNAL = tool.data("crossing.pearl"), tool.data("crossing.journal")
 
@@ -147,6 +147,36 @@ class Answers(unittest.TestCase):
         for count, right in ((0, False), (1, True), (64, True), (65, False)):
             self.assertEqual(is_command(["watch", "o", "j", *["x"] * count]), right, count)
 
+    def test_saved_runs(self):
+        save, resume = ["save", PLANT, JOURNAL], ["resume", PLANT, JOURNAL]
+        self.right(save, 0, b"PRS1\x0a\xff\n")
+        self.right(save, 4, b"error journal 3 1\n")
+        self.right(save, 3, b"error object routine 0 instruction 0 V1\n")
+        self.right(["save", PLANT, "/none/none"], 5, b"error read\n")
+        self.right(resume, 0, b"5 end a\n7 close\n")
+        self.right(resume, 4, b"5 end a\nerror journal 3 1\n")
+        for line in (b"error snapshot 12\n", b"error snapshot state N6\n"):
+            self.right(resume, 3, line)
+            self.wrong(save, 3, line)
+        for words, status, out in ((save, 0, b"PRL1"), (save, 0, b"0 close\n"), (save, 4, b"0 start a 1\nerror journal 3 1\n"),
+                                   (["save", PLANT, "/none/none"], 5, b"0 start a 1\nerror read\n"),
+                                   (resume, 0, b"PRS1"), (resume, 3, b"error object 1\n"), (resume, 3, b"error snapshot state N7\n"),
+                                   (resume, 3, b"error snapshot 99999\n"), (resume, 8, b"error too long 268435457\n"),
+                                   (save, 8, b"error too long 268435457\n")):
+            self.wrong(words, status, out)
+
+    def test_runs_that_go_on(self):
+        """What `resume` writes behind the lines of the first journal is what both journals make."""
+        closing, first = Answer(0, b"5 state a dormant\n5 close\n"), Answer(0, b"0 start a 1\n5 state a dormant\n5 close\n")
+        whole, rest = Answer(0, b"0 start a 1\n7 end a\n9 close\n"), Answer(0, b"7 end a\n9 close\n")
+        self.assertIsNone(gone_on(whole, first, closing, rest, 3))
+        bad = Answer(4, b"0 start a 1\n7 end a\nerror journal 5 1\n")
+        self.assertIsNone(gone_on(bad, first, closing, Answer(4, b"7 end a\nerror journal 2 1\n"), 3))
+        for other in (Answer(0, b"0 start a 1\n7 end a\n9 close\n"), Answer(0, b"9 close\n"), Answer(4, rest.out)):
+            self.assertIsNotNone(gone_on(whole, first, closing, other, 3))
+        self.assertIsNotNone(gone_on(bad, first, closing, Answer(4, b"7 end a\nerror journal 5 1\n"), 3))
+        self.assertIsNotNone(gone_on(whole, first, Answer(0, b"5 state a suspended 1\n5 close\n"), rest, 3))
+
     def test_names(self):
         """Which name is refused, by what `list` writes: the first leaf of a name counts."""
         slots = leaves(b"device INPUT 1\nleaf 0 x FIXED(31) 1\nleaf 1 v.w CHAR(4) 1024\nleaf 2 x BIT(1) 9\nleaf 3 u CLOCK 1025\n"
@@ -168,6 +198,11 @@ class Answers(unittest.TestCase):
         for one, watched in ((run, Answer(0, b"7 1 close\n")), (run, line), (line, Answer(4, b"error journal 2 1\n")),
                              (Answer(3, b"error object 1\n"), named), (Answer(3, b"error object 1\n"), Answer(3, b"error object 2\n"))):
             self.assertIsNotNone(disagreement({"exec": one, "watch": watched}))
+        for one, saved in ((run, Answer(0, b"PRS1")), (line, Answer(4, b"error journal 3 1\n"))):
+            self.assertIsNone(disagreement({"exec": one, "save": saved}))
+        for one, saved in ((run, Answer(4, b"error journal 3 1\n")), (line, Answer(4, b"error journal 2 1\n")),
+                           (line, Answer(0, b"PRS1"))):
+            self.assertIsNotNone(disagreement({"exec": one, "save": saved}))
         for answers in ({"check": syntax, "print": other}, {"check": rule, "print": syntax}, {"check": done, "compile": rule},
                         {"check": done, "print": syntax}, {"check": rule, "compile": made}, {"check": rule, "run": run},
                         {"check": done, "run": run, "exec": Answer(0, b"1 close\n")}):

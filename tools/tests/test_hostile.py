@@ -34,7 +34,8 @@ class Hostile(unittest.TestCase):
     def test_what_is_wrong_is_found(self):
         for does, sort in {"loud": "words", "killed": "words", "words": "words", "place": "source", "other": "source",
                            "compile": "source", "run": "source", "close": "journal", "object": "object", "name": "object", "marks": "journal",
-                           "twice": "journal", "moment": "journal"}.items():
+                           "twice": "journal", "moment": "journal", "save": "journal", "resume": "journal",
+                           "state": "snapshot"}.items():
             status, out, _ = self.tried("--only", sort, does=does)
             self.assertEqual(status, 1, does)
             self.assertRegex(out, rf"^seed 1 number \d+, {sort}: ")
@@ -42,7 +43,7 @@ class Hostile(unittest.TestCase):
     def test_another_implementation(self):
         """The other's answers are compared, and an input with another answer is kept."""
         options = ("--only", "journal", "--other", PROGRAM, "--each", "3")
-        self.assertIn(" 12 of them beside another implementation: 0 not right", self.tried(*options)[1])
+        self.assertIn(" 24 of them beside another implementation: 0 not right", self.tried(*options)[1])
         with tempfile.TemporaryDirectory() as folder:
             kept = os.path.join(folder, "kept")
             status, out, _ = self.tried("--only", "object", "--other", "/bin/false", "--each", "12", "--keep", kept)
@@ -57,12 +58,28 @@ class Damage(unittest.TestCase):
     def test_files_differ(self):
         """Most are none of those that they come of, and of two seeds they aren't the same."""
         source, log = read(SOURCE), read(JOURNAL)
-        for make, data in ((damage.source, source), (damage.made, b"PRL1" + bytes(60)), (damage.journal, log)):
+        saved = b"PRS1\x14PRL1" + bytes(40)
+        for make, data in ((damage.source, source), (damage.made, b"PRL1" + bytes(60)), (damage.snapshot, saved), (damage.journal, log)):
             one, again, other = ([make(random.Random(f"{seed}/{number}"), data, data) for number in range(200)] for seed in (1, 1, 2))
             self.assertEqual(one, again)
             self.assertGreater(sum(a != b for a, b in zip(one, other)), 150)
             self.assertGreater(sum(it != data for it in one), 150)
             self.assertGreater(sum(it[:8] == data[:8] for it in one), 50)
+
+    def test_parts_are_the_whole(self):
+        """A journal in two parts has its lines, of which one may be two that do as much."""
+        for data in (read(JOURNAL), b"run 7", b"", b"tick 3\npass 2 9\n"):
+            halves = 0
+            for number in range(200):
+                first, rest, before = damage.parted(random.Random(number), data)
+                whole = first + rest
+                self.assertTrue(not first or first.endswith(b"\n"))
+                cut = whole.split() != data.split()
+                halves += cut
+                self.assertEqual(len(first.splitlines()) - cut, before)
+                totals = [sum(int(it) for it in re.findall(rb"^(?:run|tick|pass) (\d+)", text, re.M)) for text in (whole, data)]
+                self.assertEqual(totals[0], totals[1])
+            self.assertTrue(halves > 20 or not data)
 
     def test_tokens_and_lines_are_whole(self):
         for data in (read(SOURCE), read(JOURNAL), b"a\r\n'b", bytes(range(256))):
