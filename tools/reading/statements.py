@@ -50,8 +50,10 @@ class StatementWalk(Walk):
         super().statement()
 
     def each(self, part, ends):
+        """The end of an empty list within a statement isn't kept: what stands there might need code that the source has not."""
+        before = len(self.stands)
         super().each(part, ends)
-        if part == self.statement:
+        if part == self.statement and (len(self.stands) > before or self.deep == 0):
             self.note()
 
 

@@ -188,6 +188,12 @@ class Places(unittest.TestCase):
         self.assertEqual([found[rest, name] for name in ("Fill", "Turn", "Case", "Call", "Store", "End")],
                          ["Rechnen: TASK PRIO 20;", "REPEAT", "CASE k", "Doppelt(3, Lager.Anzahl);", "k := 1;", "END;"])
 
+    def test_ends(self):
+        """The end of a body is kept, and of a list within a statement only where the list has a statement."""
+        text = "MODULE;PROBLEM;t:TASK;IF a THEN ELSE ;FIN; REPEAT END; BEGIN b := 1; END; END;p:PROC;END;MODEND;"
+        found = [text[it.place:].split()[0].split(";")[0] for it in statements.stands_of(text)]
+        self.assertEqual(found, ["IF", "REPEAT", "BEGIN", "b", "END", "END", "END"])
+
     def test_other_code(self):
         """Code that isn't that of the marked source tells no lines."""
         with self.assertRaises(objects.Unread):
