@@ -11,13 +11,13 @@ pub save-requires : goal.save-requires
 save-requires c = subst (λ o. IsMachineState o c.in_ok-saved.saved) (sym c.object.ensures) c.in_ok-saved.ensures.state
 
 pub returns-in_err-saved-clause-ok : goal.returns-in_err-saved-clause-ok
-returns-in_err-saved-clause-ok c = let e = err_from_is_err_and c.from_residual.result c.from_residual.ensures.1 in rw (e.1, e.2) tt
+returns-in_err-saved-clause-ok c = let e = err_from_is_err_and c.from_residual.result c.from_residual.ensures.1 in rw e.1 tt
 
 pub returns-in_err-saved-clause-err : goal.returns-in_err-saved-clause-err
 returns-in_err-saved-clause-err c = let e = err_from_is_err_and c.from_residual.result c.from_residual.ensures.1 in rw (e.1, e.2) refl
 
 pub returns-in_err-text-clause-ok : goal.returns-in_err-text-clause-ok
-returns-in_err-text-clause-ok c = let e = err_from_is_err_and c.from_residual-in_err-text.result c.from_residual-in_err-text.ensures.1 in rw (e.1, e.2) tt
+returns-in_err-text-clause-ok c = let e = err_from_is_err_and c.from_residual-in_err-text.result c.from_residual-in_err-text.ensures.1 in rw e.1 tt
 
 pub returns-in_err-text-clause-err : goal.returns-in_err-text-clause-err
 returns-in_err-text-clause-err c = let e = err_from_is_err_and c.from_residual-in_err-text.result c.from_residual-in_err-text.ensures.1 in rw (e.1, e.2) refl
