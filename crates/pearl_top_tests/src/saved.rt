@@ -232,7 +232,7 @@ struct Cut {
     whole: Ended,
 }
 
-fn cut(alloc: Global, first: &str, second: &str, last: usize) -> Result<Cut, AllocError> {
+fn written(alloc: Global, first: &str, second: &str, last: usize) -> Result<Cut, AllocError> {
     let object = object_of(alloc, CALLS)?;
     let run = end_of(alloc, EXEC, object.as_slice(), first, ROOM)?;
     let rest = resumed(alloc, CALLS, first, second)?;
@@ -247,7 +247,7 @@ fn cut(alloc: Global, first: &str, second: &str, last: usize) -> Result<Cut, All
 
 // Whether the second stands behind the first in both as one.
 fn is_cut_so(alloc: Global, first: &str, second: &str, last: usize) -> Result<bool, AllocError> {
-    let Cut { front, rest, whole } = cut(alloc, first, second, last)?;
+    let Cut { front, rest, whole } = written(alloc, first, second, last)?;
     let mut text = front;
     text.extend_from_slice(rest.bytes.as_slice())?;
     Ok(rest.status == Status::Done && whole.is(Status::Done, text.as_slice()))
@@ -269,7 +269,7 @@ fn a_run_may_be_saved_behind_each_mark(rt: HostRuntime) -> Result<(), Fail> {
 fn a_refused_line_has_its_number_in_its_own_journal(rt: HostRuntime) -> Result<(), Fail> {
     let alloc = rt.alloc();
     let second = "tick 1000\nrun 99\nline 1 '2'\nrun 99\nrun x\n";
-    let Cut { front, rest, whole } = cut(alloc, "run 99\nchars 1 '1'\n", second, 4)?;
+    let Cut { front, rest, whole } = written(alloc, "run 99\nchars 1 '1'\n", second, 4)?;
     let lines = without_last(rest.bytes.as_slice(), 1);
     let mut told = Vec::from_slice(alloc, lines)?;
     told.extend_from_slice(b"error journal 5 1\n".as_slice())?;
@@ -388,8 +388,8 @@ fn each_call_may_fail_while_a_run_goes_on(rt: HostRuntime) -> Result<(), Fail> {
 #[test]
 fn a_snapshot_has_at_most_268435456_bytes(rt: HostRuntime) -> Result<(), Fail> {
     let alloc = rt.alloc();
-    let zero: &[u8] = &[0];
-    let bytes = zero.repeat(alloc, 268_435_457)?;
+    let some: &[u8] = &[0; 17];
+    let bytes = some.repeat(alloc, 15_790_321)?;
     let ended = end_of(alloc, RESUME, bytes.as_slice(), "", ROOM)?;
     assert!(rt; ended.is(Status::TooLong, b"error too long 268435457\n".as_slice()));
     Ok(())
