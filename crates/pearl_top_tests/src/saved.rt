@@ -68,7 +68,7 @@ struct Broken {
     line: &'static str,
 }
 
-static BROKEN: [Broken; 4] = [
+static STATES: [Broken; 4] = [
     Broken {
         length: 26,
         object: &JUMP,
@@ -105,7 +105,7 @@ fn is_broken_so(alloc: Global, broken: &Broken) -> Result<bool, AllocError> {
 
 #[test]
 fn states_that_break_a_rule_are_refused(rt: HostRuntime) -> Result<(), Fail> {
-    for (number, broken) in BROKEN.iter().enumerate() {
+    for (number, broken) in STATES.iter().enumerate() {
         assert!(rt; is_broken_so(rt.alloc(), broken)?, "row {number}");
     }
     Ok(())
@@ -289,7 +289,7 @@ struct Unsaved {
     line: &'static str,
 }
 
-static UNSAVED: [Unsaved; 5] = [
+static REFUSED: [Unsaved; 5] = [
     Unsaved {
         object: &EMPTY,
         journal: "tick 1\nrun x\ntick 1\n",
@@ -329,7 +329,7 @@ fn is_unsaved_so(alloc: Global, unsaved: &Unsaved) -> Result<bool, AllocError> {
 
 #[test]
 fn a_refusal_is_all_that_is_written_for_save(rt: HostRuntime) -> Result<(), Fail> {
-    for (number, unsaved) in UNSAVED.iter().enumerate() {
+    for (number, unsaved) in REFUSED.iter().enumerate() {
         assert!(rt; is_unsaved_so(rt.alloc(), unsaved)?, "row {number}");
     }
     Ok(())
