@@ -68,7 +68,7 @@ struct Broken {
     line: &'static str,
 }
 
-static BROKEN: [Broken; 4] = [
+static STATES: [Broken; 4] = [
     Broken {
         length: 26,
         object: &JUMP,
@@ -105,7 +105,7 @@ fn is_broken_so(alloc: Global, broken: &Broken) -> Result<bool, AllocError> {
 
 #[test]
 fn states_that_break_a_rule_are_refused(rt: HostRuntime) -> Result<(), Fail> {
-    for (number, broken) in BROKEN.iter().enumerate() {
+    for (number, broken) in STATES.iter().enumerate() {
         assert!(rt; is_broken_so(rt.alloc(), broken)?, "row {number}");
     }
     Ok(())
@@ -232,7 +232,7 @@ struct Cut {
     whole: Ended,
 }
 
-fn cut(alloc: Global, first: &str, second: &str, last: usize) -> Result<Cut, AllocError> {
+fn written(alloc: Global, first: &str, second: &str, last: usize) -> Result<Cut, AllocError> {
     let object = object_of(alloc, CALLS)?;
     let run = end_of(alloc, EXEC, object.as_slice(), first, ROOM)?;
     let rest = resumed(alloc, CALLS, first, second)?;
@@ -247,7 +247,7 @@ fn cut(alloc: Global, first: &str, second: &str, last: usize) -> Result<Cut, All
 
 // Whether the second stands behind the first in both as one.
 fn is_cut_so(alloc: Global, first: &str, second: &str, last: usize) -> Result<bool, AllocError> {
-    let Cut { front, rest, whole } = cut(alloc, first, second, last)?;
+    let Cut { front, rest, whole } = written(alloc, first, second, last)?;
     let mut text = front;
     text.extend_from_slice(rest.bytes.as_slice())?;
     Ok(rest.status == Status::Done && whole.is(Status::Done, text.as_slice()))
@@ -269,7 +269,7 @@ fn a_run_may_be_saved_behind_each_mark(rt: HostRuntime) -> Result<(), Fail> {
 fn a_refused_line_has_its_number_in_its_own_journal(rt: HostRuntime) -> Result<(), Fail> {
     let alloc = rt.alloc();
     let second = "tick 1000\nrun 99\nline 1 '2'\nrun 99\nrun x\n";
-    let Cut { front, rest, whole } = cut(alloc, "run 99\nchars 1 '1'\n", second, 4)?;
+    let Cut { front, rest, whole } = written(alloc, "run 99\nchars 1 '1'\n", second, 4)?;
     let lines = without_last(rest.bytes.as_slice(), 1);
     let mut told = Vec::from_slice(alloc, lines)?;
     told.extend_from_slice(b"error journal 5 1\n".as_slice())?;
@@ -289,7 +289,7 @@ struct Unsaved {
     line: &'static str,
 }
 
-static UNSAVED: [Unsaved; 5] = [
+static REFUSED: [Unsaved; 5] = [
     Unsaved {
         object: &EMPTY,
         journal: "tick 1\nrun x\ntick 1\n",
@@ -329,7 +329,7 @@ fn is_unsaved_so(alloc: Global, unsaved: &Unsaved) -> Result<bool, AllocError> {
 
 #[test]
 fn a_refusal_is_all_that_is_written_for_save(rt: HostRuntime) -> Result<(), Fail> {
-    for (number, unsaved) in UNSAVED.iter().enumerate() {
+    for (number, unsaved) in REFUSED.iter().enumerate() {
         assert!(rt; is_unsaved_so(rt.alloc(), unsaved)?, "row {number}");
     }
     Ok(())
@@ -388,8 +388,8 @@ fn each_call_may_fail_while_a_run_goes_on(rt: HostRuntime) -> Result<(), Fail> {
 #[test]
 fn a_snapshot_has_at_most_268435456_bytes(rt: HostRuntime) -> Result<(), Fail> {
     let alloc = rt.alloc();
-    let zero: &[u8] = &[0];
-    let bytes = zero.repeat(alloc, 268_435_457)?;
+    let some: &[u8] = &[0; 17];
+    let bytes = some.repeat(alloc, 15_790_321)?;
     let ended = end_of(alloc, RESUME, bytes.as_slice(), "", ROOM)?;
     assert!(rt; ended.is(Status::TooLong, b"error too long 268435457\n".as_slice()));
     Ok(())
