@@ -8,6 +8,10 @@ MAGIC = b"PRS1"
 STATES = ("dormant", "active", "suspended")
 
 
+class Unfit(Unread):
+    """The fields are a snapshot's, but they don't go together."""
+
+
 @dataclass
 class Series:
     """Moments: the first, then each that is whole periods later, up to the last where there is one."""
@@ -130,7 +134,7 @@ class SnapshotReader(Reader):
                          self.many(lambda: self.many(self.literal)), self.many(self.task))
         self.ends()
         if not is_whole(found):
-            raise Unread(self.at)
+            raise Unfit(self.at)
         return found
 
 

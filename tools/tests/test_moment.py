@@ -5,11 +5,12 @@ import re
 import shutil
 import tempfile
 import unittest
+from unittest import mock
 
 import tool
 from tool import HERE, data, read, run
 
-from reading import cutting, gets, journal, objects, snapshot, statements
+from reading import cutting, gets, journal, objects, program as programs, snapshot, statements
 from reading.asked import Unusable, source_of
 from reading.standing import Standing
 
@@ -26,6 +27,29 @@ def moment(*words, program="program"):
     """The status and the output of tools/moment, with paths as a user has them who stands in the folder of the files."""
     variables = {"PEARL_PROGRAM": program and os.path.join(FOLDER, program)}
     return run("moment", *words, folder=FOLDER, variables=variables)
+
+
+def without_program(*words):
+    """The same where no program is built and none is named."""
+    with mock.patch.object(programs, "BUILT", os.path.join(FOLDER, "missing")):
+        return moment(*words, program="")
+
+
+def changed(folder, name, at, *bytes_there):
+    """The path of a snapshot with other bytes from this place on."""
+    raw, path = read_bytes(name), os.path.join(folder, "changed.snapshot")
+    with open(path, "wb") as file:
+        file.write(raw[:at] + bytes(bytes_there) + raw[at + len(bytes_there):])
+    return path
+
+
+def script(folder, *lines):
+    """The path of a program with these lines, before those of the one that stands for the program."""
+    path = os.path.join(folder, "script")
+    with open(path, "w", encoding="ascii") as file:
+        file.write("\n".join(["#!/bin/sh", *lines, f'exec "{FOLDER}/program" "$@"', ""]))
+    os.chmod(path, 0o755)
+    return path
 
 
 class Shown(unittest.TestCase):
@@ -45,6 +69,19 @@ class Shown(unittest.TestCase):
         self.is_kept("hangs.moment", "--at", "20000", SOURCE, JOURNAL)
         self.is_kept("hangs.moment", "--at", "14:30:20", SOURCE, JOURNAL)
 
+    def test_a_time_of_day_without_clock(self):
+        """The run starts at 00:00:00 where its journal has no `clock`."""
+        with tempfile.TemporaryDirectory() as folder:
+            log, kept = (os.path.join(folder, it) for it in ("journal", "kept"))
+            with open(log, "wb") as file:
+                file.write(b"run 5\ntick 3000\n")
+            keeps = script(folder, f'[ $1 = save ] && cp "$3" {kept} && cat {FOLDER}/trap.snapshot && exit 0')
+            for at, lines in (("00:00:01", "run 5\ntick 1000\n"), ("0:00:02.5", "run 5\ntick 2500\n")):
+                status, _, told = moment("--at", at, SOURCE, log, program=keeps)
+                self.assertEqual((status, told, read(kept)), (0, "", lines))
+            self.assertEqual(moment("--at", "00:00:04", SOURCE, log, program=keeps),
+                             (2, "", "moment: --at: the journal ends at the moment 3000, before 4000\n"))
+
     def test_a_snapshot(self):
         """Everything that a task may wait for, plans of all forms, a procedure within a procedure, and values of all kinds."""
         self.is_kept("stand.moment", "stand.pearl", "stand.snapshot")
@@ -58,7 +95,8 @@ class Shown(unittest.TestCase):
     def without_lines(self, why, **kept):
         """What is told by a program that makes other objects of these sources."""
         with tempfile.TemporaryDirectory() as folder:
-            for name, source in {"program": "program", "stand.pearl": "stand.pearl", **kept}.items():
+            there = {it: it for it in ("program", "stand.pearl", "stand.snapshot")}
+            for name, source in {**there, **kept}.items():
                 shutil.copy(os.path.join(FOLDER, source), os.path.join(folder, name.replace("_", ".")))
             status, out, told = moment("stand.pearl", "stand.snapshot", program=os.path.join(folder, "program"))
         self.assertEqual((status, told), (0, f"moment: {why}; places are instructions\n"))
@@ -99,7 +137,57 @@ class Refused(unittest.TestCase):
         with tempfile.NamedTemporaryFile(suffix=".snapshot") as file:
             file.write(read_bytes("trap.snapshot")[:-1])
             file.flush()
-            self.is_refused("what stands at byte", SOURCE, file.name)
+            self.is_refused("moment: error snapshot state N5\n", SOURCE, file.name)
+
+
+class Damaged(unittest.TestCase):
+    """Snapshots that the program refuses, or that can't be read where there is none."""
+
+    def setUp(self):
+        self.kept = tempfile.TemporaryDirectory()
+        self.folder = self.kept.name
+
+    def tearDown(self):
+        self.kept.cleanup()
+
+    def is_told(self, why, path, ended):
+        """One line on standard error, and nothing shown."""
+        self.assertEqual(ended, (2, "", f"{path}: {why}\n"))
+
+    def test_the_program_is_asked_first(self):
+        """What can be shown isn't shown where the program refuses it: a variable with another value."""
+        at = read_bytes("trap.snapshot").index(b"\0\x0f\xd2\x0f")
+        path = changed(self.folder, "trap.snapshot", at + 2, 0xd4)
+        self.assertIn("\n  Wert 1002\n", without_program(SOURCE, path)[1])
+        self.assertEqual(moment(SOURCE, path), (2, "", "moment: error snapshot state N5\n"))
+        takes = script(self.folder, f'[ $1 = resume ] && cmp -s "$2" "{path}" && [ ! -s "$3" ] && exit 0')
+        self.assertIn("\n  Wert 1002\n", moment(SOURCE, path, program=takes)[1])
+        full = script(self.folder, "[ $1 = resume ] && echo error memory && exit 7")
+        self.assertEqual(moment(SOURCE, path, program=full),
+                         (2, "", "moment: the memory of this machine isn't enough for this run\n"))
+
+    def test_parts_that_do_not_go_together(self):
+        """A TAKE of an interrupt, a format F(0), a GET into cells that aren't there, a text with the byte 1,
+        and a frame behind its code: each in one line, also where a program goes on from it."""
+        takes = script(self.folder, "[ $1 = resume ] && exit 0")
+        for at, byte in ((392, 0), (125, 0), (436, 5), (621, 5), (871, 127)):
+            path = changed(self.folder, "stand.snapshot", at, byte)
+            for ended in (without_program("stand.pearl", path), moment("stand.pearl", path, program=takes)):
+                self.is_told("the parts of the snapshot don't go together", path, ended)
+
+    def test_bytes(self):
+        """What is cut is told to end there; a byte that nothing has, and one too many, by their places."""
+        raw = read_bytes("trap.snapshot")
+        for cut in (4, 5, 300, len(raw) - 1):
+            path = os.path.join(self.folder, "cut.snapshot")
+            with open(path, "wb") as file:
+                file.write(raw[:cut])
+            ended = without_program(SOURCE, path)
+            self.is_told(f"the snapshot isn't whole: it ends at byte {cut}", path, ended)
+        for at, byte in ((len(raw), 0), (4, 0)):
+            path = changed(self.folder, "trap.snapshot", at, byte)
+            why = f"what stands at byte {at} is none of a snapshot's"
+            self.is_told(why, path, without_program(SOURCE, path))
 
 
 class Bytes(unittest.TestCase):
