@@ -384,12 +384,3 @@ fn each_call_may_fail_while_a_run_goes_on(rt: HostRuntime) -> Result<(), Fail> {
     }
     Ok(())
 }
-
-#[test]
-fn a_snapshot_has_at_most_268435456_bytes(rt: HostRuntime) -> Result<(), Fail> {
-    let alloc = rt.alloc();
-    let bytes = vec![in alloc; 0; 268_435_457]?;
-    let ended = end_of(alloc, RESUME, bytes.as_slice(), "", ROOM)?;
-    assert!(rt; ended.is(Status::TooLong, b"error too long 268435457\n".as_slice()));
-    Ok(())
-}
