@@ -1,9 +1,9 @@
 -- Part behind part: the code of statements with statements within them, once their jumps have got their places.
 use Rattle.std.proofs.Common.{◌≡◌, ◌≢◌, ℕ, ◌+◌, ◌<◌, ◌≤◌, Bool, true, List, [], ◌∷◌, ◌++◌, length, drop, get_or, Option, Some, None, slice_get, refl, sym, ◌∙◌, subst, arith}
+use Rattle.std.specs.Prelude.{Contains}
 use Rattle.std.proofs.Math.ListN.{drop_of_length-le}
 use Rattle.std.proofs.lemmas.List.{append-nil, append_assoc}
 use Rattle.pearl_value.specs.declared.trap.Trap.TheVariants.{Index, Range}
-use Rattle.pearl_value.specs.declared.listing.Listing.{Listing}
 use Rattle.pearl_program.specs.declared.statement.Stmt.{Stmt}
 use Rattle.pearl_program.specs.declared.statement.Branch.{Branch}
 use Rattle.pearl_program.specs.PlainExpressions.{PlainExpr}
@@ -15,23 +15,26 @@ use Rattle.pearl_gen_expr.specs.ExprCode.{Is}
 use Rattle.pearl_gen_expr.specs.Emitting.{Extends, EmitsExpr}
 use Rattle.pearl_gen_expr.proofs.Offered.{still_is, last_is, one_longer, extends_one, extends_more}
 use Rattle.pearl_gen_stmt.specs.StmtCode.{on_task, Alone, BeginsAt, CountsAt, WhileAt, AdvanceAt, StmtAt, StmtsAt, ElseAt, BranchesAt}
-use Rattle.pearl_gen_stmt.specs.Emission.{pending, Stays, Exits, GoBehind, Adds, AddsTest, AddsStmt, AddsStmts, AddsElse, AddsBranches}
+use Rattle.pearl_gen_stmt.specs.Emission.{pending, Stays, Notes, Exits, GoBehind, Adds, AddsTest, AddsStmt, AddsStmts, AddsElse, AddsBranches}
 use Rattle.pearl_gen_stmt.specs.declared.pending.Pending.TheVariants.{Exit, Test, Branch as Behind}
 use Rattle.pearl_gen_stmt.proofs.Adding.{stays_on, stays_one, last_stays, alone_adds}
-use Rattle.pearl_gen_stmt.proofs.Settling.{one_left, extends_longer, stays_then}
+use Rattle.pearl_gen_stmt.proofs.Settling.{within, one_left, extends_longer, stays_then}
 use Rattle.pearl_gen_stmt.proofs.Keeping.{kept_expr}
 
 -- EXITS
 
-pub exits_on : (leave : Option ℕ) (from : ℕ) (one two final : List Instr) → Extends one two → Exits leave from two final → Exits leave from one final
-exits_on leave from one two final kept exits place more is = exits place more (still_is one two place instr.End kept is)
+pub exits_on : (leave : Option ℕ) (before after : List ℕ) (from : ℕ) (one two final : List Instr) → Notes before after → Extends one two →
+    Exits leave after from two final → Exits leave before from one final
+exits_on leave before after from one two final noted kept exits place more at is = exits place more (noted place at) (still_is one two place instr.End kept is)
 
-pub exits_from : (leave : Option ℕ) (early late : ℕ) (code final : List Instr) → early ≤ late → Exits leave early code final → Exits leave late code final
-exits_from leave early late code final order exits place more is = exits place (omega (arith, order, more)) is
+pub exits_from : (leave : Option ℕ) (noted : List ℕ) (early late : ℕ) (code final : List Instr) → early ≤ late → Exits leave noted early code final →
+    Exits leave noted late code final
+exits_from leave noted early late code final order exits place more at is = exits place (omega (arith, order, more)) at is
 
-pub exit_adds : (setting : Setting) (in_loop : Bool) (old one : List Instr) → in_loop ≡ true → one ≡ old ++ instr.End ∷ [] → AddsStmt setting in_loop OfExit old one
-exit_adds setting in_loop old one within last final leave stays exits =
-    let jump = exits within (length old) (omega arith) (last_is old one instr.End last) in
+pub exit_adds : (setting : Setting) (in_loop : Bool) (noted : List ℕ) (old one : List Instr) → in_loop ≡ true → Contains noted (length old) →
+    one ≡ old ++ instr.End ∷ [] → AddsStmt setting in_loop noted OfExit old one
+exit_adds setting in_loop noted old one within at last final leave stays exits =
+    let jump = exits within (length old) (omega arith) at (last_is old one instr.End last) in
     (jump.0, jump.1, (jump.2, one_longer old one instr.End last))
 
 pub suspend_known : (task : Option ℕ) → pending (on_task instr.Suspend instr.SuspendOwn task) ≡ None
@@ -55,75 +58,80 @@ module _ (setting : Setting) (in_loop : Bool) (old : List Instr) where
   -- LISTS
 
   -- where the code of those that are left follows, all of the code stands
-  abbrev pub StmtsSoFar : (now : List Instr) (left all : PlainStmts) → Type 0
-  StmtsSoFar now left all = (final : List Instr) (leave : Option ℕ) (to : ℕ) → Stays now final → (in_loop ≡ true → Exits leave (length old) now final) →
+  abbrev pub StmtsSoFar : (noted : List ℕ) (now : List Instr) (left all : PlainStmts) → Type 0
+  StmtsSoFar noted now left all = (final : List Instr) (leave : Option ℕ) (to : ℕ) → Stays now final → (in_loop ≡ true → Exits leave noted (length old) now final) →
       StmtsAt setting final leave (length now) left to → StmtsAt setting final leave (length old) all to
 
-  pub stmts_more : (now next : List Instr) (xs : List Stmt) (i : ℕ) (x : Stmt) → i < length xs → x ≡ get_or xs i x → Extends old now → Extends now next →
-      AddsStmt setting in_loop (plain_stmt x) now next → StmtsSoFar now (plain_stmts (drop i xs)) (plain_stmts xs) → StmtsSoFar next (plain_stmts (drop (i + 1) xs)) (plain_stmts xs)
-  stmts_more now next xs i x inside is kept more added before final leave to stays exits rest =
-      (subst (λ left. StmtsSoFar now (plain_stmts left) (plain_stmts xs)) (one_left xs i x inside is) before)
-      final leave to (stays_on now next final more stays) (λ within. exits_on leave (length old) now next final more (exits within)) (
+  pub stmts_more : (before after : List ℕ) (now next : List Instr) (xs : List Stmt) (i : ℕ) (x : Stmt) → i < length xs → x ≡ get_or xs i x → Extends old now →
+      Notes before after → Extends now next → AddsStmt setting in_loop after (plain_stmt x) now next →
+      StmtsSoFar before now (plain_stmts (drop i xs)) (plain_stmts xs) → StmtsSoFar after next (plain_stmts (drop (i + 1) xs)) (plain_stmts xs)
+  stmts_more before after now next xs i x inside is kept noted more added first final leave to stays exits rest =
+      (subst (λ left. StmtsSoFar before now (plain_stmts left) (plain_stmts xs)) (one_left xs i x inside is) first)
+      final leave to (stays_on now next final more stays) (λ within. exits_on leave before after (length old) now next final noted more (exits within)) (
         length next,
-        added final leave stays (λ within. exits_from leave (length old) (length now) next final (extends_longer old now kept) (exits within)),
+        added final leave stays (λ within. exits_from leave after (length old) (length now) next final (extends_longer old now kept) (exits within)),
         rest,
       )
 
-  pub stmts_done : (now : List Instr) (xs : List Stmt) (i : ℕ) → length xs ≤ i → StmtsSoFar now (plain_stmts (drop i xs)) (plain_stmts xs) →
-      AddsStmts setting in_loop (plain_stmts xs) old now
-  stmts_done now xs i past before final leave stays exits =
-      (subst (λ left. StmtsSoFar now (plain_stmts left) (plain_stmts xs)) (drop_of_length-le xs past) before) final leave (length now) stays exits refl
+  pub stmts_done : (noted : List ℕ) (now : List Instr) (xs : List Stmt) (i : ℕ) → length xs ≤ i → StmtsSoFar noted now (plain_stmts (drop i xs)) (plain_stmts xs) →
+      AddsStmts setting in_loop noted (plain_stmts xs) old now
+  stmts_done noted now xs i past before final leave stays exits =
+      (subst (λ left. StmtsSoFar noted now (plain_stmts left) (plain_stmts xs)) (drop_of_length-le xs past) before) final leave (length now) stays exits refl
 
-  abbrev pub BranchesSoFar : (now : List Instr) (places : List ℕ) (left all : PlainBranches) → Type 0
-  BranchesSoFar now places left all = (final : List Instr) (leave : Option ℕ) (to : ℕ) (rest : List ℕ) → Stays now final →
-      (in_loop ≡ true → Exits leave (length old) now final) → GoBehind to (length old) now final →
+  abbrev pub BranchesSoFar : (noted ends : List ℕ) (now : List Instr) (places : List ℕ) (left all : PlainBranches) → Type 0
+  BranchesSoFar noted ends now places left all = (final : List Instr) (leave : Option ℕ) (to : ℕ) (rest : List ℕ) → Stays now final →
+      (in_loop ≡ true → Exits leave noted (length old) now final) → GoBehind to ends (length old) now final →
       BranchesAt setting final leave (length now) rest left to → BranchesAt setting final leave (length old) (places ++ rest) all to
 
-  pub branches_more : (now one two : List Instr) (places : List ℕ) (xs : List Branch) (i : ℕ) (x : Branch) → i < length xs → x ≡ get_or xs i x → Extends old now →
-      Extends now one → AddsStmts setting in_loop (plain_stmts x.statements.items) now one → two ≡ one ++ instr.Trap Range ∷ [] →
-      BranchesSoFar now places (plain_branches (drop i xs)) (plain_branches xs) →
-      BranchesSoFar two (places ++ length now ∷ []) (plain_branches (drop (i + 1) xs)) (plain_branches xs)
-  branches_more now one two places xs i x inside is kept more added last before final leave to rest stays exits behind follows =
+  pub branches_more : (before after ends ended : List ℕ) (now one two : List Instr) (places : List ℕ) (xs : List Branch) (i : ℕ) (x : Branch) →
+      i < length xs → x ≡ get_or xs i x → Extends old now → Notes before after → Notes ends ended → Contains ended (length one) →
+      Extends now one → AddsStmts setting in_loop after (plain_stmts x.statements.items) now one → two ≡ one ++ instr.Trap Range ∷ [] →
+      BranchesSoFar before ends now places (plain_branches (drop i xs)) (plain_branches xs) →
+      BranchesSoFar after ended two (places ++ length now ∷ []) (plain_branches (drop (i + 1) xs)) (plain_branches xs)
+  branches_more before after ends ended now one two places xs i x inside is kept noted ends_noted end_at more added last first_ones final leave to rest stays exits behind follows =
       let longer = extends_longer old now kept in
       let longest = extends_longer now one more in
       let extra = extends_one one two (instr.Trap Range) last in
       let first = stays_on one two final extra stays in
       let left = plain_branches (drop (i + 1) xs) in
       subst (λ places. BranchesAt setting final leave (length old) places (plain_branches xs) to) (sym (append_assoc places (length now ∷ []) rest))
-      ((subst (λ left. BranchesSoFar now places (plain_branches left) (plain_branches xs)) (one_left xs i x inside is) before)
+      ((subst (λ left. BranchesSoFar before ends now places (plain_branches left) (plain_branches xs)) (one_left xs i x inside is) first_ones)
       final leave to (length now ∷ rest) (stays_on now one final more first)
-      (λ within. exits_on leave (length old) now two final (extends_more now one two more extra) (exits within))
-      (λ place from is. behind place from (still_is now two place (instr.Trap Range) (extends_more now one two more extra) is)) (
+      (λ within. exits_on leave before after (length old) now two final noted (extends_more now one two more extra) (exits within))
+      (λ place from at is. behind place from (ends_noted place at)
+      (still_is now two place (instr.Trap Range) (extends_more now one two more extra) is)) (
         length one,
         refl,
-        added final leave first (λ within. exits_from leave (length old) (length now) one final longer (exits_on leave (length old) one two final extra (exits within))),
-        behind (length one) (omega (arith, longer, longest)) (last_is one two (instr.Trap Range) last),
+        added final leave first (λ within. exits_from leave after (length old) (length now) one final longer
+            (exits_on leave after after (length old) one two final (λ place at. at) extra (exits within))),
+        behind (length one) (omega (arith, longer, longest)) end_at (last_is one two (instr.Trap Range) last),
         subst (λ from. BranchesAt setting final leave from rest left to) (one_longer one two (instr.Trap Range) last) follows,
       ))
 
-  pub branches_done : (now : List Instr) (places : List ℕ) (xs : List Branch) (i : ℕ) → length xs ≤ i →
-      BranchesSoFar now places (plain_branches (drop i xs)) (plain_branches xs) → AddsBranches setting in_loop places (plain_branches xs) old now
-  branches_done now places xs i past before final leave stays exits behind =
+  pub branches_done : (noted ends : List ℕ) (now : List Instr) (places : List ℕ) (xs : List Branch) (i : ℕ) → length xs ≤ i →
+      BranchesSoFar noted ends now places (plain_branches (drop i xs)) (plain_branches xs) → AddsBranches setting in_loop noted places ends (plain_branches xs) old now
+  branches_done noted ends now places xs i past before final leave stays exits behind =
       subst (λ places. BranchesAt setting final leave (length old) places (plain_branches xs) (length now)) (append-nil places)
-      ((subst (λ left. BranchesSoFar now places (plain_branches left) (plain_branches xs)) (drop_of_length-le xs past) before)
+      ((subst (λ left. BranchesSoFar noted ends now places (plain_branches left) (plain_branches xs)) (drop_of_length-le xs past) before)
       final leave (length now) [] stays exits behind refl)
 
   -- IF
 
-  pub no_else_adds : (otherwise : PlainStmts) (other : ℕ) → otherwise ≡ NoStmts → other ≡ length old → AddsElse setting in_loop other otherwise old old
-  no_else_adds otherwise other none same =
-      subst (λ otherwise. AddsElse setting in_loop other otherwise old old) (sym none) (λ final leave stays exits. (same, refl))
+  pub no_else_adds : (noted : List ℕ) (otherwise : PlainStmts) (other : ℕ) → otherwise ≡ NoStmts → other ≡ length old →
+      AddsElse setting in_loop noted other otherwise old old
+  no_else_adds noted otherwise other none same =
+      subst (λ otherwise. AddsElse setting in_loop noted other otherwise old old) (sym none) (λ final leave stays exits. (same, refl))
 
-  pub else_adds : (one two three : List Instr) (xs : List Stmt) (other : ℕ) → xs ≢ [] → other ≡ length old + 1 → one ≡ old ++ instr.Trap Range ∷ [] → Extends one two →
-      AddsStmts setting in_loop (plain_stmts xs) one two → Is three (length old) (instr.Jump (length two)) →
-      ((k : ℕ) → k ≢ length old → slice_get three k ≡ slice_get two k) → length three ≡ length two → AddsElse setting in_loop other (plain_stmts xs) old three
-  else_adds one two three [] other some same first kept added there elsewhere long final leave stays exits = absurd (some refl)
-  else_adds one two three (x ∷ xs) other some same first kept added there elsewhere long final leave stays exits =
+  pub else_adds : (noted : List ℕ) (one two three : List Instr) (xs : List Stmt) (other : ℕ) → xs ≢ [] → other ≡ length old + 1 → one ≡ old ++ instr.Trap Range ∷ [] → Extends one two →
+      AddsStmts setting in_loop noted (plain_stmts xs) one two → Is three (length old) (instr.Jump (length two)) →
+      ((k : ℕ) → k ≢ length old → slice_get three k ≡ slice_get two k) → length three ≡ length two → AddsElse setting in_loop noted other (plain_stmts xs) old three
+  else_adds noted one two three [] other some same first kept added there elsewhere long final leave stays exits = absurd (some refl)
+  else_adds noted one two three (x ∷ xs) other some same first kept added there elsewhere long final leave stays exits =
       let begin = one_longer old one (instr.Trap Range) first in
       let hole = still_is one two (length old) (instr.Trap Range) kept (last_is old one (instr.Trap Range) first) in
       let here = stays_then two three final (length old) (instr.Trap Range) Behind hole refl elsewhere stays in
-      let of = added final leave here (λ within place more is.
-      exits within place (omega (arith, more, begin)) (elsewhere place (λ at. omega (arith, more, begin, at)) ∙ is)) in (
+      let of = added final leave here (λ within place more at is.
+      exits within place (omega (arith, more, begin)) at (elsewhere place (λ same. omega (arith, more, begin, same)) ∙ is)) in (
         of.0,
         subst (λ to. Is final (length old) (instr.Jump to)) (sym long) (stays (length old) (instr.Jump (length two)) there refl),
         same,
@@ -131,12 +139,12 @@ module _ (setting : Setting) (in_loop : Bool) (old : List Instr) where
         subst (λ to. StmtsAt setting final leave of.0 (plain_stmts xs) to) (sym long) of.2,
       )
 
-  pub if_adds : (one two three four five : List Instr) (condition : PlainExpr) (statements otherwise : PlainStmts) (other : ℕ) →
+  pub if_adds : (before after : List ℕ) (one two three four five : List Instr) (condition : PlainExpr) (statements otherwise : PlainStmts) (other : ℕ) →
       EmitsExpr setting.program condition old one → Extends old one → two ≡ one ++ instr.Trap Range ∷ [] → Extends two three →
-      AddsStmts setting in_loop statements two three → Extends three four → AddsElse setting in_loop other otherwise three four →
+      AddsStmts setting in_loop before statements two three → Notes before after → Extends three four → AddsElse setting in_loop after other otherwise three four →
       Is five (length one) (instr.JumpZero other) → ((k : ℕ) → k ≢ length one → slice_get five k ≡ slice_get four k) → length five ≡ length four →
-      AddsStmt setting in_loop (OfIf condition statements otherwise) old five
-  if_adds one two three four five condition statements otherwise other tests longer first kept added more others there elsewhere long final leave stays exits =
+      AddsStmt setting in_loop after (OfIf condition statements otherwise) old five
+  if_adds before after one two three four five condition statements otherwise other tests longer first kept added noted more others there elsewhere long final leave stays exits =
       let begin = one_longer one two (instr.Trap Range) first in
       let longest = extends_longer old one longer in
       let beyond = extends_longer two three kept in
@@ -144,31 +152,31 @@ module _ (setting : Setting) (in_loop : Bool) (old : List Instr) where
       let fourth = stays_then four five final (length one) (instr.Trap Range) Behind hole refl elsewhere stays in
       let third = stays_on three four final more fourth in
       let second = stays_on two three final kept third in
-      let out : in_loop ≡ true → Exits leave (length two) four final = λ within place far is.
-      exits within place (omega (arith, far, begin, longest)) (elsewhere place (λ at. omega (arith, far, begin, at)) ∙ is) in (
+      let out : in_loop ≡ true → Exits leave after (length two) four final = λ within place far at is.
+      exits within place (omega (arith, far, begin, longest)) at (elsewhere place (λ same. omega (arith, far, begin, same)) ∙ is) in (
         length one,
         other,
         length three,
         kept_expr setting.program one final (stays_one one two (instr.Trap Range) first final second) condition (length old) (length one) tests,
         stays (length one) (instr.JumpZero other) there refl,
         subst (λ from. StmtsAt setting final leave from statements (length three)) begin
-            (added final leave third (λ within. exits_on leave (length two) three four final more (out within))),
+            (added final leave third (λ within. exits_on leave before after (length two) three four final noted more (out within))),
         subst (λ to. ElseAt setting final leave (length three) other otherwise to) (sym long)
-            (others final leave fourth (λ within. exits_from leave (length two) (length three) four final beyond (out within))),
+            (others final leave fourth (λ within. exits_from leave after (length two) (length three) four final beyond (out within))),
       )
 
   -- CASE
 
-  pub case_adds : (one two three four five six seven : List Instr) (selector : PlainExpr) (alternatives : PlainBranches) (otherwise : PlainStmts)
+  pub case_adds : (before after ends : List ℕ) (one two three four five six seven : List Instr) (selector : PlainExpr) (alternatives : PlainBranches) (otherwise : PlainStmts)
       (targets : List ℕ) (to : ℕ) → to ≡ length five → EmitsExpr setting.program selector old one → Extends old one → two ≡ one ++ instr.Trap Range ∷ [] →
-      Extends two three → AddsStmts setting in_loop otherwise two three → four ≡ three ++ instr.Trap Range ∷ [] → Extends four five →
-      AddsBranches setting in_loop targets alternatives four five →
-      ((k : ℕ) → length three ≤ k → Is five k (instr.Trap Range) → Is six k (instr.Jump to)) → ((k : ℕ) (i : Instr) → Is five k i → pending i ≢ Some Behind → Is six k i) →
+      Extends two three → AddsStmts setting in_loop before otherwise two three → four ≡ three ++ instr.Trap Range ∷ [] → Extends four five →
+      Notes before after → Contains ends (length three) → AddsBranches setting in_loop after targets ends alternatives four five →
+      ((k : ℕ) → length three ≤ k → Contains ends k → Is five k (instr.Trap Range) → Is six k (instr.Jump to)) → ((k : ℕ) (i : Instr) → Is five k i → pending i ≢ Some Behind → Is six k i) →
       ((k : ℕ) → k < length three → slice_get six k ≡ slice_get five k) → length six ≡ length five → Is seven (length one) (instr.Case targets) →
       ((k : ℕ) → k ≢ length one → slice_get seven k ≡ slice_get six k) → length seven ≡ length six →
-      AddsStmt setting in_loop (OfCase selector alternatives otherwise) old seven
-  case_adds one two three four five six seven selector alternatives otherwise targets to to_is tests longer first kept added last more branches settled held before long there
-      elsewhere again final leave stays exits =
+      AddsStmt setting in_loop after (OfCase selector alternatives otherwise) old seven
+  case_adds before after ends one two three four five six seven selector alternatives otherwise targets to to_is tests longer first kept added last more
+      noted end_at branches settled held same_before long there elsewhere again final leave stays exits =
       let begin = one_longer one two (instr.Trap Range) first in
       let behind = one_longer three four (instr.Trap Range) last in
       let longest = extends_longer old one longer in
@@ -176,28 +184,30 @@ module _ (setting : Setting) (in_loop : Bool) (old : List Instr) where
       let all = extends_more three four five (extends_one three four (instr.Trap Range) last) more in
       let whole : length seven ≡ to = again ∙ (long ∙ sym to_is) in
       let hole_five = still_is two five (length one) (instr.Trap Range) (extends_more two three five kept all) (last_is one two (instr.Trap Range) first) in
-      let hole : Is six (length one) (instr.Trap Range) = before (length one) (omega (arith, begin, beyond)) ∙ hole_five in
+      let hole : Is six (length one) (instr.Trap Range) = same_before (length one) (omega (arith, begin, beyond)) ∙ hole_five in
       let sixth = stays_then six seven final (length one) (instr.Trap Range) Behind hole refl elsewhere stays in
       let fifth : Stays five final = λ place instr is known. sixth place instr (held place instr is (λ same. cc)) known in
       let fourth = stays_on four five final more fifth in
       let third = stays_one three four (instr.Trap Range) last final fourth in
       let second = stays_on two three final kept third in
-      let jumps : (k : ℕ) → length three ≤ k → Is five k (instr.Trap Range) → Is final k (instr.Jump to) = λ k far is. sixth k (instr.Jump to) (settled k far is) refl in
-      let out : in_loop ≡ true → Exits leave (length two) five final = λ within place far is.
-      exits within place (omega (arith, far, begin, longest)) (elsewhere place (λ at. omega (arith, far, begin, at)) ∙ held place instr.End is (λ same. cc)) in (
+      let jumps : (k : ℕ) → length three ≤ k → Contains ends k → Is five k (instr.Trap Range) → Is final k (instr.Jump to) = λ k far at is.
+      sixth k (instr.Jump to) (settled k far at is) refl in
+      let out : in_loop ≡ true → Exits leave after (length two) five final = λ within place far at is.
+      exits within place (omega (arith, far, begin, longest)) at
+      (elsewhere place (λ same. omega (arith, far, begin, same)) ∙ held place instr.End is (λ same. cc)) in (
         length one,
         length three,
         targets,
         kept_expr setting.program one final (stays_one one two (instr.Trap Range) first final second) selector (length old) (length one) tests,
         stays (length one) (instr.Case targets) there refl,
         subst (λ from. StmtsAt setting final leave from otherwise (length three)) begin
-            (added final leave third (λ within. exits_on leave (length two) three five final all (out within))),
+            (added final leave third (λ within. exits_on leave before after (length two) three five final noted all (out within))),
         subst (λ to. Is final (length three) (instr.Jump to)) (sym whole)
-            (jumps (length three) (omega arith) (still_is four five (length three) (instr.Trap Range) more (last_is three four (instr.Trap Range) last))),
+            (jumps (length three) (omega arith) end_at (still_is four five (length three) (instr.Trap Range) more (last_is three four (instr.Trap Range) last))),
         subst (λ from. BranchesAt setting final leave from targets alternatives (length seven)) behind
             (subst (λ to. BranchesAt setting final leave (length four) targets alternatives to) (to_is' to_is whole)
-            (branches final leave fifth (λ within. exits_from leave (length two) (length four) five final (omega (arith, beyond, behind)) (out within))
-            (λ place far is. subst (λ to. Is final place (instr.Jump to)) to_is (jumps place (omega (arith, far, behind)) is)))),
+            (branches final leave fifth (λ within. exits_from leave after (length two) (length four) five final (omega (arith, beyond, behind)) (out within))
+            (λ place far at is. subst (λ to. Is final place (instr.Jump to)) to_is (jumps place (omega (arith, far, behind)) at is)))),
       )
     where
       to_is' : to ≡ length five → length seven ≡ to → length five ≡ length seven
@@ -205,17 +215,17 @@ module _ (setting : Setting) (in_loop : Bool) (old : List Instr) where
 
 -- REPEAT
 
-pub repeat_adds : (setting : Setting) (in_loop : Bool) (old one two three four five six seven eight : List Instr) (counter : Option PlainCounter) (condition : Option PlainExpr)
+pub repeat_adds : (setting : Setting) (in_loop : Bool) (exits : List ℕ) (old one two three four five six seven eight : List Instr) (counter : Option PlainCounter) (condition : Option PlainExpr)
     (statements : PlainStmts) (past : ℕ) → past ≡ length six → Adds (λ code from to. BeginsAt setting code from counter to) old one → two ≡ one ++ instr.Turn ∷ [] →
     AddsTest (λ past code from to. CountsAt setting code from past counter to) two three → Extends two three →
     AddsTest (λ past code from to. WhileAt setting code from past condition to) three four → Extends three four →
-    AddsStmts setting true statements four five → Extends four five → Adds (λ code from to. AdvanceAt setting code from (length one) counter to) five six → Extends five six →
-    ((k : ℕ) → length one ≤ k → Is six k instr.End → Is seven k (instr.Jump past)) → ((k : ℕ) (i : Instr) → Is six k i → pending i ≢ Some Exit → Is seven k i) →
-    length seven ≡ length six → ((k : ℕ) → length one ≤ k → Is seven k (instr.Trap Index) → Is eight k (instr.JumpZero past)) →
+    AddsStmts setting true exits statements four five → Extends four five → Adds (λ code from to. AdvanceAt setting code from (length one) counter to) five six → Extends five six →
+    ((k : ℕ) → length one ≤ k → Contains exits k → Is six k instr.End → Is seven k (instr.Jump past)) → ((k : ℕ) (i : Instr) → Is six k i → pending i ≢ Some Exit → Is seven k i) →
+    length seven ≡ length six → ((k : ℕ) → length one ≤ k → k < length four → Is seven k (instr.Trap Index) → Is eight k (instr.JumpZero past)) →
     ((k : ℕ) (i : Instr) → Is seven k i → pending i ≢ Some Test → Is eight k i) → length eight ≡ length seven →
-    AddsStmt setting in_loop (OfRepeat counter condition statements) old eight
-repeat_adds setting in_loop old one two three four five six seven eight counter condition statements past past_is begins turn counts kept_three tests kept_four body kept_five
-    advances kept_six left held long tested held_again again final leave stays exits =
+    (noted : List ℕ) → AddsStmt setting in_loop noted (OfRepeat counter condition statements) old eight
+repeat_adds setting in_loop exits old one two three four five six seven eight counter condition statements past past_is begins turn counts kept_three tests kept_four body kept_five
+    advances kept_six left held long tested held_again again noted final leave stays outer =
     let begin = one_longer one two instr.Turn turn in
     let beyond = extends_longer two three kept_three in
     let far_four = extends_longer three four kept_four in
@@ -229,8 +239,8 @@ repeat_adds setting in_loop old one two three four five six seven eight counter 
     let fourth = stays_on four five final kept_five fifth in
     let third = stays_on three four final kept_four fourth in
     let second = stays_on two three final kept_three third in
-    let leaves : (k : ℕ) → length one ≤ k → Is six k (instr.Trap Index) → Is final k (instr.JumpZero past) = λ k far is.
-    stays k (instr.JumpZero past) (tested k far (held k (instr.Trap Index) is (λ same. cc))) refl in
+    let leaves : (k : ℕ) → length one ≤ k → k < length four → Is six k (instr.Trap Index) → Is final k (instr.JumpZero past) = λ k far near is.
+    stays k (instr.JumpZero past) (tested k far near (held k (instr.Trap Index) is (λ same. cc))) refl in
     let first = stays_one one two instr.Turn turn final second in (
       length one,
       length three,
@@ -240,14 +250,14 @@ repeat_adds setting in_loop old one two three four five six seven eight counter 
       last_stays one two instr.Turn turn final second refl,
       subst (λ from. CountsAt setting final from (length eight) counter (length three)) begin
           (subst (λ past. CountsAt setting final (length two) past counter (length three)) (sym whole)
-          (counts final past third (λ k far is. leaves k (omega (arith, far, begin)) (still_is three six k (instr.Trap Index) three_six is)))),
+          (counts final past third (λ k far is. leaves k (omega (arith, far, begin)) (let inside = within three k (instr.Trap Index) is in omega (arith, inside, far_four)) (still_is three six k (instr.Trap Index) three_six is)))),
       subst (λ past. WhileAt setting final (length three) past condition (length four)) (sym whole)
-          (tests final past fourth (λ k far is. leaves k (omega (arith, far, begin, beyond)) (still_is four six k (instr.Trap Index) four_six is))),
-      body final (Some (length eight)) fifth (λ within k far is. (
+          (tests final past fourth (λ k far is. leaves k (omega (arith, far, begin, beyond)) (within four k (instr.Trap Index) is) (still_is four six k (instr.Trap Index) four_six is))),
+      body final (Some (length eight)) fifth (λ inside k far at is. (
         length eight,
         refl,
         subst (λ past. Is final k (instr.Jump past)) (sym whole)
-            (seventh k (instr.Jump past) (left k (omega (arith, far, begin, beyond, far_four)) (still_is five six k instr.End five_six is)) refl),
+            (seventh k (instr.Jump past) (left k (omega (arith, far, begin, beyond, far_four)) at (still_is five six k instr.End five_six is)) refl),
       )),
       subst (λ to. AdvanceAt setting final (length five) (length one) counter to) (sym (again ∙ long)) (advances final sixth),
     )

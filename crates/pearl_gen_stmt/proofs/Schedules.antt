@@ -25,7 +25,7 @@ use Rattle.pearl_instructions.specs.declared.instr.Instr.TheVariants as instr
 use Rattle.pearl_instructions.specs.declared.object.Parts.{Parts as Object}
 use Rattle.pearl_instructions.specs.Steps.{Step, Silent, Offers, Missing, traps}
 use Rattle.pearl_instructions.specs.Steps as steps
-use Rattle.pearl_instructions.specs.Offers.{as_start, start_or_free, start_kinds, repeat_kinds, activation_count, started, repeated, with_priority, activate, continue}
+use Rattle.pearl_instructions.specs.Offers.{as_start, start_or_free, start_kinds, repeat_kinds, activation_count, started, repeated, with_priority, activate}
 use Rattle.pearl_meaning.specs.Frames.{Store}
 use Rattle.pearl_meaning.specs.Evaluation.{Outcome, Value, Needs, Fails, Does, gives, on_value, bind}
 use Rattle.pearl_meaning.specs.Setting.{Setting}

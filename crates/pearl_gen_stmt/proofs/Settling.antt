@@ -1,8 +1,10 @@
 -- Jumps whose places come later: what stays as they get them.
-use Rattle.std.proofs.Common.{◌≡◌, ◌≢◌, inl, inr, ℕ, zero, suc, ◌+◌, ◌<◌, ◌≤◌, List, [], ◌∷◌, ◌++◌, length, Some, None, slice_get, get_or, drop, drop-cons, refl, sym, ap, ◌∙◌, subst, arith, true, false, true≢false, ◌==◌, eqb-true, Result, Ok, Err}
+use Rattle.std.proofs.Common.{◌≡◌, ◌≢◌, ◌⊎◌, inl, inr, ℕ, zero, suc, ◌+◌, ◌<◌, ◌≤◌, List, [], ◌∷◌, ◌++◌, length, Some, None, slice_get, get_or, drop, drop-cons, refl, sym, ap, ◌∙◌, subst, arith, true, false, true≢false, ◌==◌, eqb-true, Result, Ok, Err}
 use Rattle.std.specs.Result.{OnOk}
 use Rattle.std.proofs.lemmas.List.{length-append}
 use Rattle.std.proofs.lemmas.Bool.{cases_eq}
+use Rattle.std.proofs.lemmas.Option.{slice_get_read, slice_get-get_or}
+use Rattle.std.specs.Prelude.{Contains}
 use Rattle.pearl_instructions.specs.declared.instr.Instr.{Instr}
 use Rattle.pearl_gen_expr.specs.ExprCode.{Is}
 use Rattle.pearl_gen_expr.specs.Emitting.{Extends}
@@ -20,62 +22,105 @@ instr_is_pending Exit = refl
 instr_is_pending Test = refl
 instr_is_pending Behind = refl
 
--- the jumps of this sort from one place up to another lead there, and all else is as it was
-pub record IsSettled (kind : Pending) (from to index : ℕ) (old now : List Instr) : Type 0 where
-  pub settled : (k : ℕ) → from ≤ k → k < index → Is old k (instr_of kind) → Is now k (jump_to kind to)
-  pub left : (k : ℕ) → index ≤ k → slice_get now k ≡ slice_get old k
+pub jump_is_known : (kind : Pending) (to : ℕ) → pending (jump_to kind to) ≢ Some kind
+jump_is_known Exit to same = cc
+jump_is_known Test to same = cc
+jump_is_known Behind to same = cc
+
+-- one instruction stands at a place
+instr_known : (code : List Instr) (place : ℕ) (x i : Instr) → Is code place x → Is code place i → pending i ≡ pending x
+instr_known code place x i is at =
+    let both : Some i ≡ Some x = sym at ∙ is in
+    let same : i ≡ x = cc in ap pending same
+
+-- where another sort of instruction stands there is no such jump
+pub none_here : (kind : Pending) (code : List Instr) (place : ℕ) (x : Instr) → Is code place x → pending x ≢ Some kind → Is code place (instr_of kind) → ⊥
+none_here kind code place x is not at = not (sym (instr_known code place x (instr_of kind) is at) ∙ instr_is_pending kind)
+
+-- once the jump at a place leads somewhere, all else stands still
+pub others_stay : (kind : Pending) (old now : List Instr) (place : ℕ) (x : Instr) → Is old place x → pending x ≡ Some kind →
+    ((k : ℕ) → k ≢ place → slice_get now k ≡ slice_get old k) → (k : ℕ) (i : Instr) → Is old k i → pending i ≢ Some kind → Is now k i
+others_stay kind old now place x here hit elsewhere k i at not = elim (cases_eq k place) [
+  | inl same ↦ absurd (not (instr_known old place x i here (subst (λ k. Is old k i) same at) ∙ hit))
+  | inr apart ↦ elsewhere k apart ∙ at
+]
+
+-- the jumps of this sort that stand at such places lead there, and all else is as it was
+pub record IsSettled (kind : Pending) (from to : ℕ) (Done : ℕ → Type 0) (old now : List Instr) : Type 0 where
+  pub settled : (k : ℕ) → from ≤ k → Done k → Is old k (instr_of kind) → Is now k (jump_to kind to)
+  pub either : (k : ℕ) → Is old k (instr_of kind) → Is now k (instr_of kind) ⊎ Is now k (jump_to kind to)
   pub kept : (k : ℕ) (i : Instr) → Is old k i → pending i ≢ Some kind → Is now k i
   pub before : (k : ℕ) → k < from → slice_get now k ≡ slice_get old k
   pub long : length now ≡ length old
 
-module _ (kind : Pending) (from to index : ℕ) where
-  pub none_settled : (old : List Instr) → index ≤ from → IsSettled kind from to index old old
-  none_settled old begin = record {
-    settled = λ k more less is. absurd (omega (arith, begin, more, less));
-    left = λ k more. refl;
+module _ (kind : Pending) (from to : ℕ) (Done : ℕ → Type 0) where
+  pub none_settled : (old : List Instr) → ((k : ℕ) → from ≤ k → Done k → ⊥) → IsSettled kind from to Done old old
+  none_settled old none = record {
+    settled = λ k more done is. absurd (none k more done);
+    either = λ k is. inl is;
     kept = λ k i is not. is;
     before = λ k less. refl;
     long = refl;
   }
 
-  module _ (old now : List Instr) (x : Instr) (is : Is now index x) (before : IsSettled kind from to index old now) where
-    same_here : Is old index x
-    same_here = sym (before.left index (omega arith)) ∙ is
-
-    -- another instruction
-    pub passed_over : pending x ≢ Some kind → IsSettled kind from to (index + 1) old now
-    passed_over not = record {
-      settled = λ k more less there. elim (cases_eq k index) [
-        | inl same ↦ absurd (not (
-            let here : Some x ≡ Some (instr_of kind) = sym same_here ∙ subst (λ k. Is old k (instr_of kind)) same there in
-            let equal : x ≡ instr_of kind = cc in ap pending equal ∙ instr_is_pending kind))
-        | inr apart ↦ before.settled k more (let other = apart in omega (arith, less, other)) there
-      ];
-      left = λ k more. before.left k (omega (arith, more));
+  module _ (Next : ℕ → Type 0) (old now : List Instr) (before : IsSettled kind from to Done old now) where
+    -- no place more
+    pub passed_over : ((k : ℕ) → from ≤ k → Next k → Done k) → IsSettled kind from to Next old now
+    passed_over same = record {
+      settled = λ k more next is. before.settled k more (same k more next) is;
+      either = before.either;
       kept = before.kept;
       before = before.before;
       long = before.long;
     }
 
-    -- a jump of this sort
-    pub led : (next : List Instr) → from ≤ index → pending x ≡ Some kind → Is next index (jump_to kind to) →
-        ((k : ℕ) → k ≢ index → slice_get next k ≡ slice_get now k) → length next ≡ length now →
-        IsSettled kind from to (index + 1) old next
-    led next begin hit there elsewhere long = record {
-      settled = λ k more less at. elim (cases_eq k index) [
-        | inl same ↦ subst (λ k. Is next k (jump_to kind to)) (sym same) there
-        | inr apart ↦ elsewhere k apart ∙ before.settled k more (let other = apart in omega (arith, less, other)) at
-      ];
-      left = λ k more. elsewhere k (λ same. omega (arith, more, same)) ∙ before.left k (omega (arith, more));
-      kept = λ k i at not. elim (cases_eq k index) [
-        | inl same ↦ absurd (not (
-            let here : Some x ≡ Some i = sym same_here ∙ subst (λ k. Is old k i) same at in
-            let equal : x ≡ i = cc in ap pending (sym equal) ∙ hit))
-        | inr apart ↦ elsewhere k apart ∙ before.kept k i at not
-      ];
-      before = λ k less. elsewhere k (λ same. omega (arith, less, same, begin)) ∙ before.before k less;
-      long = long ∙ before.long;
-    }
+    -- one place more
+    pub led : (place : ℕ) (next : List Instr) → ((k : ℕ) → from ≤ k → Next k → (k ≡ place) ⊎ Done k) → from ≤ place →
+        (Is now place (instr_of kind) → Is next place (jump_to kind to)) → ((k : ℕ) (i : Instr) → Is now k i → pending i ≢ Some kind → Is next k i) →
+        ((k : ℕ) → k ≢ place → slice_get next k ≡ slice_get now k) → length next ≡ length now → IsSettled kind from to Next old next
+    led place next which begin there held elsewhere long =
+        let stands : (k : ℕ) → Is now k (jump_to kind to) → Is next k (jump_to kind to) = λ k is. held k (jump_to kind to) is (jump_is_known kind to) in
+        let here : (k : ℕ) → k ≡ place → Is now k (instr_of kind) → Is next k (jump_to kind to) = λ k same is.
+        subst (λ k. Is next k (jump_to kind to)) (sym same) (there (subst (λ k. Is now k (instr_of kind)) same is)) in
+        record {
+          settled = λ k more done is. elim (which k more done) [
+            | inl same ↦ elim (before.either k is) [
+              | inl hole ↦ here k same hole
+              | inr jump ↦ stands k jump
+            ]
+            | inr earlier ↦ stands k (before.settled k more earlier is)
+          ];
+          either = λ k is. elim (before.either k is) [
+            | inl hole ↦ elim (cases_eq k place) [
+              | inl same ↦ inr (here k same hole)
+              | inr apart ↦ inl (elsewhere k apart ∙ hole)
+            ]
+            | inr jump ↦ inr (stands k jump)
+          ];
+          kept = λ k i is not. held k i (before.kept k i is not) not;
+          before = λ k less. elsewhere k (λ same. omega (arith, less, same, begin)) ∙ before.before k less;
+          long = long ∙ before.long;
+        }
+
+-- the places up to an index of a list
+abbrev pub UpTo : (places : List ℕ) → (index : ℕ) → ℕ → Type 0
+UpTo places index place = (k : ℕ) × (k < index) × (slice_get places k ≡ Some place)
+
+pub all_of : (places : List ℕ) (index place : ℕ) → length places ≤ index → Contains places place → UpTo places index place
+all_of places index place past is = (
+  is.0,
+  omega (arith, past, is.1),
+  slice_get_read places (length places) is.0 place refl is.1 (sym is.2),
+)
+
+pub one_further : (places : List ℕ) (index place : ℕ) → index < length places → UpTo places (index + 1) place →
+    (place ≡ get_or places index 0) ⊎ UpTo places index place
+one_further places index place inside at = elim (cases_eq at.0 index) [
+  | inl same ↦ inl (
+      let here : slice_get places index ≡ Some (get_or places index 0) = slice_get-get_or places index 0 inside in
+      let there : Some place ≡ Some (get_or places index 0) = sym (subst (λ k. slice_get places k ≡ Some place) same at.2) ∙ here in cc)
+  | inr apart ↦ inr (at.0, (let other = apart in let less = at.1 in omega (arith, less, other)), at.2)
+]
 
 pub extends_longer : (old new : List Instr) → Extends old new → length old ≤ length new
 extends_longer old new more = let long = ap length more.1 ∙ length-append old more.0 in omega (arith, long)

@@ -1,6 +1,6 @@
 -- What is emitted: new instructions stand behind the old ones, and a statement's code stands there once the jumps to
 -- places that come later have got theirs.
-use Rattle.std.specs.Prelude.{◌≡◌, ℕ, ◌≤◌, Bool, true, List, length, Option, Some, None, option_map}
+use Rattle.std.specs.Prelude.{◌≡◌, ℕ, ◌≤◌, Bool, true, List, length, Option, Some, None, option_map, Contains}
 use Rattle.pearl_value.specs.declared.kind.Kind.{Kind}
 use Rattle.pearl_value.specs.declared.trap.Trap.TheVariants.{Index, Range}
 use Rattle.pearl_program.specs.declared.statement.Case.{Case, out-Case}
@@ -61,14 +61,19 @@ jump_to Behind place = Jump place
 abbrev pub Stays : List Instr → List Instr → Type 0
 Stays old new = (place : ℕ) (instr : Instr) → Is old place instr → pending instr ≡ None → Is new place instr
 
--- EXIT, emitted from a place on, has become a jump behind the loop
-abbrev pub Exits : (leave : Option ℕ) → (from : ℕ) → List Instr → List Instr → Type 0
-Exits leave from old new =
-    (place : ℕ) → from ≤ place → Is old place End → (past : ℕ) × (leave ≡ Some past) × Is new place (Jump past)
+-- places that are noted stay noted
+abbrev pub Notes : (old new : List ℕ) → Type 0
+Notes old new = (place : ℕ) → Contains old place → Contains new place
+
+-- EXIT, emitted from a place on and noted, has become a jump behind the loop
+abbrev pub Exits : (leave : Option ℕ) → (noted : List ℕ) → (from : ℕ) → List Instr → List Instr → Type 0
+Exits leave noted from old new = (place : ℕ) → from ≤ place → Contains noted place → Is old place End →
+    (past : ℕ) × (leave ≡ Some past) × Is new place (Jump past)
 
 -- so have jumps behind CASE
-abbrev pub GoBehind : (to : ℕ) → (from : ℕ) → List Instr → List Instr → Type 0
-GoBehind to from old new = (place : ℕ) → from ≤ place → Is old place (Trap Range) → Is new place (Jump to)
+abbrev pub GoBehind : (to : ℕ) → (noted : List ℕ) → (from : ℕ) → List Instr → List Instr → Type 0
+GoBehind to noted from old new =
+    (place : ℕ) → from ≤ place → Contains noted place → Is old place (Trap Range) → Is new place (Jump to)
 
 -- and jumps behind a loop where a bit is 0
 abbrev pub Leave : (past : ℕ) → (from : ℕ) → List Instr → List Instr → Type 0
@@ -85,24 +90,25 @@ abbrev pub AddsTest : (Stands : (past : ℕ) → List Instr → (from to : ℕ) 
 AddsTest Stands old new = (final : List Instr) (past : ℕ) → Stays new final → Leave past (length old) new final →
     Stands past final (length old) (length new)
 
--- the same of a part with EXIT in it, once this has become a jump; there is none where no loop stands around
-abbrev pub AddsWithin : (in_loop : Bool) → (Stands : Option ℕ → List Instr → (from to : ℕ) → Type 0) →
+-- the same of a part with EXIT in it, once this has become a jump; there is none where no loop stands around, and each is
+-- noted
+abbrev pub AddsWithin : (in_loop : Bool) → (exits : List ℕ) → (Stands : Option ℕ → List Instr → (from to : ℕ) → Type 0) →
     List Instr → List Instr → Type 0
-AddsWithin in_loop Stands old new = (final : List Instr) (leave : Option ℕ) → Stays new final →
-    (in_loop ≡ true → Exits leave (length old) new final) → Stands leave final (length old) (length new)
+AddsWithin in_loop exits Stands old new = (final : List Instr) (leave : Option ℕ) → Stays new final →
+    (in_loop ≡ true → Exits leave exits (length old) new final) → Stands leave final (length old) (length new)
 
-module _ (setting : Setting) (in_loop : Bool) where
+module _ (setting : Setting) (in_loop : Bool) (exits : List ℕ) where
   abbrev pub AddsStmt : PlainStmt → List Instr → List Instr → Type 0
-  AddsStmt statement = AddsWithin in_loop (λ leave code from to. StmtAt setting code leave from statement to)
+  AddsStmt statement = AddsWithin in_loop exits (λ leave code from to. StmtAt setting code leave from statement to)
 
   abbrev pub AddsStmts : PlainStmts → List Instr → List Instr → Type 0
-  AddsStmts statements = AddsWithin in_loop (λ leave code from to. StmtsAt setting code leave from statements to)
+  AddsStmts statements = AddsWithin in_loop exits (λ leave code from to. StmtsAt setting code leave from statements to)
 
   abbrev pub AddsElse : (other : ℕ) → PlainStmts → List Instr → List Instr → Type 0
-  AddsElse other otherwise = AddsWithin in_loop (λ leave code from to. ElseAt setting code leave from other otherwise to)
+  AddsElse other otherwise = AddsWithin in_loop exits (λ leave code from to. ElseAt setting code leave from other otherwise to)
 
-  -- alternatives, at these places, once the jumps behind each have become jumps behind CASE
-  abbrev pub AddsBranches : List ℕ → PlainBranches → List Instr → List Instr → Type 0
-  AddsBranches targets branches old new = (final : List Instr) (leave : Option ℕ) → Stays new final →
-      (in_loop ≡ true → Exits leave (length old) new final) → GoBehind (length new) (length old) new final →
+  -- alternatives, at these places, once the jumps behind each, which are noted, have become jumps behind CASE
+  abbrev pub AddsBranches : List ℕ → (ends : List ℕ) → PlainBranches → List Instr → List Instr → Type 0
+  AddsBranches targets ends branches old new = (final : List Instr) (leave : Option ℕ) → Stays new final →
+      (in_loop ≡ true → Exits leave exits (length old) new final) → GoBehind (length new) ends (length old) new final →
       BranchesAt setting final leave (length old) targets branches (length new)

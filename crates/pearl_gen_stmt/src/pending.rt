@@ -1,10 +1,10 @@
 // Jumps to places that come later.
 
-ghost use Rattle.std.specs.Prelude.{◌≡◌, ◌≢◌, ℕ, ◌+◌, ◌<◌, ◌≤◌, true, false, [], ◌∷◌, ◌++◌, length, Some, None, slice_get, OnOk};
+ghost use Rattle.std.specs.Prelude.{◌≡◌, ◌≢◌, ℕ, ◌+◌, ◌<◌, ◌≤◌, true, false, [], ◌∷◌, ◌++◌, length, Some, slice_get, OnOk, Contains};
 ghost use Rattle.pearl_gen_expr.specs.ExprCode.{Is};
 ghost use Rattle.pearl_gen_expr.specs.Emitting.{Extends};
 ghost use Rattle.pearl_instructions.specs.declared.instr.Instr.{Instr as InstrOf};
-ghost use Rattle.pearl_gen_stmt.specs.Emission.{pending as pending_of, instr_of, jump_to, Stays};
+ghost use Rattle.pearl_gen_stmt.specs.Emission.{pending as pending_of, instr_of, jump_to, Notes};
 
 use pearl_instructions::instr::Instr;
 use pearl_value::trap::Trap;
@@ -58,6 +58,15 @@ fn is_pending(instr: &Instr, kind: Pending) -> bool
     }
 }
 
+/// One more place is noted.
+pub fn note(places: &mut Vec<usize>, place: usize) -> Result<(), NoMemory>
+    ensures there { OnOk result (Contains places.new.items place) }
+    ensures noted { Notes places.old.items places.new.items }
+{
+    places.push(place)?;
+    Ok(())
+}
+
 /// One more instruction.
 pub fn emit(code: &mut Vec<Instr>, instr: Instr) -> Result<(), NoMemory>
     ensures added { OnOk result (code.new.items ≡ code.old.items ++ instr ∷ []) }
@@ -86,16 +95,40 @@ pub fn put(code: &mut Vec<Instr>, place: usize, instr: Instr)
     code[place] = instr;
 }
 
-/// All jumps of this sort that stand from a place on lead to this place now.
-pub fn settle(code: &mut Vec<Instr>, from: usize, kind: Pending, to: u64)
-    ensures settled { (k : ℕ) → from ≤ k → Is code.old.items k (instr_of kind) → Is code.new.items k (jump_to kind to) }
+// If a jump of this sort stands here, it leads to this place now.
+fn settle_one(code: &mut Vec<Instr>, place: usize, kind: Pending, to: u64)
+    ensures settled { Is code.old.items place (instr_of kind) → Is code.new.items place (jump_to kind to) }
+    ensures kept { (k : ℕ) (i : InstrOf) → Is code.old.items k i → pending_of i ≢ Some kind → Is code.new.items k i }
+    ensures elsewhere { (k : ℕ) → k ≢ place → slice_get code.new.items k ≡ slice_get code.old.items k }
+    ensures long { length code.new.items ≡ length code.old.items }
+{
+    if place < code.len() && is_pending(&code[place], kind) {
+        put(code, place, kind.jump(to));
+    }
+}
+
+/// The jumps of this sort that stand from `from` up to `until` lead to `to` now.
+pub fn settle_between(code: &mut Vec<Instr>, from: usize, until: usize, kind: Pending, to: u64)
+    ensures settled { (k : ℕ) → from ≤ k → k < until → Is code.old.items k (instr_of kind) → Is code.new.items k (jump_to kind to) }
     ensures kept { (k : ℕ) (i : InstrOf) → Is code.old.items k i → pending_of i ≢ Some kind → Is code.new.items k i }
     ensures before { (k : ℕ) → k < from → slice_get code.new.items k ≡ slice_get code.old.items k }
     ensures long { length code.new.items ≡ length code.old.items }
 {
-    for index in from..code.len() {
-        if is_pending(&code[index], kind) {
-            put(code, index, kind.jump(to));
+    for index in from..until {
+        settle_one(code, index, kind, to);
+    }
+}
+
+/// Of these places those from `from` on: a jump of this sort that stands there leads to `to` now.
+pub fn settle_at(code: &mut Vec<Instr>, from: usize, places: &[usize], kind: Pending, to: u64)
+    ensures settled { (k : ℕ) → from ≤ k → Contains places.now k → Is code.old.items k (instr_of kind) → Is code.new.items k (jump_to kind to) }
+    ensures kept { (k : ℕ) (i : InstrOf) → Is code.old.items k i → pending_of i ≢ Some kind → Is code.new.items k i }
+    ensures before { (k : ℕ) → k < from → slice_get code.new.items k ≡ slice_get code.old.items k }
+    ensures long { length code.new.items ≡ length code.old.items }
+{
+    for place in places {
+        if from <= *place {
+            settle_one(code, *place, kind, to);
         }
     }
 }

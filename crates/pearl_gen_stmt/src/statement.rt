@@ -1,6 +1,7 @@
-// The code of statements.
+// The code of statements. The places of jumps behind the innermost loop are noted as they are emitted, and those behind
+// CASE: of a loop's code its head alone is gone through once more.
 
-ghost use Rattle.std.specs.Prelude.{◌≡◌, List, None, length, OnOk, IfOk};
+ghost use Rattle.std.specs.Prelude.{◌≡◌, ℕ, List, None, length, OnOk, IfOk};
 ghost use Rattle.pearl_program.specs.PlainStatements.{plain_stmt, plain_stmts, OfExit, plain_branches};
 ghost use Rattle.pearl_program.specs.PlainPrograms.{plain_prog, plain_routine};
 ghost use Rattle.pearl_meaning.specs.Setting.{Setting};
@@ -9,11 +10,11 @@ ghost use Rattle.pearl_gen_stmt.specs.StmtCode.{on_task, Alone, StmtsAt};
 ghost use Rattle.pearl_instructions.specs.declared.instr.Instr as instr_type;
 ghost use Rattle.pearl_instructions.specs.declared.instr.Instr.TheVariants as instr;
 ghost use Rattle.pearl_gen_stmt.specs.Generated.{within_program};
-ghost use Rattle.pearl_gen_stmt.specs.Emission.{setting_of, plain_if, plain_case, plain_repeat, Adds, AddsElse, AddsStmt, AddsStmts, AddsBranches};
+ghost use Rattle.pearl_gen_stmt.specs.Emission.{setting_of, plain_if, plain_case, plain_repeat, Notes, Adds, AddsElse, AddsStmt, AddsStmts, AddsBranches};
 
 use crate::get::emit_get;
 use crate::loops::{emit_advance, emit_begins, emit_counts, emit_while};
-use crate::pending::{Pending, emit, emit_pending, put, settle};
+use crate::pending::{Pending, emit, emit_pending, note, put, settle_at, settle_between};
 use crate::renewal::emit_renew;
 use crate::schedule::{emit_activate, emit_continue, emit_resume};
 use crate::site::Site;
@@ -92,13 +93,15 @@ fn emit_release(
     Ok(())
 }
 
-fn emit_exit(site: Site<'_>, code: &mut Vec<Instr>) -> Result<(), NoMemory>
-    ensures added { OnOk result (AddsStmt (setting_of site.entry.program.now site.entry.result site.entry.routine.now) site.entry.in_loop OfExit code.old.items code.new.items) }
+fn emit_exit(site: Site<'_>, code: &mut Vec<Instr>, exits: &mut Vec<usize>) -> Result<(), NoMemory>
+    ensures added { OnOk result (AddsStmt (setting_of site.entry.program.now site.entry.result site.entry.routine.now) site.entry.in_loop exits.new.items OfExit code.old.items code.new.items) }
     ensures kept { Extends code.old.items code.new.items }
+    ensures noted { Notes exits.old.items exits.new.items }
 {
     if !site.in_loop {
         return Err(NoMemory);
     }
+    note(exits, code.len())?;
     emit_pending(code, Pending::Exit)?;
     Ok(())
 }
@@ -108,19 +111,21 @@ fn emit_stmt(
     alloc: Global,
     site: Site<'_>,
     code: &mut Vec<Instr>,
+    exits: &mut Vec<usize>,
     stmt: &Stmt,
 ) -> Result<(), NoMemory>
-    ensures added { OnOk result (AddsStmt (setting_of site.entry.program.now site.entry.result site.entry.routine.now) site.entry.in_loop (plain_stmt stmt.now) code.old.items code.new.items) }
+    ensures added { OnOk result (AddsStmt (setting_of site.entry.program.now site.entry.result site.entry.routine.now) site.entry.in_loop exits.new.items (plain_stmt stmt.now) code.old.items code.new.items) }
     ensures kept { Extends code.old.items code.new.items }
+    ensures noted { Notes exits.old.items exits.new.items }
 {
     match stmt {
         Stmt::Renew(part) => emit_renew(alloc, code, part),
         Stmt::Assign(part) => emit_assign(alloc, site, code, part),
         Stmt::Call(call) => emit_call_of(alloc, site, code, call),
-        Stmt::If(part) => emit_if(alloc, site, code, part),
-        Stmt::Case(part) => emit_case(alloc, site, code, part),
+        Stmt::If(part) => emit_if(alloc, site, code, exits, part),
+        Stmt::Case(part) => emit_case(alloc, site, code, exits, part),
         Stmt::Repeat(part) => emit_repeat(alloc, site, code, part),
-        Stmt::Exit => emit_exit(site, code),
+        Stmt::Exit => emit_exit(site, code, exits),
         Stmt::Return(part) => emit_return(alloc, site, code, part),
         Stmt::Activate(part) => emit_activate(alloc, site, code, part),
         Stmt::Continue(part) => emit_continue(alloc, site, code, part),
@@ -145,27 +150,36 @@ fn emit_stmts(
     alloc: Global,
     site: Site<'_>,
     code: &mut Vec<Instr>,
+    exits: &mut Vec<usize>,
     stmts: &[Stmt],
 ) -> Result<(), NoMemory>
-    ensures added { OnOk result (AddsStmts (setting_of site.entry.program.now site.entry.result site.entry.routine.now) site.entry.in_loop (plain_stmts stmts.now) code.old.items code.new.items) }
+    ensures added { OnOk result (AddsStmts (setting_of site.entry.program.now site.entry.result site.entry.routine.now) site.entry.in_loop exits.new.items (plain_stmts stmts.now) code.old.items code.new.items) }
     ensures kept { Extends code.old.items code.new.items }
+    ensures noted { Notes exits.old.items exits.new.items }
 {
     for stmt in stmts {
-        emit_stmt(alloc, site, code, stmt)?;
+        emit_stmt(alloc, site, code, exits, stmt)?;
     }
     Ok(())
 }
 
 #[cycle(statement)]
-fn emit_if(alloc: Global, site: Site<'_>, code: &mut Vec<Instr>, part: &If) -> Result<(), NoMemory>
-    ensures added { OnOk result (AddsStmt (setting_of site.entry.program.now site.entry.result site.entry.routine.now) site.entry.in_loop (plain_if part.now) code.old.items code.new.items) }
+fn emit_if(
+    alloc: Global,
+    site: Site<'_>,
+    code: &mut Vec<Instr>,
+    exits: &mut Vec<usize>,
+    part: &If,
+) -> Result<(), NoMemory>
+    ensures added { OnOk result (AddsStmt (setting_of site.entry.program.now site.entry.result site.entry.routine.now) site.entry.in_loop exits.new.items (plain_if part.now) code.old.items code.new.items) }
     ensures kept { Extends code.old.items code.new.items }
+    ensures noted { Notes exits.old.items exits.new.items }
 {
     emit_expr(alloc, site.program, code, &part.condition)?;
     let tested = code.len();
     emit_pending(code, Pending::Branch)?;
-    emit_stmts(alloc, site, code, part.statements.as_slice())?;
-    let other = emit_else(alloc, site, code, part.otherwise.as_slice())?;
+    emit_stmts(alloc, site, code, exits, part.statements.as_slice())?;
+    let other = emit_else(alloc, site, code, exits, part.otherwise.as_slice())?;
     put(code, tested, Instr::JumpZero(other));
     Ok(())
 }
@@ -176,17 +190,19 @@ fn emit_else(
     alloc: Global,
     site: Site<'_>,
     code: &mut Vec<Instr>,
+    exits: &mut Vec<usize>,
     otherwise: &[Stmt],
 ) -> Result<u64, NoMemory>
-    ensures added { IfOk result (λ other. AddsElse (setting_of site.entry.program.now site.entry.result site.entry.routine.now) site.entry.in_loop other (plain_stmts otherwise.now) code.old.items code.new.items) }
+    ensures added { IfOk result (λ other. AddsElse (setting_of site.entry.program.now site.entry.result site.entry.routine.now) site.entry.in_loop exits.new.items other (plain_stmts otherwise.now) code.old.items code.new.items) }
     ensures kept { Extends code.old.items code.new.items }
+    ensures noted { Notes exits.old.items exits.new.items }
 {
     let end = code.len();
     if otherwise.is_empty() {
         return Ok(end as u64);
     }
     emit_pending(code, Pending::Branch)?;
-    emit_stmts(alloc, site, code, otherwise)?;
+    emit_stmts(alloc, site, code, exits, otherwise)?;
     let to = code.len() as u64;
     put(code, end, Instr::Jump(to));
     Ok(end as u64 + 1)
@@ -197,21 +213,26 @@ fn emit_case(
     alloc: Global,
     site: Site<'_>,
     code: &mut Vec<Instr>,
+    exits: &mut Vec<usize>,
     part: &Case,
 ) -> Result<(), NoMemory>
-    ensures added { OnOk result (AddsStmt (setting_of site.entry.program.now site.entry.result site.entry.routine.now) site.entry.in_loop (plain_case part.now) code.old.items code.new.items) }
+    ensures added { OnOk result (AddsStmt (setting_of site.entry.program.now site.entry.result site.entry.routine.now) site.entry.in_loop exits.new.items (plain_case part.now) code.old.items code.new.items) }
     ensures kept { Extends code.old.items code.new.items }
+    ensures noted { Notes exits.old.items exits.new.items }
 {
     emit_expr(alloc, site.program, code, &part.selector)?;
     let selected = code.len();
     emit_pending(code, Pending::Branch)?;
-    emit_stmts(alloc, site, code, part.otherwise.as_slice())?;
+    emit_stmts(alloc, site, code, exits, part.otherwise.as_slice())?;
     let end = code.len();
+    let mut ends = Vec::new(alloc);
+    note(&mut ends, end)?;
     emit_pending(code, Pending::Branch)?;
-    let places = emit_branches(alloc, site, code, part.alternatives.as_slice())?;
+    let alternatives = part.alternatives.as_slice();
+    let places = emit_branches(alloc, site, code, exits, &mut ends, alternatives)?;
     let targets = Boxed::new(alloc, Listing::new(places))?;
     let to = code.len() as u64;
-    settle(code, end, Pending::Branch, to);
+    settle_at(code, end, ends.as_slice(), Pending::Branch, to);
     put(code, selected, Instr::Case(targets));
     Ok(())
 }
@@ -222,15 +243,20 @@ fn emit_branches(
     alloc: Global,
     site: Site<'_>,
     code: &mut Vec<Instr>,
+    exits: &mut Vec<usize>,
+    ends: &mut Vec<usize>,
     branches: &[Branch],
 ) -> Result<Vec<u64>, NoMemory>
-    ensures added { IfOk result (λ places. AddsBranches (setting_of site.entry.program.now site.entry.result site.entry.routine.now) site.entry.in_loop places.items (plain_branches branches.now) code.old.items code.new.items) }
+    ensures added { IfOk result (λ places. AddsBranches (setting_of site.entry.program.now site.entry.result site.entry.routine.now) site.entry.in_loop exits.new.items places.items ends.new.items (plain_branches branches.now) code.old.items code.new.items) }
     ensures kept { Extends code.old.items code.new.items }
+    ensures noted { Notes exits.old.items exits.new.items }
+    ensures ended { Notes ends.old.items ends.new.items }
 {
     let mut places = Vec::new(alloc);
     for branch in branches {
         places.push(code.len() as u64)?;
-        emit_stmts(alloc, site, code, branch.statements.as_slice())?;
+        emit_stmts(alloc, site, code, exits, branch.statements.as_slice())?;
+        note(ends, code.len())?;
         emit_pending(code, Pending::Branch)?;
     }
     Ok(places)
@@ -243,7 +269,7 @@ fn emit_repeat(
     code: &mut Vec<Instr>,
     part: &Repeat,
 ) -> Result<(), NoMemory>
-    ensures added { OnOk result (AddsStmt (setting_of site.entry.program.now site.entry.result site.entry.routine.now) site.entry.in_loop (plain_repeat part.now) code.old.items code.new.items) }
+    ensures added { OnOk result ((places : List ℕ) → AddsStmt (setting_of site.entry.program.now site.entry.result site.entry.routine.now) site.entry.in_loop places (plain_repeat part.now) code.old.items code.new.items) }
     ensures kept { Extends code.old.items code.new.items }
 {
     emit_begins(alloc, site, code, &part.counter)?;
@@ -251,17 +277,19 @@ fn emit_repeat(
     emit(code, Instr::Turn)?;
     emit_counts(code, &part.counter)?;
     emit_while(alloc, site, code, &part.condition)?;
+    let tested = code.len();
+    let mut exits = Vec::new(alloc);
     let within = Site {
         program: site.program,
         routine: site.routine,
         result: site.result,
         in_loop: true,
     };
-    emit_stmts(alloc, within, code, part.statements.as_slice())?;
+    emit_stmts(alloc, within, code, &mut exits, part.statements.as_slice())?;
     emit_advance(code, top as u64, &part.counter)?;
     let past = code.len() as u64;
-    settle(code, top, Pending::Exit, past);
-    settle(code, top, Pending::Test, past);
+    settle_at(code, top, exits.as_slice(), Pending::Exit, past);
+    settle_between(code, top, tested, Pending::Test, past);
     Ok(())
 }
 
@@ -284,6 +312,7 @@ pub fn emit_statements(
         result: returns,
         in_loop: false,
     };
-    emit_stmts(alloc, site, code, routine.body.as_slice())?;
+    let mut exits = Vec::new(alloc);
+    emit_stmts(alloc, site, code, &mut exits, routine.body.as_slice())?;
     Ok(())
 }

@@ -1,5 +1,0 @@
-use Rattle.pearl_gen_stmt.proofs.Settling.{IsSettled}
-use Rattle.pearl_gen_stmt.proofs.pending.settle.Given as goal
-
-abbrev pub invariant-loop-index : goal.invariant-loop-index
-invariant-loop-index l = IsSettled l.kind l.from l.to l.index l.fn.code.items l.code.items
