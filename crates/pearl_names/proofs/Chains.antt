@@ -1,11 +1,9 @@
 -- What types come to where STRUCTs with one field are gone past.
-use Rattle.std.proofs.Common.{◌≡◌, ℕ, ◌*◌, ◌≤◌, ℤ, List, [], ◌∷◌, ◌++◌, length, take, drop, slice_get, unwrap_or, Option, Some, None, refl, sym, ap, subst, ◌∙◌, append_assoc, append-nil, arith}
-use Rattle.std.proofs.Math.Nat.{mul_assoc}
-use Rattle.std.proofs.lemmas.List.{take-append-drop, length-map}
+use Rattle.std.proofs.Common.{◌≡◌, ℕ, ◌*◌, ℤ, List, [], ◌∷◌, ◌++◌, take, drop, slice_get, unwrap_or, Some, None, refl, sym, ap, subst, ◌∙◌, append_assoc, append-nil, arith}
+use Rattle.std.proofs.lemmas.List.{take-append-drop}
 use Rattle.std.proofs.lemmas.Option.{same_Some, none-some}
 use Rattle.std.specs.Option.{option_and_then}
 use Rattle.arrayvec.specs.ArrayVec.{ArrayVec}
-use Rattle.pearl_value.specs.declared.kind.Kind.{Kind}
 use Rattle.pearl_names.specs.declared.types.Elements.{Elements}
 use Rattle.pearl_names.specs.declared.types.FieldForm.{FieldForm}
 use Rattle.pearl_names.specs.declared.types.StructForm.{StructForm}
@@ -13,13 +11,10 @@ use Rattle.pearl_names.specs.declared.types.TypeRef.{TypeRef}
 use Rattle.pearl_names.specs.declared.types.TypeRef.TheVariants.{Basic, Struct}
 use Rattle.pearl_names.specs.Chains.{one_of, end_of, end_of_field, only_end}
 use Rattle.pearl_names.specs.Counts.{cut}
-use Rattle.pearl_names.specs.Forms.{leaf_count, StandsFor, FieldsStand, EndsIn}
+use Rattle.pearl_names.specs.Forms.{StandsFor, FieldsStand, EndsIn}
 use Rattle.pearl_names.specs.Layout.{leaves_of, elements}
-use Rattle.pearl_names.specs.Runs.{shape_slots, AreFew}
 use Rattle.pearl_names.specs.Shapes.{Shape, OfKind, OfFields, Fields, NoField, MoreField}
-use Rattle.pearl_names.specs.Walks.{HasSlots, HasSomeSlots}
-use Rattle.pearl_names.proofs.Counting.{cut_mul, elements-append, behind, leaves_behind}
-use Rattle.pearl_names.proofs.ShapeSlots.{some_within}
+use Rattle.pearl_names.proofs.Counting.{cut_mul, elements-append}
 use Rattle.pearl_names.proofs.Standing.{stands_more}
 
 -- a type that stays
@@ -31,12 +26,7 @@ ends_here forms part shape h = record {
   stands = h;
   count = omega arith;
   leaves = λ behind around i. leaves_of (sym (append-nil behind) i) (sym (append-nil around) i) shape;
-  slots = λ n. ap (λ m. shape_slots m shape) (once n);
-  few = λ n h. subst (λ m. AreFew m shape) (once n) h;
 }
-  where
-    once : (n : ℕ) → n ≡ n * 1
-    once n = omega arith
 
 -- a STRUCT with one field, whose type comes to this
 ends_behind : (forms : List StructForm) (number : ℕ) (field : FieldForm) (end : Elements) (name : List ℕ) (bounds : List (ℤ × ℤ)) (shape : Shape) →
@@ -51,15 +41,10 @@ ends_behind forms number field end name bounds shape counted inner = record {
   leaves = λ before around.
       append-nil (leaves_of (before ++ name ∷ []) (around ++ bounds) shape) ∙ inner.leaves (before ++ name ∷ []) (around ++ bounds)
       ∙ (λ i. leaves_of (append_assoc before (name ∷ []) inner.path i) (append_assoc around bounds inner.bounds i) inner.last);
-  slots = λ n. append-nil (shape_slots (n * elements bounds) shape) ∙ inner.slots (n * elements bounds) ∙ ap (λ m. shape_slots m inner.last) (times n);
-  few = λ n h. subst (λ m. AreFew m inner.last) (times n) (inner.few (n * elements bounds) h.0);
 }
   where
     all : elements (bounds ++ inner.bounds) ≡ elements bounds * elements inner.bounds
     all = elements-append bounds inner.bounds
-
-    times : (n : ℕ) → n * elements bounds * elements inner.bounds ≡ n * elements (bounds ++ inner.bounds)
-    times n = mul_assoc n (elements bounds) (elements inner.bounds) ∙ ap (λ m. n * m) (sym all)
 
 mutual
   unfolding StandsFor
@@ -83,28 +68,6 @@ mutual
   fields_end forms number [] (MoreField name bounds shape more) all h = absurd h
   fields_end forms number (entry ∷ []) (MoreField name bounds shape (MoreField next own part more)) all h = absurd h.2
   fields_end forms number (entry ∷ entries) NoField all h = absurd h
-
--- as many leaves
-pub same_count : (forms : List StructForm) (end : Elements) (shape : Shape) (ends : EndsIn forms end shape) → leaf_count shape ≡ leaf_count ends.last
-same_count forms end shape ends =
-    ap length (ends.leaves [] [] ∙ leaves_behind ends.path ends.bounds ends.last) ∙ length-map (leaves_of [] [] ends.last) (behind ends.path ends.bounds)
-
--- and so do so many elements of it
-pub ends_slots : (forms : List StructForm) (part : TypeRef) (count : ℕ) (slots : List Kind) (found : HasSlots forms part count slots) → 1 ≤ leaf_count found.shape →
-    HasSomeSlots forms (end_of forms part).part (cut (count * (end_of forms part).count)) slots
-ends_slots forms part count slots found leaf =
-    let ends = ends_in forms part found.shape found.stands in record {
-      found = record {
-        shape = ends.last;
-        many = found.many * elements ends.bounds;
-        stands = ends.stands;
-        counted = (λ i. cut (found.counted i * ends.count i)) ∙ sym (cut_mul found.many (elements ends.bounds));
-        some = some_within found.many ends.bounds found.some;
-        few = ends.few found.many found.few;
-        is = found.is ∙ ends.slots found.many;
-      };
-      leaf = subst (λ n. 1 ≤ n) (same_count forms (end_of forms part) found.shape ends) leaf;
-    }
 
 -- fields of which there is one, several or none
 pub one_field : (forms : List StructForm) (entries : List (ArrayVec ℕ × FieldForm)) (entry : ArrayVec ℕ × FieldForm) → slice_get entries 0 ≡ Some entry → slice_get entries 1 ≡ None →

@@ -20,6 +20,7 @@ use Rattle.pearl_names.specs.Forms.{pair_of, StandsFor, FieldsStand, AllBounded,
 use Rattle.pearl_names.specs.Forming.{fields_shown, AllMatch, Grows, Has, Made, struct_shape}
 use Rattle.pearl_names.specs.declared.sense.Bounds.{Bounds}
 use Rattle.pearl_names.specs.Chains.{only_end}
+use Rattle.pearl_names.specs.Leaps.{LeapStands}
 use Rattle.pearl_names.specs.Counts.{counts}
 use Rattle.pearl_names.specs.Runs.{tails_of}
 use Rattle.pearl_names.proofs.Standing.{stands_more, fields_more}
@@ -236,10 +237,10 @@ last_of (f ∷ forms) form = last_of forms form
 
 -- the form is kept behind the others
 pub kept : (old now new : List StructForm) (named : List (Option TypeRef)) (around : List (Option Shape) → Around) (form tailed : StructForm) (fields : List Field) (part : TypeRef) → Made old now named around form fields →
-    tailed ≡ record form { tails = tailed.tails; end = tailed.end } → ((own : Fields) → FieldsStand now 0 0 form.fields.entries own → tailed.tails.items ≡ tails_of own) →
-    tailed.end ≡ only_end now tailed.fields.entries → new ≡ now ++ tailed ∷ [] → part ≡ Struct (length now) → (shapes : List (Option Shape)) → AllMatch old named shapes → Matches new (Some part) (struct_shape (around shapes) fields)
+    tailed ≡ record form { tails = tailed.tails; end = tailed.end; leap = tailed.leap } → ((own : Fields) → FieldsStand now 0 0 form.fields.entries own → tailed.tails.items ≡ tails_of own) →
+    tailed.end ≡ only_end now tailed.fields.entries → ((own : Fields) → FieldsStand now 0 0 form.fields.entries own → LeapStands now tailed.leap form.fields.entries own) → new ≡ now ++ tailed ∷ [] → part ≡ Struct (length now) → (shapes : List (Option Shape)) → AllMatch old named shapes → Matches new (Some part) (struct_shape (around shapes) fields)
 unfolding StandsFor
-kept old now new named around form tailed fields part made same tails end is number shapes all =
+kept old now new named around form tailed fields part made same tails end leap is number shapes all =
     let has = made.has shapes all in
     let entries = ap (λ f. f.fields.entries) same in
     let earlier : take (length now) (now ++ tailed ∷ []) ≡ now = take-append_seam now (tailed ∷ []) in
@@ -251,6 +252,8 @@ kept old now new named around form tailed fields part made same tails end is num
       tails has.shape has.stands.stand,
       subst (λ f. AllBounded f.bounds.items f.fields.entries has.shape) (sym same) has.stands.bounded,
       end ∙ ap (λ l. only_end l tailed.fields.entries) (sym earlier),
+      subst (λ l. LeapStands l tailed.leap tailed.fields.entries has.shape) (sym earlier)
+          (subst (λ es. LeapStands now tailed.leap es has.shape) (sym entries) (leap has.shape has.stands.stand)),
     )
 
 pub kept_grows : (old now new : List StructForm) (form : StructForm) → Grows old now → new ≡ now ++ form ∷ [] → Grows old new

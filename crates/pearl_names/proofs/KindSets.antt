@@ -1,9 +1,9 @@
 -- Which kinds are among slots that stand one after the other, and among slots of so many elements.
-use Rattle.std.proofs.Common.{◌≡◌, ℕ, zero, suc, ◌≤◌, min, Bool, true, false, ◌||◌, List, [], ◌∷◌, ◌++◌, replicate, Option, Some, None, refl, sym, ap, ◌∙◌, arith}
+use Rattle.std.proofs.Common.{◌≡◌, ℕ, zero, suc, ◌≤◌, min, Bool, true, false, ◌||◌, List, [], ◌∷◌, ◌++◌, replicate, Option, Some, None, is_some, refl, sym, ap, ◌∙◌, true≢false, arith}
 use Rattle.pearl_value.specs.declared.kind.Kind.{Kind}
 use Rattle.pearl_value.specs.declared.kind.Kind.TheVariants as kind
 use Rattle.pearl_names.specs.declared.kinds.Kinds.{Kinds}
-use Rattle.pearl_names.specs.Kinds.{least, no_kinds, one_kind, joined_kinds, kinds_among}
+use Rattle.pearl_names.specs.Kinds.{least, no_kinds, one_kind, joined_kinds, kinds_among, has_kind}
 
 least-assoc : (a b c : Option ℕ) → least (least a b) c ≡ least a (least b c)
 least-assoc None b c = refl
@@ -64,3 +64,27 @@ kinds-replicate (suc n) x = ap (joined_kinds (one_kind x)) (kinds-replicate n x)
 pub kinds-run : (n : ℕ) (x : Kind) → 1 ≤ n → kinds_among (replicate n x) ≡ one_kind x
 kinds-run zero x h = absurd (omega (arith, h))
 kinds-run (suc n) x h = kinds-replicate n x
+
+-- where no kind is among some slots, there is none
+least_some : (n : ℕ) (a : Option ℕ) → is_some (least (Some n) a) ≡ true
+least_some n None = refl
+least_some n (Some a) = refl
+
+or_true : (a : Bool) → (a || true) ≡ true
+or_true true = refl
+or_true false = refl
+
+some_kind : (x : Kind) (k : Kinds) → has_kind (joined_kinds (one_kind x) k) ≡ true
+some_kind (kind.Fixed len) k = ap (λ b. b || is_some k.bits || is_some k.chars || k.clock || k.span) (least_some len k.fixed)
+some_kind (kind.Bits len) k =
+    ap (λ b. is_some k.fixed || b || is_some k.chars || k.clock || k.span) (least_some len k.bits)
+    ∙ ap (λ b. b || is_some k.chars || k.clock || k.span) (or_true (is_some k.fixed))
+some_kind (kind.Chars len) k =
+    ap (λ b. is_some k.fixed || is_some k.bits || b || k.clock || k.span) (least_some len k.chars)
+    ∙ ap (λ b. b || k.clock || k.span) (or_true (is_some k.fixed || is_some k.bits))
+some_kind kind.Clock k = ap (λ b. b || k.span) (or_true (is_some k.fixed || is_some k.bits || is_some k.chars))
+some_kind kind.Span k = or_true (is_some k.fixed || is_some k.bits || is_some k.chars || k.clock)
+
+pub no_kind_none : (slots : List Kind) → has_kind (kinds_among slots) ≡ false → slots ≡ []
+no_kind_none [] h = refl
+no_kind_none (x ∷ rest) h = absurd (true≢false (sym (some_kind x (kinds_among rest)) ∙ h))

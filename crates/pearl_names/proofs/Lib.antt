@@ -21,5 +21,6 @@ mod Outers
 mod Examples
 mod KindSets
 mod ShapeSlots
+mod Leaps
 mod Walking
 pub mod Offered

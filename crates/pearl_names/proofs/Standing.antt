@@ -14,6 +14,7 @@ use Rattle.pearl_names.specs.declared.types.FieldForm.{FieldForm}
 use Rattle.pearl_names.specs.declared.types.StructForm.{StructForm}
 use Rattle.pearl_names.specs.Chains.{only_end}
 use Rattle.pearl_names.specs.Counts.{counts, counts_of}
+use Rattle.pearl_names.specs.Leaps.{LeapStands}
 use Rattle.pearl_names.specs.declared.kinds.Kinds.{Kinds}
 use Rattle.pearl_names.specs.Kinds.{one_kind, kinds_among}
 use Rattle.pearl_names.specs.Runs.{shape_slots, field_slots, drop_fields, tails_of}
@@ -21,7 +22,7 @@ use Rattle.pearl_names.proofs.KindSets.{kinds-run}
 use Rattle.pearl_names.proofs.ShapeSlots.{field_count, tail_at}
 use Rattle.pearl_names.specs.Forms.{leaf_count, slot_count, pair_of, StandsFor, FieldsStand, AllBounded, FindsBounds, Component, component, MatchesComponent}
 
-slice_get_more : {X : Type 0} (xs ys : List X) (i : ℕ) (x : X) → slice_get xs i ≡ Some x → slice_get (xs ++ ys) i ≡ Some x
+pub slice_get_more : {X : Type 0} (xs ys : List X) (i : ℕ) (x : X) → slice_get xs i ≡ Some x → slice_get (xs ++ ys) i ≡ Some x
 slice_get_more [] ys i x h = absurd (true≢false (sym (ap is_some h)))
 slice_get_more (y ∷ xs) ys zero x h = h
 slice_get_more (y ∷ xs) ys (suc i) x h = slice_get_more xs ys i x h
@@ -34,7 +35,7 @@ mutual
   stands_more forms more (Struct number) (OfFields fields) h =
       let inside : number < length forms = slice_get_within forms number h.0 h.1 in
       let same = take-append-le number forms more (omega (arith, inside)) in
-      (h.0, slice_get_more forms more number h.0 h.1, subst (λ l. FieldsStand l 0 0 h.0.fields.entries fields) (sym same) h.2, h.3, h.4, h.5, h.6 ∙ ap (λ l. only_end l h.0.fields.entries) (sym same))
+      (h.0, slice_get_more forms more number h.0 h.1, subst (λ l. FieldsStand l 0 0 h.0.fields.entries fields) (sym same) h.2, h.3, h.4, h.5, h.6 ∙ ap (λ l. only_end l h.0.fields.entries) (sym same), subst (λ l. LeapStands l h.0.leap h.0.fields.entries fields) (sym same) h.7)
   stands_more forms more (Basic kind) (OfFields fields) h = absurd h
   stands_more forms more (Struct number) (OfKind kind) h = absurd h
 

@@ -1,35 +1,42 @@
 -- Walks over the slots of a variable: from a type to its first leaf, and from each leaf to the next.
-use Rattle.std.proofs.Common.{◌≡◌, ℕ, zero, suc, ◌+◌, ◌*◌, ◌<◌, ◌≤◌, inl, inr, ℤ, true, false, nat_lt, List, [], ◌∷◌, ◌++◌, replicate, length, take, drop, get_or, slice_get, Option, Some, None, refl, sym, ap, subst, ◌∙◌, true≢false, append_assoc, append-nil, arith}
+use Rattle.std.proofs.Common.{◌≡◌, ℕ, zero, suc, ◌+◌, ◌*◌, ◌<◌, ◌≤◌, inl, inr, ⊎_elim, ℤ, true, false, nat_lt, List, [], ◌∷◌, ◌++◌, replicate, length, take, drop, get_or, slice_get, Option, Some, None, option_map, refl, sym, ap, subst, ◌∙◌, true≢false, append_assoc, append-nil, arith}
 use Rattle.std.proofs.lemmas.Bool.Decides.{nat_tests}
 use Rattle.std.proofs.lemmas.List.{take-append-drop}
 use Rattle.std.proofs.lemmas.Option.{same_Some, none-some}
 use Rattle.std.proofs.lemmas.List.Elements.{All-nil, All-push}
 use Rattle.std.proofs.lemmas.Grind.{flat_map-append}
 use Rattle.std.specs.List.{All, flat_map}
+use Rattle.std.specs.Option.{option_and_then}
 use Rattle.arrayvec.specs.ArrayVec.{ArrayVec}
 use Rattle.pearl_value.specs.declared.kind.Kind.{Kind}
 use Rattle.pearl_names.specs.declared.kinds.Kinds.{Kinds}
 use Rattle.pearl_names.specs.declared.slots.Run.{Run}
 use Rattle.pearl_names.specs.declared.slots.Slots.{Slots}
 use Rattle.pearl_names.specs.declared.slots.Frame.{Frame}
+use Rattle.pearl_names.specs.declared.slots.Left.{Left}
+use Rattle.pearl_names.specs.declared.slots.Left.TheVariants.{FieldsFrom, Behind}
 use Rattle.pearl_names.specs.declared.slots.NextField.{NextField}
-use Rattle.pearl_names.specs.declared.types.Elements.{Elements}
+use Rattle.pearl_names.specs.declared.slots.Way.{Way}
+use Rattle.pearl_names.specs.declared.types.Begun.{Begun}
 use Rattle.pearl_names.specs.declared.types.FieldForm.{FieldForm}
+use Rattle.pearl_names.specs.declared.types.Leap.{Leap}
 use Rattle.pearl_names.specs.declared.types.StructForm.{StructForm}
 use Rattle.pearl_names.specs.declared.types.TypeRef.{TypeRef}
 use Rattle.pearl_names.specs.declared.types.TypeRef.TheVariants.{Basic, Struct}
 use Rattle.pearl_names.specs.Counts.{cut, counts, counts_of}
 use Rattle.pearl_names.specs.Forms.{leaf_count, slot_count, StandsFor, FieldsStand}
-use Rattle.pearl_names.specs.Kinds.{no_kinds, joined_kinds, kinds_among}
+use Rattle.pearl_names.specs.Kinds.{no_kinds, joined_kinds, kinds_among, has_kind}
 use Rattle.pearl_names.specs.Layout.{elements, leaves_of_fields}
+use Rattle.pearl_names.specs.Leaps.{inner_shape, times, behind_slots, leap_at, begun, one_step, TwoLeaps, two_steps, IsFar, LeapStands}
 use Rattle.pearl_names.specs.Runs.{shape_slots, field_slots, AreFew, AreFewIn, drop_fields, tails_of}
 use Rattle.pearl_names.specs.Shapes.{Shape, OfKind, OfFields, Fields, NoField, MoreField}
-use Rattle.pearl_names.specs.Walks.{run_slots, HasSlots, HasSomeSlots, HasLeft, AllLeft, GoesOn, IsNext, FindsNext, Lists, kinds_of_next}
+use Rattle.pearl_names.specs.Walks.{run_slots, HasSlots, left_slots, AreLeftFew, IsKept, HasLeft, AllLeft, GoesOn, IsNext, FindsNext, IsWay, FindsWay, left_weight, weight, Lists, kinds_of_next}
 use Rattle.pearl_names.proofs.Building.{leaves_more}
 use Rattle.pearl_names.proofs.Counting.{cut_mul}
-use Rattle.pearl_names.proofs.KindSets.{kinds-append, kinds-run}
-use Rattle.pearl_names.proofs.ShapeSlots.{field_count, some_within, same_kinds, same_kinds_in, no_slots, no_slots_in}
-use Rattle.pearl_names.proofs.Standing.{stands_more, fields_all, fields_counted, no_form}
+use Rattle.pearl_names.proofs.KindSets.{kinds-append, kinds-run, no_kind_none}
+use Rattle.pearl_names.proofs.Leaps.{some_both, slots_apart, few_inner, some_times, same_behind, behind_more, begins_at, leap_of_form, fields_below, leap_kept, leap_begun, leap_stands, far_steps}
+use Rattle.pearl_names.proofs.ShapeSlots.{field_count, elements_some, some_within, same_kinds, same_kinds_in, no_slots, no_slots_in}
+use Rattle.pearl_names.proofs.Standing.{slice_get_more, stands_more, fields_all, fields_counted, no_form}
 
 -- the field at an index
 pub record FieldAt (forms : List StructForm) (field : FieldForm) (fields : Fields) (i : ℕ) : Type 0 where
@@ -164,15 +171,6 @@ pub descends_first : (forms : List StructForm) (part : TypeRef) (count : ℕ) (f
 descends_first forms part count frames own rest found leaf left =
     record { later = []; prefix = sym (append-nil forms); own = own; rest = rest; found = found; leaf = leaf; left = left; is = refl }
 
--- what it has come to may come to more
-pub descends_end : (forms earlier : List StructForm) (part : TypeRef) (count : ℕ) (end : Elements) (frames : List Frame) (slots : List Kind) →
-    Descends forms earlier part count frames slots →
-    ((own : List Kind) (found : HasSlots earlier part count own) → 1 ≤ leaf_count found.shape → HasSomeSlots earlier end.part end.count own) →
-    Descends forms earlier end.part end.count frames slots
-descends_end forms earlier part count end frames slots down ends =
-    let some = ends down.own down.found down.leaf in
-    record { later = down.later; prefix = down.prefix; own = down.own; rest = down.rest; found = some.found; leaf = some.leaf; left = down.left; is = down.is }
-
 -- to the first leaf
 pub descends_last : (forms earlier : List StructForm) (kind : Kind) (count : ℕ) (frames : List Frame) (slots : List Kind) →
     Descends forms earlier (Basic kind) count frames slots → GoesOn forms (Some (record { kind = kind; count = count })) frames slots
@@ -204,37 +202,40 @@ no_descent forms earlier number count frames slots down at =
     let s = struct_fields earlier number down.found.shape down.found.stands in
     no_form earlier number s.fields at (subst (StandsFor earlier (Struct number)) s.is down.found.stands)
 
-fields_of_form : (forms : List StructForm) (number : ℕ) (form : StructForm) (fields : Fields) → slice_get forms number ≡ Some form → StandsFor forms (Struct number) (OfFields fields) →
-    FieldsStand (take number forms) 0 0 form.fields.entries fields
-unfolding StandsFor
-fields_of_form forms number form fields at h =
-    let same : form ≡ h.0 = same_Some form h.0 (sym at ∙ h.1) in
-    subst (λ f. FieldsStand (take number forms) 0 0 f.fields.entries fields) (sym same) h.2
-
 pub no_next : (forms earlier : List StructForm) (number count : ℕ) (frames : List Frame) (slots : List Kind) (form : StructForm) → Descends forms earlier (Struct number) count frames slots →
     slice_get earlier number ≡ Some form →
-    ((fields : Fields) → FieldsStand (take number earlier) 0 0 form.fields.entries fields → FindsNext (take number earlier) None fields 0) → ⊥
+    ((fields : Fields) → FieldsStand (take number earlier) 0 0 form.fields.entries fields → LeapStands (take number earlier) form.leap form.fields.entries fields →
+    FindsWay (take number earlier) form.leap None fields) → ⊥
 no_next forms earlier number count frames slots form down at none =
     let s = struct_fields earlier number down.found.shape down.found.stands in
     let stands = subst (StandsFor earlier (Struct number)) s.is down.found.stands in
     let leaf : 1 ≤ leaf_count (OfFields s.fields) = subst (λ shape. 1 ≤ leaf_count shape) s.is down.leaf in
-    let zero_leaves = none s.fields (fields_of_form earlier number form s.fields at stands) in
+    let zero_leaves = none s.fields (fields_below earlier number form s.fields at stands) (leap_of_form earlier number form s.fields at stands) in
     absurd (omega (arith, leaf, zero_leaves))
 
-pub descends_more : (forms earlier : List StructForm) (number count : ℕ) (frames : List Frame) (slots : List Kind) (form : StructForm) (next : NextField) →
+-- the leap that is kept with a form of the first ones is that among all
+kept_all : (forms earlier later : List StructForm) (number : ℕ) (form : StructForm) (left : Left) → forms ≡ earlier ++ later → slice_get earlier number ≡ Some form →
+    IsKept form.leap left → IsKept (leap_at forms number) left
+kept_all forms earlier later number form left prefix at kept =
+    let there : slice_get forms number ≡ Some form =
+    subst (λ l. slice_get l number ≡ Some form) (sym prefix) (slice_get_more earlier later number form at) in
+    subst (λ leap. IsKept leap left) (sym (ap (option_and_then (λ (f : StructForm). f.leap)) there)) kept
+
+pub descends_more : (forms earlier : List StructForm) (number count : ℕ) (frames : List Frame) (slots : List Kind) (form : StructForm) (way : Way) →
     Descends forms earlier (Struct number) count frames slots → slice_get earlier number ≡ Some form →
-    ((fields : Fields) → FieldsStand (take number earlier) 0 0 form.fields.entries fields → FindsNext (take number earlier) (Some next) fields 0) →
-    Descends forms (take number earlier) next.field.part (cut (count * next.field.elements))
-    (frames ++ record { number = number; next = next.after; count = count } ∷ []) slots
-descends_more forms earlier number count frames slots form next down at finds =
+    ((fields : Fields) → FieldsStand (take number earlier) 0 0 form.fields.entries fields → LeapStands (take number earlier) form.leap form.fields.entries fields →
+    FindsWay (take number earlier) form.leap (Some way) fields) →
+    Descends forms (take number earlier) way.to.part (cut (count * way.to.count))
+    (frames ++ record { number = number; left = way.left; count = count } ∷ []) slots
+descends_more forms earlier number count frames slots form way down at finds =
     let s = struct_fields earlier number down.found.shape down.found.stands in
     let stands = subst (StandsFor earlier (Struct number)) s.is down.found.stands in
-    let next_is = finds s.fields (fields_of_form earlier number form s.fields at stands) in
+    let is = finds s.fields (fields_below earlier number form s.fields at stands) (leap_of_form earlier number form s.fields at stands) in
     let many = down.found.many in
-    let few = next_is.few many (subst (AreFew many) s.is down.found.few) in
-    let inner = many * elements next_is.bounds in
-    let behind = field_slots many (drop_fields next.after s.fields) in
-    let frame : Frame = record { number = number; next = next.after; count = count } in
+    let few = is.few many (subst (AreFew many) s.is down.found.few) in
+    let inner = many * is.each in
+    let behind = left_slots way.left many s.fields in
+    let frame : Frame = record { number = number; left = way.left; count = count } in
     let has : HasLeft forms frame behind = record {
       fields = s.fields;
       many = many;
@@ -242,25 +243,241 @@ descends_more forms earlier number count frames slots form next down at finds =
       counted = down.found.counted;
       some = down.found.some;
       few = few.1;
+      kept = kept_all forms earlier down.later number form way.left down.prefix at is.kept;
       is = refl;
     } in record {
       later = drop number earlier ++ down.later;
       prefix = down.prefix ∙ ap (λ l. l ++ down.later) (sym (take-append-drop number earlier)) ∙ append_assoc (take number earlier) (drop number earlier) down.later;
-      own = shape_slots inner next_is.shape;
+      own = shape_slots inner is.inner;
       rest = behind ++ down.rest;
       found = record {
-        shape = next_is.shape;
+        shape = is.inner;
         many = inner;
-        stands = next_is.stands;
-        counted = (λ i. cut (down.found.counted i * next_is.count i)) ∙ sym (cut_mul many (elements next_is.bounds));
-        some = some_within many next_is.bounds down.found.some;
+        stands = is.stands;
+        counted = (λ i. cut (down.found.counted i * is.count i)) ∙ sym (cut_mul many is.each);
+        some = some_both many is.each down.found.some is.some;
         few = few.0;
         is = refl;
       };
-      leaf = next_is.leaf;
+      leaf = is.leaf;
       left = left_more forms frames frame behind down.rest has down.left;
-      is = down.is ∙ ap (λ l. l ++ down.rest) (down.found.is ∙ ap (shape_slots many) s.is ∙ next_is.slots many) ∙ append_assoc (shape_slots inner next_is.shape) behind down.rest;
+      is = down.is ∙ ap (λ l. l ++ down.rest) (down.found.is ∙ ap (shape_slots many) s.is ∙ is.slots many) ∙ append_assoc (shape_slots inner is.inner) behind down.rest;
     }
+
+-- the way by the leap that is kept, and where none is into a field
+pub way_by_leap : (forms : List StructForm) (leap : Leap) (entries : List (ArrayVec ℕ × FieldForm)) (fields : Fields) → FieldsStand forms 0 0 entries fields →
+    LeapStands forms (Some leap) entries fields → IsWay forms (Some leap) (record { left = Behind leap.steps; to = leap.to }) fields
+way_by_leap forms leap entries fields h so =
+    let leads = leap_stands forms entries fields leap h so in record {
+      inner = inner_shape leap.steps (OfFields fields);
+      each = times leap.steps (OfFields fields);
+      stands = leads.stands;
+      count = leads.count;
+      some = some_times leap.steps (OfFields fields);
+      leaf = leads.leaf;
+      few = λ n h. (few_inner leap.steps n (OfFields fields) h, h);
+      kept = refl;
+      slots = λ n. slots_apart leap.steps n (OfFields fields);
+    }
+
+pub way_by_field : (forms : List StructForm) (next : NextField) (fields : Fields) → IsNext forms next fields 0 →
+    IsWay forms None (record { left = FieldsFrom next.after; to = record { part = next.field.part; count = next.field.elements } }) fields
+way_by_field forms next fields is = record {
+  inner = is.shape;
+  each = elements is.bounds;
+  stands = is.stands;
+  count = is.count;
+  some = elements_some is.bounds;
+  leaf = is.leaf;
+  few = is.few;
+  kept = tt;
+  slots = is.slots;
+}
+
+-- a leap that is known to be kept
+record KeptLeap (leap : Option Leap) (steps : ℕ) : Type 0 where
+  pub own : Leap
+  pub is : leap ≡ Some own
+  pub steps_are : own.steps ≡ steps
+
+kept_leap : (leap : Option Leap) (steps : ℕ) → IsKept leap (Behind steps) → KeptLeap leap steps
+kept_leap None steps h = absurd (none-some steps h)
+kept_leap (Some leap) steps h = record { own = leap; is = refl; steps_are = same_Some leap.steps steps h }
+
+-- what is behind a leap
+pub behind_kinds : (forms : List StructForm) (frame : Frame) (steps : ℕ) (slots : List Kind) (answer : Kinds) → frame.left ≡ Behind steps → HasLeft forms frame slots →
+    ((leap : Leap) → leap_at forms frame.number ≡ Some leap → answer ≡ leap.behind) → answer ≡ kinds_among slots
+behind_kinds forms frame steps slots answer behind has tells =
+    let whole = OfFields has.fields in
+    let kept = kept_leap (leap_at forms frame.number) steps (subst (IsKept (leap_at forms frame.number)) behind has.kept) in
+    let leads = leap_kept forms frame.number has.fields kept.own kept.is has.stands in
+    tells kept.own kept.is ∙ leads.behind ∙ ap (λ k. kinds_among (behind_slots k 1 whole)) kept.steps_are
+    ∙ same_behind steps 1 has.many whole (omega arith) has.some
+    ∙ ap kinds_among (sym (has.is ∙ ap (λ l. left_slots l has.many has.fields) behind))
+
+-- there is none
+pub nothing_behind : (forms : List StructForm) (frames : List Frame) (frame : Frame) (steps : ℕ) (slots : List Kind) (kinds : Kinds) → frame.left ≡ Behind steps →
+    AllLeft forms (frames ++ frame ∷ []) slots → ((leap : Leap) → leap_at forms frame.number ≡ Some leap → kinds ≡ leap.behind) → has_kind kinds ≡ false → AllLeft forms frames slots
+nothing_behind forms frames frame steps slots kinds behind h tells none =
+    let a = left_apart forms frames frame slots h in
+    let empty : a.own ≡ [] = no_kind_none a.own (ap has_kind (sym (behind_kinds forms frame steps a.own kinds behind a.has tells)) ∙ none) in
+    subst (AllLeft forms frames) (sym (a.is ∙ ap (λ l. l ++ a.rest) empty)) a.left
+
+-- or it is put apart: what is behind the first field, and before that what is behind two leaps from it
+pub record HasTwo (forms : List StructForm) (part : TypeRef) (steps many : ℕ) (shape : Shape) (slots : List Kind) : Type 0 where
+  pub two : TwoLeaps forms part
+  pub fewer : two_steps two < steps
+  pub is : slots ≡ behind_slots (two_steps two) many shape
+
+pub record Parted (forms : List StructForm) (number steps count : ℕ) (entry : ArrayVec ℕ × FieldForm) (own : List Kind) : Type 0 where
+  pub last : List Kind
+  pub left : HasLeft forms (record { number = number; left = FieldsFrom 1; count = count }) last
+  pub shape : Shape
+  pub many : ℕ
+  pub stands : StandsFor forms entry.1.part shape
+  pub counted : cut (count * entry.1.elements) ≡ cut many
+  pub some : 1 ≤ many
+  pub few : AreFew many shape
+  pub more : List Kind
+  pub is : own ≡ more ++ last
+  pub short : steps ≤ 1 → more ≡ []
+  pub long : 1 < steps → HasTwo forms entry.1.part steps many shape more
+
+parted_with : (forms : List StructForm) (number steps count many n : ℕ) (entry : ArrayVec ℕ × FieldForm) (entries : List (ArrayVec ℕ × FieldForm)) (name : List ℕ) (bounds : List (ℤ × ℤ)) (shape : Shape) (rest : Fields) →
+    StandsFor forms (Struct number) (OfFields (MoreField name bounds shape rest)) → count ≡ cut many → 1 ≤ many → AreFewIn many (MoreField name bounds shape rest) →
+    FieldsStand (take number forms) 0 0 (entry ∷ entries) (MoreField name bounds shape rest) → steps ≡ suc n →
+    (1 < steps → HasTwo forms entry.1.part steps (many * elements bounds) shape (behind_slots n (many * elements bounds) shape)) →
+    Parted forms number steps count entry (behind_slots steps many (OfFields (MoreField name bounds shape rest)))
+unfolding StandsFor
+parted_with forms number steps count many n entry entries name bounds shape rest stands counted some few h e long = record {
+  last = field_slots many rest;
+  left = record { fields = MoreField name bounds shape rest; many = many; stands = stands; counted = counted; some = some; few = few.1; kept = tt; is = refl };
+  shape = shape;
+  many = many * elements bounds;
+  stands = subst (λ l. StandsFor l entry.1.part shape) (take-append-drop number forms) (stands_more (take number forms) (drop number forms) entry.1.part shape h.1);
+  counted = (λ i. cut (counted i * h.0.count i)) ∙ sym (cut_mul many (elements bounds));
+  some = some_within many bounds some;
+  few = few.0;
+  more = behind_slots n (many * elements bounds) shape;
+  is = ap (λ k. behind_slots k many (OfFields (MoreField name bounds shape rest))) e;
+  short = λ below. ap (λ k. behind_slots k (many * elements bounds) shape) (let z : n ≡ 0 = omega (arith, e, below) in z);
+  long = long;
+}
+
+parted_fields : (forms : List StructForm) (number steps count many : ℕ) (leap : Leap) (entries : List (ArrayVec ℕ × FieldForm)) (fields : Fields) (entry : ArrayVec ℕ × FieldForm) →
+    StandsFor forms (Struct number) (OfFields fields) → count ≡ cut many → 1 ≤ many → AreFewIn many fields → slice_get entries 0 ≡ Some entry →
+    FieldsStand (take number forms) 0 0 entries fields → LeapStands (take number forms) (Some leap) entries fields → leap.steps ≡ steps →
+    Parted forms number steps count entry (behind_slots steps many (OfFields fields))
+unfolding StandsFor
+parted_fields forms number steps count many leap [] fields entry stands counted some few at h so is = absurd (none-some entry at)
+parted_fields forms number steps count many leap (x ∷ entries) NoField entry stands counted some few at h so is = absurd h
+parted_fields forms number steps count many leap (x ∷ entries) (MoreField name bounds shape rest) entry stands counted some few at h so is =
+    let own = behind_slots steps many (OfFields (MoreField name bounds shape rest)) in
+    let one = one_step x.1 (kinds_among (field_slots 1 rest)) in
+    subst (λ e. Parted forms number steps count e own) (same_Some x entry at) (⊎_elim
+    (λ (same : leap ≡ one).
+    let e : steps ≡ 1 = sym is ∙ ap (λ (l : Leap). l.steps) same in
+    parted_with forms number steps count many 0 x entries name bounds shape rest stands counted some few h e (λ long. absurd (omega (arith, e, long))))
+    (λ (far : IsFar (take number forms) one leap).
+    let further = far_steps forms number one leap refl far in
+    let n = two_steps further.two in
+    let e : steps ≡ suc n = sym is ∙ further.steps_are in
+    parted_with forms number steps count many n x entries name bounds shape rest stands counted some few h e
+    (λ long. record { two = further.two; fewer = omega (arith, e); is = refl }))
+    so.0)
+
+pub parted : (forms : List StructForm) (number steps count : ℕ) (own : List Kind) (form : StructForm) (entry : ArrayVec ℕ × FieldForm) →
+    HasLeft forms (record { number = number; left = Behind steps; count = count }) own → slice_get forms number ≡ Some form → slice_get form.fields.entries 0 ≡ Some entry →
+    Parted forms number steps count entry own
+parted forms number steps count own form entry has at first =
+    let there : leap_at forms number ≡ form.leap = ap (option_and_then (λ (f : StructForm). f.leap)) at in
+    let kept = kept_leap form.leap steps (subst (λ leap. IsKept leap (Behind steps)) there has.kept) in
+    subst (Parted forms number steps count entry) (sym has.is)
+    (parted_fields forms number steps count has.many kept.own form.fields.entries has.fields entry has.stands has.counted has.some has.few first
+    (fields_below forms number form has.fields at has.stands)
+    (subst (λ leap. LeapStands (take number forms) leap form.fields.entries has.fields) kept.is (leap_of_form forms number form has.fields at has.stands)) kept.steps_are)
+
+pub no_behind : (forms : List StructForm) (frame : Frame) (own : List Kind) → HasLeft forms frame own → slice_get forms frame.number ≡ None → ⊥
+no_behind forms frame own has at = no_form forms frame.number has.fields at has.stands
+
+pub no_first : (forms : List StructForm) (number steps count : ℕ) (own : List Kind) (form : StructForm) →
+    HasLeft forms (record { number = number; left = Behind steps; count = count }) own → slice_get forms number ≡ Some form → slice_get form.fields.entries 0 ≡ None → ⊥
+no_first forms number steps count own form has at first =
+    let there : leap_at forms number ≡ form.leap = ap (option_and_then (λ (f : StructForm). f.leap)) at in
+    let kept = kept_leap form.leap steps (subst (λ leap. IsKept leap (Behind steps)) there has.kept) in
+    by kept.own form.fields.entries has.fields first
+    (subst (λ leap. LeapStands (take number forms) leap form.fields.entries has.fields) kept.is (leap_of_form forms number form has.fields at has.stands))
+  where
+    by : (leap : Leap) (entries : List (ArrayVec ℕ × FieldForm)) (fields : Fields) → slice_get entries 0 ≡ None → LeapStands (take number forms) (Some leap) entries fields → ⊥
+    by leap [] NoField first so = so
+    by leap [] (MoreField name bounds shape rest) first so = so
+    by leap (x ∷ entries) fields first so = absurd (none-some x (sym first))
+
+-- what is behind a leap, where a walk is within so many elements of its type
+begun_left : (forms : List StructForm) (part : TypeRef) (count many : ℕ) (shape : Shape) (found : Begun) → begun forms part ≡ Some found → StandsFor forms part shape →
+    count ≡ cut many → 1 ≤ many → AreFew many shape →
+    HasLeft forms (record { number = found.number; left = Behind found.leap.steps; count = count }) (behind_slots found.leap.steps many shape)
+unfolding StandsFor
+begun_left forms part count many (OfFields fields) found is stands counted some few =
+    let at = begins_at forms part found is in record {
+      fields = fields;
+      many = many;
+      stands = subst (λ p. StandsFor forms p (OfFields fields)) at.part_is stands;
+      counted = counted;
+      some = some;
+      few = few;
+      kept = ap (option_map (λ (l : Leap). l.steps)) at.leap_is;
+      is = refl;
+    }
+begun_left forms part count many (OfKind kind) found is stands counted some few =
+    let at = begins_at forms part found is in
+    absurd (subst (λ p. StandsFor forms p (OfKind kind)) at.part_is stands)
+
+pub two_left : (forms : List StructForm) (part : TypeRef) (count : ℕ) (frames : List Frame) (slots rest : List Kind) (found : HasSlots forms part count slots) (near next : Begun) →
+    begun forms part ≡ Some near → begun forms near.leap.to.part ≡ Some next → AllLeft forms frames rest →
+    AllLeft forms ((frames ++ record { number = near.number; left = Behind near.leap.steps; count = count } ∷ [])
+    ++ record { number = next.number; left = Behind next.leap.steps; count = cut (count * near.leap.to.count) } ∷ [])
+    (behind_slots (near.leap.steps + next.leap.steps) found.many found.shape ++ rest)
+two_left forms part count frames slots rest found near next near_is next_is left =
+    let many = found.many in
+    let shape = found.shape in
+    let a = near.leap.steps in
+    let b = next.leap.steps in
+    let inner = inner_shape a shape in
+    let part_behind = behind_slots a many shape in
+    let far_count = cut (count * near.leap.to.count) in
+    let one : Frame = record { number = near.number; left = Behind a; count = count } in
+    let other : Frame = record { number = next.number; left = Behind b; count = far_count } in
+    let leads = leap_begun forms part shape near near_is found.stands in
+    let first : AllLeft forms (frames ++ one ∷ []) (part_behind ++ rest) =
+    left_more forms frames one part_behind rest (begun_left forms part count many shape near near_is found.stands found.counted found.some found.few) left in
+    let second : AllLeft forms ((frames ++ one ∷ []) ++ other ∷ []) (behind_slots b (many * times a shape) inner ++ (part_behind ++ rest)) =
+    left_more forms (frames ++ one ∷ []) other (behind_slots b (many * times a shape) inner) (part_behind ++ rest)
+    (begun_left forms near.leap.to.part far_count (many * times a shape) inner next next_is leads.stands
+    ((λ i. cut (found.counted i * leads.count i)) ∙ sym (cut_mul many (times a shape)))
+    (some_both many (times a shape) found.some (some_times a shape)) (few_inner a many shape found.few)) first in
+    subst (AllLeft forms ((frames ++ one ∷ []) ++ other ∷ []))
+    (sym (append_assoc (behind_slots b (many * times a shape) inner) part_behind rest) ∙ ap (λ l. l ++ rest) (sym (behind_more a b many shape))) second
+
+-- two leaps from a type are those that are found
+pub same_near : (forms : List StructForm) (part : TypeRef) (near : Begun) → begun forms part ≡ Some near → (two : TwoLeaps forms part) → two.near ≡ near
+same_near forms part near is two = same_Some two.near near (sym two.near_is ∙ is)
+
+pub same_next : (forms : List StructForm) (part : TypeRef) (near next : Begun) → begun forms part ≡ Some near → begun forms near.leap.to.part ≡ Some next → (two : TwoLeaps forms part) → two.next ≡ next
+same_next forms part near next is so two =
+    same_Some two.next next (sym two.next_is ∙ ap (λ (b : Begun). begun forms b.leap.to.part) (same_near forms part near is two) ∙ so)
+
+pub same_steps : (forms : List StructForm) (part : TypeRef) (near next : Begun) → begun forms part ≡ Some near → begun forms near.leap.to.part ≡ Some next → (two : TwoLeaps forms part) →
+    two_steps two ≡ near.leap.steps + next.leap.steps
+same_steps forms part near next is so two = λ i. (same_near forms part near is two i).leap.steps + (same_next forms part near next is so two i).leap.steps
+
+-- a frame more weighs so much more
+pub weight_more : (frames : List Frame) (frame : Frame) → weight (frames ++ frame ∷ []) ≡ weight frames + left_weight frame.left
+weight_more [] frame = omega arith
+weight_more (f ∷ frames) frame = let e = weight_more frames frame in omega (arith, e)
+
+pub popped_weight : (old frames : List Frame) (frame : Frame) (left : Left) → old ≡ frames ++ frame ∷ [] → frame.left ≡ left → weight old ≡ weight frames + left_weight left
+popped_weight old frames frame left is so = ap weight is ∙ weight_more frames frame ∙ ap (λ l. weight frames + left_weight l) so
 
 -- a STRUCT that has no leaves left
 pub frame_gone : (forms : List StructForm) (frames : List Frame) (frame : Frame) (slots : List Kind) → AllLeft forms (frames ++ frame ∷ []) slots → slice_get forms frame.number ≡ None → ⊥
@@ -270,14 +487,15 @@ frame_gone forms frames frame slots h at =
 
 fields_in : (forms : List StructForm) (number : ℕ) (form : StructForm) (fields : Fields) → slice_get forms number ≡ Some form → StandsFor forms (Struct number) (OfFields fields) →
     FieldsStand forms 0 0 form.fields.entries fields
-fields_in forms number form fields at h = fields_all forms number 0 0 form.fields.entries fields (fields_of_form forms number form fields at h)
+fields_in forms number form fields at h = fields_all forms number 0 0 form.fields.entries fields (fields_below forms number form fields at h)
 
-pub frame_done : (forms : List StructForm) (frames : List Frame) (frame : Frame) (form : StructForm) (slots : List Kind) → AllLeft forms (frames ++ frame ∷ []) slots →
-    slice_get forms frame.number ≡ Some form → ((fields : Fields) → FieldsStand forms 0 0 form.fields.entries fields → FindsNext forms None fields frame.next) → AllLeft forms frames slots
-frame_done forms frames frame form slots h at none =
+pub frame_done : (forms : List StructForm) (frames : List Frame) (frame : Frame) (from : ℕ) (form : StructForm) (slots : List Kind) → frame.left ≡ FieldsFrom from →
+    AllLeft forms (frames ++ frame ∷ []) slots → slice_get forms frame.number ≡ Some form →
+    ((fields : Fields) → FieldsStand forms 0 0 form.fields.entries fields → FindsNext forms None fields from) → AllLeft forms frames slots
+frame_done forms frames frame from form slots behind h at none =
     let a = left_apart forms frames frame slots h in
     let no_leaf = none a.has.fields (fields_in forms frame.number form a.has.fields at a.has.stands) in
-    let empty : a.own ≡ [] = a.has.is ∙ no_slots_in [] [] a.has.many (drop_fields frame.next a.has.fields) no_leaf in
+    let empty : a.own ≡ [] = a.has.is ∙ ap (λ l. left_slots l a.has.many a.has.fields) behind ∙ no_slots_in [] [] a.has.many (drop_fields from a.has.fields) no_leaf in
     subst (AllLeft forms frames) (sym (a.is ∙ ap (λ l. l ++ a.rest) empty)) a.left
 
 -- one that has a field with leaves left
@@ -289,26 +507,28 @@ pub record Onward (forms : List StructForm) (part : TypeRef) (count : ℕ) (fram
   pub left : AllLeft forms frames rest
   pub is : slots ≡ own ++ rest
 
-pub frame_next : (forms : List StructForm) (frames : List Frame) (frame : Frame) (form : StructForm) (next : NextField) (slots : List Kind) → AllLeft forms (frames ++ frame ∷ []) slots →
-    slice_get forms frame.number ≡ Some form → ((fields : Fields) → FieldsStand forms 0 0 form.fields.entries fields → FindsNext forms (Some next) fields frame.next) →
-    Onward forms next.field.part (cut (frame.count * next.field.elements)) (frames ++ record frame { next = next.after } ∷ []) slots
-frame_next forms frames frame form next slots h at finds =
+pub frame_next : (forms : List StructForm) (frames : List Frame) (frame : Frame) (from : ℕ) (form : StructForm) (next : NextField) (slots : List Kind) → frame.left ≡ FieldsFrom from →
+    AllLeft forms (frames ++ frame ∷ []) slots → slice_get forms frame.number ≡ Some form →
+    ((fields : Fields) → FieldsStand forms 0 0 form.fields.entries fields → FindsNext forms (Some next) fields from) →
+    Onward forms next.field.part (cut (frame.count * next.field.elements)) (frames ++ record frame { left = FieldsFrom next.after } ∷ []) slots
+frame_next forms frames frame from form next slots behind h at finds =
     let a = left_apart forms frames frame slots h in
     let is = finds a.has.fields (fields_in forms frame.number form a.has.fields at a.has.stands) in
     let many = a.has.many in
-    let few = is.few many a.has.few in
-    let behind = field_slots many (drop_fields next.after a.has.fields) in
-    let has : HasLeft forms (record frame { next = next.after }) behind = record {
+    let few = is.few many (subst (λ l. AreLeftFew l many a.has.fields) behind a.has.few) in
+    let rest = field_slots many (drop_fields next.after a.has.fields) in
+    let has : HasLeft forms (record frame { left = FieldsFrom next.after }) rest = record {
       fields = a.has.fields;
       many = many;
       stands = a.has.stands;
       counted = a.has.counted;
       some = a.has.some;
       few = few.1;
+      kept = tt;
       is = refl;
     } in record {
       own = shape_slots (many * elements is.bounds) is.shape;
-      rest = behind ++ a.rest;
+      rest = rest ++ a.rest;
       found = record {
         shape = is.shape;
         many = many * elements is.bounds;
@@ -319,8 +539,9 @@ frame_next forms frames frame form next slots h at finds =
         is = refl;
       };
       leaf = is.leaf;
-      left = left_more forms frames (record frame { next = next.after }) behind a.rest has a.left;
-      is = a.is ∙ ap (λ l. l ++ a.rest) (a.has.is ∙ is.slots many) ∙ append_assoc (shape_slots (many * elements is.bounds) is.shape) behind a.rest;
+      left = left_more forms frames (record frame { left = FieldsFrom next.after }) rest a.rest has a.left;
+      is = a.is ∙ ap (λ l. l ++ a.rest) (a.has.is ∙ ap (λ l. left_slots l many a.has.fields) behind ∙ is.slots many)
+          ∙ append_assoc (shape_slots (many * elements is.bounds) is.shape) rest a.rest;
     }
 
 pub onward_goes : (forms : List StructForm) (part : TypeRef) (count : ℕ) (frames after : List Frame) (slots : List Kind) (run : Option Run) → Onward forms part count frames slots →
@@ -329,10 +550,11 @@ onward_goes forms part count frames after slots run on goes =
     subst (GoesOn forms run after) (sym on.is) (goes on.own on.rest on.found on.leaf on.left)
 
 -- the kinds of what is left of a STRUCT
-pub left_kinds : (forms : List StructForm) (frame : Frame) (slots : List Kind) (answer : Kinds) → HasLeft forms frame slots →
-    ((fields : Fields) → StandsFor forms (Struct frame.number) (OfFields fields) → answer ≡ kinds_among (field_slots 1 (drop_fields frame.next fields))) → answer ≡ kinds_among slots
-left_kinds forms frame slots answer has tells =
-    tells has.fields has.stands ∙ same_kinds_in 1 has.many (drop_fields frame.next has.fields) (omega arith) has.some ∙ ap kinds_among (sym has.is)
+pub left_kinds : (forms : List StructForm) (frame : Frame) (from : ℕ) (slots : List Kind) (answer : Kinds) → frame.left ≡ FieldsFrom from → HasLeft forms frame slots →
+    ((fields : Fields) → StandsFor forms (Struct frame.number) (OfFields fields) → answer ≡ kinds_among (field_slots 1 (drop_fields from fields))) → answer ≡ kinds_among slots
+left_kinds forms frame from slots answer behind has tells =
+    tells has.fields has.stands ∙ same_kinds_in 1 has.many (drop_fields from has.fields) (omega arith) has.some
+    ∙ ap kinds_among (sym (has.is ∙ ap (λ l. left_slots l has.many has.fields) behind))
 
 -- the kinds of what is left of some STRUCTs, where those of the outer ones are known
 pub record Gathered (forms : List StructForm) (inner : List Frame) (kinds : Kinds) (slots : List Kind) : Type 0 where

@@ -15,7 +15,8 @@ use Rattle.pearl_names.specs.declared.types.FieldForm.{FieldForm}
 use Rattle.pearl_names.specs.declared.types.StructForm.{StructForm}
 use Rattle.pearl_names.specs.declared.types.Elements.{Elements}
 use Rattle.pearl_names.specs.Chains.{only_end}
-use Rattle.pearl_names.specs.Runs.{shape_slots, AreFew, tails_of}
+use Rattle.pearl_names.specs.Leaps.{LeapStands}
+use Rattle.pearl_names.specs.Runs.{tails_of}
 use Rattle.pearl_names.specs.Counts.{cut, counts, counts_of, joined, within, behind_name}
 
 -- the bounds of a dimension
@@ -58,7 +59,8 @@ unfoldable mutual
       (form : StructForm) × (slice_get forms number ≡ Some form) × FieldsStand (take number forms) 0 0 form.fields.entries fields ×
       (form.counts ≡ counts (leaves_of_fields [] [] fields)) × (form.tails.items ≡ tails_of fields) ×
       AllBounded form.bounds.items form.fields.entries fields ×
-      (form.end ≡ only_end (take number forms) form.fields.entries)
+      (form.end ≡ only_end (take number forms) form.fields.entries) ×
+      LeapStands (take number forms) form.leap form.fields.entries fields
   StandsFor forms part shape = ⊥
 
   pub FieldsStand : List StructForm → (leaves slots : ℕ) → List (ArrayVec ℕ × FieldForm) → Fields → Type 0
@@ -76,8 +78,6 @@ pub record EndsIn (forms : List StructForm) (end : Elements) (shape : Shape) : T
   pub stands : StandsFor forms end.part last
   pub count : end.count ≡ cut (elements bounds)
   pub leaves : (behind : List (List ℕ)) (around : List (ℤ × ℤ)) → leaves_of behind around shape ≡ leaves_of (behind ++ path) (around ++ bounds) last
-  pub slots : (n : ℕ) → shape_slots n shape ≡ shape_slots (n * elements bounds) last
-  pub few : (n : ℕ) → AreFew n shape → AreFew (n * elements bounds) last
 
 -- a part with no shape has no form
 abbrev pub Matches : List StructForm → Option TypeRef → Option Shape → Type 0

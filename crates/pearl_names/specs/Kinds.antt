@@ -1,5 +1,5 @@
 -- Which kinds are among some slots, as far as a constant that is put into all of them needs it.
-use Rattle.std.specs.Prelude.{ℕ, min, true, false, ◌||◌, List, [], ◌∷◌, Option, Some, None}
+use Rattle.std.specs.Prelude.{ℕ, min, Bool, true, false, ◌||◌, List, [], ◌∷◌, Option, Some, None, is_some}
 use Rattle.pearl_value.specs.declared.kind.Kind.{Kind}
 use Rattle.pearl_value.specs.declared.kind.Kind.TheVariants as kind
 use Rattle.pearl_names.specs.declared.kinds.Kinds.{Kinds}
@@ -31,3 +31,6 @@ joined_kinds a b = record {
 abbrev pub kinds_among : List Kind → Kinds
 kinds_among [] = no_kinds
 kinds_among (kind ∷ rest) = joined_kinds (one_kind kind) (kinds_among rest)
+
+abbrev pub has_kind : Kinds → Bool
+has_kind kinds = is_some kinds.fixed || is_some kinds.bits || is_some kinds.chars || kinds.clock || kinds.span

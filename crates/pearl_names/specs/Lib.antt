@@ -32,6 +32,8 @@ pub mod Runs
 pub mod FieldEntries
 -- what a STRUCT with one field comes to
 pub mod Chains
+-- what a STRUCT begins with, by a few leaps
+pub mod Leaps
 -- the TYPEs of a module by number, with their counts and the bounds of their fields
 pub mod Forms
 -- what each STRUCT adds to the TYPEs by number

@@ -23,7 +23,7 @@ use crate::scope::NameSort;
 use crate::sense::Bounds;
 use crate::types::{
     FieldForm, NONE, Sizes, StructForm, TypeRef, add_fields, counts_of, cut, cut_product, cut_sum,
-    only_end, tails_of, within,
+    first_leap, only_end, tails_of, within,
 };
 use pearl_tree::name::{Name, Names};
 use pearl_tree::parts::Parts;
@@ -292,6 +292,7 @@ fn form_of_struct(
         counts: NONE,
         tails: Vec::new(alloc),
         end: None,
+        leap: None,
     };
     for field in fields.as_slice() {
         let own = match all_bounds(alloc, field.bounds.as_slice())? {
@@ -314,6 +315,7 @@ fn form_of_struct(
     }
     form.tails = tails_of(alloc, forms.as_slice(), &form)?;
     form.end = only_end(forms.as_slice(), &form);
+    form.leap = first_leap(forms.as_slice(), &form);
     let part = keep(forms, form)?;
     Ok(Some(part))
 }

@@ -76,3 +76,14 @@ pub fn joined_kinds(a: Kinds, b: Kinds) -> Kinds
         span: a.span || b.span,
     }
 }
+
+/// Whether a kind is among them.
+pub fn has_kind(kinds: Kinds) -> bool
+    ensures { result ≡ spec.has_kind kinds }
+{
+    kinds.fixed.is_some()
+        || kinds.bits.is_some()
+        || kinds.chars.is_some()
+        || kinds.clock
+        || kinds.span
+}

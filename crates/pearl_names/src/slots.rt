@@ -1,15 +1,19 @@
 // The slots of a variable, in runs of one kind, without all of them being listed: a variable may have 2^60.
 
-ghost use Rattle.std.specs.Prelude.{◌≡◌, ◌++◌, ◌≤◌, [], ℕ, List, Option, nat_lt, length, IfOk, OnOk, true, false};
+ghost use Rattle.std.specs.Prelude.{◌≡◌, ◌+◌, ◌*◌, ◌++◌, ◌<◌, ◌≤◌, [], ℕ, List, Option, Some, length, IfOk, OnOk, true, false};
 ghost use Rattle.pearl_value.specs.declared.kind.Kind.{Kind as KindOf};
 ghost use Rattle.pearl_names.specs.Forms.{StandsFor, FieldsStand, leaf_count};
 ghost use Rattle.pearl_names.specs.Kinds.{kinds_among};
+ghost use Rattle.pearl_names.specs.Leaps as leaps;
+ghost use Rattle.pearl_names.specs.Leaps.{LeapStands, TwoLeaps, behind_slots, two_steps};
 ghost use Rattle.pearl_names.specs.Shapes.{Shape, Fields};
-ghost use Rattle.pearl_names.specs.Walks.{HasSlots, HasSomeSlots, HasLeft, AllLeft, GoesOn, FindsNext, Lists, kinds_of_next};
+ghost use Rattle.pearl_names.specs.Walks.{HasSlots, HasLeft, AllLeft, GoesOn, FindsNext, FindsWay, Lists, kinds_of_next, weight};
+ghost use Rattle.pearl_names.specs.declared.slots.Left.TheVariants as left_of;
+ghost use Rattle.pearl_names.specs.declared.types.Leap.{Leap as LeapOf};
 
-use crate::kinds::{Kinds, NO_KINDS, joined_kinds, one_kind};
+use crate::kinds::{Kinds, NO_KINDS, has_kind, joined_kinds, one_kind};
 use crate::types::{
-    Elements, FieldForm, StructForm, TypeRef, counts_of, cut_product, end_of, kinds_from,
+    Elements, FieldForm, StructForm, TypeRef, begun_at, cut_product, has_leaf, kinds_from, leap_at,
 };
 use pearl_value::kind::Kind;
 use std::alloc::{AllocError as NoMemory, Global};
@@ -28,12 +32,26 @@ pub struct Slots {
     pub behind: Kinds,
 }
 
-/// What is left of a STRUCT: its fields from an index on, of so many elements.
+/// A part of a STRUCT: its fields from an index on, or what is behind a leap of so many steps, the one that is kept.
+#[derive(Clone, Copy, PartialEq, Eq, Debug)]
+pub enum Left {
+    FieldsFrom(usize),
+    Behind(u32),
+}
+
+/// What is left of so many elements of a STRUCT.
 #[derive(Clone, Copy, PartialEq, Eq, Debug)]
 pub struct Frame {
     pub number: u32,
-    pub next: usize,
+    pub left: Left,
     pub count: u32,
+}
+
+/// Where a walk goes on within a STRUCT, and what it leaves of it.
+#[derive(Clone, Copy, PartialEq, Eq, Debug)]
+pub struct Way {
+    pub left: Left,
+    pub to: Elements,
 }
 
 /// A field with leaves, and the index behind it.
@@ -41,12 +59,6 @@ pub struct Frame {
 pub struct NextField {
     pub field: FieldForm,
     pub after: usize,
-}
-
-fn has_leaf(forms: &[StructForm], part: TypeRef) -> bool
-    ensures { (shape : Shape) → StandsFor forms.now part shape → result ≡ nat_lt 0 (leaf_count shape) }
-{
-    0 < counts_of(forms, part).leaves
 }
 
 // The first field from an index on that has leaves.
@@ -70,20 +82,30 @@ fn next_field(forms: &[StructForm], form: &StructForm, from: usize) -> Option<Ne
     }
 }
 
-// What so many elements of a type come to.
-fn ended(forms: &[StructForm], part: TypeRef, count: u32) -> Elements
-    ensures { (slots : List KindOf) (found : HasSlots forms.now part count slots) → 1 ≤ leaf_count found.shape →
-        HasSomeSlots forms.now result.part result.count slots }
+// The way to a first leaf, where there is one: by the leap that is kept, or else into the first field that has leaves.
+fn way_into(forms: &[StructForm], form: &StructForm) -> Option<Way>
+    ensures { (fields : Fields) → FieldsStand forms.now 0 0 form.now.fields.entries fields →
+        LeapStands forms.now form.now.leap form.now.fields.entries fields → FindsWay forms.now form.now.leap result fields }
 {
-    let end = end_of(forms, part);
-    Elements {
-        part: end.part,
-        count: cut_product(count, end.count),
+    match form.leap {
+        Some(leap) => Some(Way {
+            left: Left::Behind(leap.steps),
+            to: leap.to,
+        }),
+        None => match next_field(forms, form, 0) {
+            Some(next) => Some(Way {
+                left: Left::FieldsFrom(next.after),
+                to: Elements {
+                    part: next.field.part,
+                    count: next.field.elements,
+                },
+            }),
+            None => None,
+        },
     }
 }
 
-// Goes down to the first leaf of so many elements of a type, and notes what is left on the way. A STRUCT with one field
-// has nothing left then, and is gone past.
+// Goes down to the first leaf of so many elements of a type, and notes what is left on the way.
 fn descend(
     forms: &[StructForm],
     stack: &mut Vec<Frame>,
@@ -94,9 +116,8 @@ fn descend(
         1 ≤ leaf_count found.shape → AllLeft forms.now stack.old.items left → GoesOn forms.now run stack.new.items (slots ++ left)) }
 {
     let mut earlier = forms;
-    let first = ended(forms, part, count);
-    let mut part = first.part;
-    let mut count = first.count;
+    let mut part = part;
+    let mut count = count;
     loop {
         let number = match part {
             TypeRef::Basic(kind) => return Ok(Some(Run { kind, count })),
@@ -107,20 +128,92 @@ fn descend(
             None => return Ok(None),
         };
         earlier = &earlier[..number as usize];
-        let next = match next_field(earlier, form, 0) {
-            Some(next) => next,
+        let way = match way_into(earlier, form) {
+            Some(way) => way,
             None => return Ok(None),
         };
         stack.push(Frame {
             number,
-            next: next.after,
+            left: way.left,
             count,
         })?;
-        let inner = cut_product(count, next.field.elements);
-        let end = ended(earlier, next.field.part, inner);
-        part = end.part;
-        count = end.count;
+        let inner = cut_product(count, way.to.count);
+        part = way.to.part;
+        count = inner;
     }
+}
+
+// Notes what is behind two leaps from so many elements of a type, one after the other, which are fewer steps than these.
+fn note_leaps(
+    forms: &[StructForm],
+    stack: &mut Vec<Frame>,
+    of: Elements,
+    steps: u32,
+) -> Result<(), NoMemory>
+    ensures left { OnOk result ((slots left : List KindOf) (found : HasSlots forms.now of.part of.count slots) (two : TwoLeaps forms.now of.part) →
+        two_steps two < steps → AllLeft forms.now stack.old.items left →
+        AllLeft forms.now stack.new.items (behind_slots (two_steps two) found.many found.shape ++ left)) }
+    ensures lighter { OnOk result (weight stack.new.items ≤ weight stack.old.items + 4 * steps) }
+{
+    let near = match begun_at(forms, of.part) {
+        Some(near) => near,
+        None => return Ok(()),
+    };
+    let next = match begun_at(forms, near.leap.to.part) {
+        Some(next) => next,
+        None => return Ok(()),
+    };
+    if u64::from(near.leap.steps) + u64::from(next.leap.steps) >= u64::from(steps) {
+        return Ok(());
+    }
+    stack.push(Frame {
+        number: near.number,
+        left: Left::Behind(near.leap.steps),
+        count: of.count,
+    })?;
+    stack.push(Frame {
+        number: next.number,
+        left: Left::Behind(next.leap.steps),
+        count: cut_product(of.count, near.leap.to.count),
+    })?;
+    Ok(())
+}
+
+// Notes what is behind a leap: the fields behind the first one, and where it is of more than one step what is behind the
+// two leaps that follow the first one.
+fn note_parts(
+    forms: &[StructForm],
+    stack: &mut Vec<Frame>,
+    number: u32,
+    steps: u32,
+    count: u32,
+) -> Result<(), NoMemory>
+    ensures left { OnOk result ((own left : List KindOf) → HasLeft forms.now (record { number = number; left = left_of.Behind steps; count = count }) own →
+        AllLeft forms.now stack.old.items left → AllLeft forms.now stack.new.items (own ++ left)) }
+    ensures lighter { OnOk result (weight stack.new.items ≤ weight stack.old.items + 4 * steps + 1) }
+{
+    let form = match forms.get(number as usize) {
+        Some(form) => form,
+        None => return Ok(()),
+    };
+    let field = match form.fields.get_index(0) {
+        Some((_, field)) => field,
+        None => return Ok(()),
+    };
+    stack.push(Frame {
+        number,
+        left: Left::FieldsFrom(1),
+        count,
+    })?;
+    if steps <= 1 {
+        return Ok(());
+    }
+    let of = Elements {
+        part: field.part,
+        count: cut_product(count, field.elements),
+    };
+    note_leaps(forms, stack, of, steps)?;
+    Ok(())
 }
 
 // Goes on to the next leaf.
@@ -132,29 +225,51 @@ fn go_on(forms: &[StructForm], stack: &mut Vec<Frame>) -> Result<Option<Run>, No
             Some(frame) => frame,
             None => return Ok(None),
         };
-        let form = match forms.get(frame.number as usize) {
-            Some(form) => form,
-            None => return Ok(None),
-        };
-        match next_field(forms, form, frame.next) {
-            Some(next) => {
-                stack.push(Frame {
-                    next: next.after,
-                    ..frame
-                })?;
-                let count = cut_product(frame.count, next.field.elements);
-                let run = descend(forms, stack, next.field.part, count)?;
-                return Ok(run);
+        match frame.left {
+            Left::FieldsFrom(from) => {
+                let form = match forms.get(frame.number as usize) {
+                    Some(form) => form,
+                    None => return Ok(None),
+                };
+                match next_field(forms, form, from) {
+                    Some(next) => {
+                        stack.push(Frame {
+                            left: Left::FieldsFrom(next.after),
+                            ..frame
+                        })?;
+                        let count = cut_product(frame.count, next.field.elements);
+                        let run = descend(forms, stack, next.field.part, count)?;
+                        return Ok(run);
+                    }
+                    None => {}
+                }
             }
-            None => {}
+            Left::Behind(steps) => {
+                if has_kind(kinds_past(forms, frame.number)) {
+                    note_parts(forms, stack, frame.number, steps, frame.count)?;
+                }
+            }
         }
+    }
+}
+
+// The kinds of what is behind the leap that is kept with a STRUCT.
+fn kinds_past(forms: &[StructForm], number: u32) -> Kinds
+    ensures { (leap : LeapOf) → leaps.leap_at forms.now number ≡ Some leap → result ≡ leap.behind }
+{
+    match leap_at(forms, number) {
+        Some(leap) => leap.behind,
+        None => NO_KINDS,
     }
 }
 
 fn kinds_left(forms: &[StructForm], frame: Frame) -> Kinds
     ensures { (slots : List KindOf) → HasLeft forms.now frame slots → result ≡ kinds_among slots }
 {
-    kinds_from(forms, frame.number, frame.next)
+    match frame.left {
+        Left::FieldsFrom(next) => kinds_from(forms, frame.number, next),
+        Left::Behind(_) => kinds_past(forms, frame.number),
+    }
 }
 
 fn all_kinds_left(forms: &[StructForm], stack: &[Frame]) -> Kinds

@@ -1,6 +1,6 @@
 // TYPEs by number, with counts of what they would have if each TYPE were written out.
 
-ghost use Rattle.std.specs.Prelude.{◌≡◌, ◌+◌, ◌*◌, true, false, is_none, IfOk, OnOk, ◌++◌, List, ℤ, length, map, option_copied, option_map, slice_get};
+ghost use Rattle.std.specs.Prelude.{◌≡◌, ◌+◌, ◌*◌, ◌^◌, ◌<◌, true, false, is_none, IfOk, OnOk, ◌++◌, List, ℤ, length, map, nat_lt, option_copied, option_map, slice_get};
 ghost use Rattle.std.specs.Option.{option_and_then};
 ghost use Rattle.std.specs.Map.{lookup};
 ghost use Rattle.std.specs.Str.{bytes_eq};
@@ -11,10 +11,12 @@ ghost use Rattle.pearl_tree.specs.declared.name.Name.{Name as NameOf};
 ghost use Rattle.pearl_names.specs.declared.types.StructForm.{StructForm as StructFormOf};
 ghost use Rattle.pearl_names.specs.Chains as chains;
 ghost use Rattle.pearl_names.specs.Counts as spec;
+ghost use Rattle.pearl_names.specs.Leaps as leaps;
+ghost use Rattle.pearl_names.specs.Leaps.{IsLeap, LeapStands};
 ghost use Rattle.pearl_names.specs.Kinds.{kinds_among};
 ghost use Rattle.pearl_names.specs.Runs.{shape_slots, field_slots, drop_fields, tails_of as tails_in};
 ghost use Rattle.pearl_names.specs.declared.sense.Bounds.{Bounds as BoundsOf};
-ghost use Rattle.pearl_names.specs.Forms.{pair_of, StandsFor, FieldsStand, AllBounded, MatchesComponent, component, Adds, IsForm, IsPart, AreNamed, append_fields};
+ghost use Rattle.pearl_names.specs.Forms.{pair_of, leaf_count, StandsFor, FieldsStand, AllBounded, MatchesComponent, component, Adds, IsForm, IsPart, AreNamed, append_fields};
 ghost use Rattle.pearl_names.specs.declared.types.TypeRef.TheVariants.{Struct};
 
 use crate::fields::FieldTable;
@@ -126,9 +128,26 @@ pub struct Elements {
     pub count: u32,
 }
 
+/// What a type begins with: so many elements of an earlier one, which it comes to by so many steps into the first field,
+/// and which kinds are among the slots behind them.
+#[derive(Clone, Copy, PartialEq, Eq, Debug)]
+pub struct Leap {
+    pub to: Elements,
+    pub behind: Kinds,
+    pub steps: u32,
+}
+
+/// The number of a STRUCT, and its leap.
+#[derive(Clone, Copy, PartialEq, Eq, Debug)]
+pub struct Begun {
+    pub number: u32,
+    pub leap: Leap,
+}
+
 /// The fields of a STRUCT by their names, the bounds of all of them, its counts, which kinds are among its last fields
-/// (of none, of one, and so on up to all), and of a STRUCT with one field what it comes to: TYPEs with one field each
-/// may be thousands deep, and a walk that asks for no names goes past them in one step.
+/// (of none, of one, and so on up to all), of a STRUCT with one field what it comes to, and the leap to what it begins
+/// with. TYPEs may be thousands deep: where each has one field, a walk that asks for no names goes past them in one
+/// step, and to the first leaf a few leaps lead.
 #[derive(Drop)]
 pub struct StructForm {
     pub fields: FieldTable,
@@ -136,6 +155,7 @@ pub struct StructForm {
     pub counts: Counts,
     pub tails: Vec<Kinds>,
     pub end: Option<Elements>,
+    pub leap: Option<Leap>,
 }
 
 fn field_named(form: &StructForm, text: &ArrayVec<u8, 63>) -> Option<FieldForm>
@@ -228,6 +248,12 @@ pub fn counts_of(forms: &[StructForm], part: TypeRef) -> Counts
         TypeRef::Basic(_) => ONE,
         TypeRef::Struct(number) => counts_at(forms, number),
     }
+}
+
+pub(crate) fn has_leaf(forms: &[StructForm], part: TypeRef) -> bool
+    ensures { (shape : Shape) → StandsFor forms.now part shape → result ≡ nat_lt 0 (leaf_count shape) }
+{
+    0 < counts_of(forms, part).leaves
 }
 
 fn end_at(forms: &[StructForm], number: u32) -> Option<Elements>
@@ -338,6 +364,89 @@ pub(crate) fn tails_of(
         tails.push(kinds)?;
     }
     Ok(tails)
+}
+
+/// The leap that is kept with the STRUCT of a number.
+pub(crate) fn leap_at(forms: &[StructForm], number: u32) -> Option<Leap>
+    ensures { result ≡ leaps.leap_at forms.now number }
+{
+    match forms.get(number as usize) {
+        Some(form) => form.leap,
+        None => None,
+    }
+}
+
+/// The STRUCT that a type is, and its leap.
+pub(crate) fn begun_at(forms: &[StructForm], part: TypeRef) -> Option<Begun>
+    ensures { result ≡ leaps.begun forms.now part }
+{
+    match part {
+        TypeRef::Basic(_) => None,
+        TypeRef::Struct(number) => match leap_at(forms, number) {
+            Some(leap) => Some(Begun { number, leap }),
+            None => None,
+        },
+    }
+}
+
+fn joined_leaps(a: Leap, b: Leap) -> Leap
+    requires { a.steps + b.steps < 2 ^ 32 }
+    ensures { result ≡ leaps.joined_leaps a b }
+{
+    Leap {
+        to: Elements {
+            part: b.to.part,
+            count: cut_product(a.to.count, b.to.count),
+        },
+        behind: joined_kinds(b.behind, a.behind),
+        steps: a.steps + b.steps,
+    }
+}
+
+const MOST_STEPS: u32 = 1 << 30;
+
+// A step with the two leaps behind it, where these are of one length. So the leaps that follow one another grow shorter
+// quickly: from a STRUCT that is n deep at most twice the logarithm of n of them lead down.
+fn far_leap(forms: &[StructForm], one: Leap) -> Leap
+    requires { one.steps ≡ 1 }
+    ensures { IsLeap forms.now one result }
+{
+    let near = match begun_at(forms, one.to.part) {
+        Some(near) => near,
+        None => return one,
+    };
+    let next = match begun_at(forms, near.leap.to.part) {
+        Some(next) => next,
+        None => return one,
+    };
+    if near.leap.steps != next.leap.steps || near.leap.steps >= MOST_STEPS {
+        return one;
+    }
+    joined_leaps(one, joined_leaps(near.leap, next.leap))
+}
+
+// The leap of a form that has all its fields and their tails, where its first field has leaves.
+pub(crate) fn first_leap(forms: &[StructForm], form: &StructForm) -> Option<Leap>
+    ensures { (fields : Fields) → FieldsStand forms.now 0 0 form.now.fields.entries fields → form.now.tails.items ≡ tails_in fields →
+        LeapStands forms.now result form.now.fields.entries fields }
+{
+    match form.fields.get_index(0) {
+        Some((_, field)) => {
+            if !has_leaf(forms, field.part) {
+                return None;
+            }
+            let one = Leap {
+                to: Elements {
+                    part: field.part,
+                    count: field.elements,
+                },
+                behind: kinds_behind(form, 1),
+                steps: 1,
+            };
+            Some(far_leap(forms, one))
+        }
+        None => None,
+    }
 }
 
 // Adds a field where no field has its name, and answers whether none had it.

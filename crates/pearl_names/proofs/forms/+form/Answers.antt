@@ -1,6 +1,7 @@
 use Rattle.std.proofs.Common.{None, option_map, map, List, ℤ, ◌≡◌, sym, ap, subst, ◌∙◌, take, drop, refl, ◌+◌}
 use Rattle.pearl_names.specs.Forms.{pair_of, Matches, IsForm, StandsFor, FieldsStand, append_fields}
 use Rattle.pearl_names.specs.Chains.{only_end}
+use Rattle.pearl_names.specs.Leaps.{LeapStands}
 use Rattle.pearl_names.specs.Forming.{Made, around_of, struct_shape}
 use Rattle.pearl_tree.specs.ShownDeclarations.{shown_names, shown_typing}
 use Rattle.pearl_tree.specs.Names.{names_of}
@@ -74,6 +75,9 @@ form_of_struct-returns-clause-form t c = λ shapes all.
     (subst (Made c.args.forms.now.items c.loop-field.forms.items c.args.named.now arounds c.loop-field.form) (all_taken c.args.fields.now.items.items c.loop-field.field-index (rw (← c.as_slice-field-items.ensures) c.loop-field-test.false)) c.loop-field.invariant)
     refl (λ own h. c.in_ok-form.ensures own (subst (λ l. FieldsStand l 0 0 c.loop-field.form.fields.entries own) (sym c.as_slice-2.ensures.value) h))
     (c.only_end-form.ensures ∙ ap (λ l. only_end l c.loop-field.form.fields.entries) c.as_slice-3.ensures.value)
+    (λ own h. subst (λ l. LeapStands l c.first_leap-form.result c.loop-field.form.fields.entries own) c.as_slice-4.ensures.value
+    (c.first_leap-form.ensures own (subst (λ l. FieldsStand l 0 0 c.loop-field.form.fields.entries own) (sym c.as_slice-4.ensures.value) h)
+    (c.in_ok-form.ensures own (subst (λ l. FieldsStand l 0 0 c.loop-field.form.fields.entries own) (sym c.as_slice-2.ensures.value) h))))
     c.in_ok-part-2.ensures.kept c.in_ok-part-2.ensures.number shapes all
 
 pub form_of-returns-in-Basic-clause-form : goal.form_of-returns-in-Basic-clause-form
