@@ -1,4 +1,5 @@
 mod Adding
+mod FoundParts
 pub mod AskedLists
 pub mod PieceLists
 pub mod Calling
@@ -11,7 +12,6 @@ mod Firsts
 mod CutWeights
 mod TellingModules
 mod Accepting
-mod KindLists
 mod SeenSemaphores
 mod FirstFaults
 mod Broken

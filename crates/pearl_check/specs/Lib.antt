@@ -8,6 +8,8 @@ pub mod PieceLists
 pub mod Asked
 -- which kinds and names are seen from a statement
 pub mod Views
+-- what is found of the parts of a statement: the kinds of its subjects, and the entries that its names mean
+pub mod Findings
 -- the rules on what a statement asks for: S23, S25 and S29, and S16 for the names of tasks, semaphores, interrupts and dations
 pub mod Roles
 -- the rules on statements as a whole: S24, S26, S27 and S31

@@ -3,27 +3,23 @@
 ghost use Rattle.std.specs.Prelude.{◌≡◌, ◌++◌, List, Option, Some, OnOk};
 ghost use Rattle.std.specs.Option.{option_copied};
 ghost use Rattle.pearl_tree.specs.Faults.{fault_if};
-ghost use Rattle.pearl_tree.specs.ShownExpressions.{shown_expr, shown_ref};
-ghost use Rattle.pearl_names.specs.declared.scope.View.TheVariants.{Within};
 ghost use Rattle.pearl_names.specs.declared.types.StructForm.{StructForm as StructFormOf};
 ghost use Rattle.pearl_names.specs.Holding.{HoldsFound, HoldsSense, HoldsTable};
 ghost use Rattle.pearl_names.specs.Tables as tables;
 ghost use Rattle.pearl_system.specs.Rules as directions;
 ghost use Rattle.pearl_check.specs.Dations as spec;
-ghost use Rattle.pearl_check.specs.Views as views;
+ghost use Rattle.pearl_check.specs.Findings as findings_spec;
 
+use crate::findings::{Findings, misfits, sense_of};
 use crate::tell::tell_if;
-use crate::views::{misfits, target_kind, value_kind};
-use pearl_names::scope::View;
 use pearl_names::sense::Sense;
 use pearl_names::table::SenseTable;
 use pearl_tree::fault::RuleFault;
 use pearl_tree::name::Name;
 use pearl_tree::rule;
-use pearl_tree::statement::{Send, Take};
 use pearl_value::device::Direction;
 use pearl_value::kind::Kind;
-use std::alloc::{AllocError as NoMemory, Global};
+use std::alloc::AllocError as NoMemory;
 
 fn is_in(direction: Direction) -> bool
     ensures { result ≡ directions.is_in direction }
@@ -157,18 +153,18 @@ fn gives_no_take(taken: Option<Kind>, sense: Option<&Sense>) -> bool
     }
 }
 
-/// Adds S32, where it is broken by a PUT to this dation.
+/// Adds S32, where it is broken by a PUT to this dation, of the parts of which this was found.
 pub(crate) fn s32_of_put(
     table: &SenseTable,
     faults: &mut Vec<RuleFault>,
-    scope: u32,
     dation: &Name,
+    findings: &Findings,
 ) -> Result<(), NoMemory>
     ensures { OnOk result ((t : tables.Table) → HoldsTable table.now t →
         faults.new.items ≡
-        faults.old.items ++ fault_if (spec.takes_no_put (views.seen t (Within scope) dation.now)) dation.now.place 32) }
+        faults.old.items ++ fault_if (spec.takes_no_put (findings_spec.sense_of t (findings_spec.first_name findings.now))) dation.now.place 32) }
 {
-    let broken = takes_no_put(table.sense_from(View::Within(scope), &dation.text));
+    let broken = takes_no_put(sense_of(table, findings.first_name()));
     tell_if(faults, broken, dation.place, rule::S32)?;
     Ok(())
 }
@@ -177,62 +173,52 @@ pub(crate) fn s32_of_put(
 pub(crate) fn s32_of_get(
     table: &SenseTable,
     faults: &mut Vec<RuleFault>,
-    scope: u32,
     dation: &Name,
+    findings: &Findings,
 ) -> Result<(), NoMemory>
     ensures { OnOk result ((t : tables.Table) → HoldsTable table.now t →
         faults.new.items ≡
-        faults.old.items ++ fault_if (spec.gives_no_get (views.seen t (Within scope) dation.now)) dation.now.place 32) }
+        faults.old.items ++ fault_if (spec.gives_no_get (findings_spec.sense_of t (findings_spec.first_name findings.now))) dation.now.place 32) }
 {
-    let broken = gives_no_get(table.sense_from(View::Within(scope), &dation.text));
+    let broken = gives_no_get(sense_of(table, findings.first_name()));
     tell_if(faults, broken, dation.place, rule::S32)?;
     Ok(())
 }
 
-/// Adds S32, where it is broken by this SEND.
+/// The same of a SEND to it.
 pub(crate) fn s32_of_send(
-    alloc: Global,
     table: &SenseTable,
     faults: &mut Vec<RuleFault>,
-    scope: u32,
-    part: &Send,
+    dation: &Name,
+    findings: &Findings,
 ) -> Result<(), NoMemory>
     ensures { OnOk result ((t : tables.Table) → HoldsTable table.now t →
         faults.new.items ≡
         faults.old.items ++
-        fault_if
-        (spec.takes_no_send (views.value_kind t scope (shown_expr part.now.value)) (views.seen t (Within scope) part.now.dation))
-        part.now.dation.place 32) }
+        fault_if (spec.takes_no_send (findings_spec.kind_at findings.now 0) (findings_spec.sense_of t (findings_spec.first_name findings.now)))
+        dation.now.place 32) }
 {
-    let sent = value_kind(alloc, table, scope, &part.value)?;
-    let broken = takes_no_send(
-        sent,
-        table.sense_from(View::Within(scope), &part.dation.text),
-    );
-    tell_if(faults, broken, part.dation.place, rule::S32)?;
+    let sense = sense_of(table, findings.first_name());
+    let broken = takes_no_send(findings.kind_at(0), sense);
+    tell_if(faults, broken, dation.place, rule::S32)?;
     Ok(())
 }
 
-/// The same of a TAKE.
+/// The same of a TAKE from it.
 pub(crate) fn s32_of_take(
-    alloc: Global,
     table: &SenseTable,
     faults: &mut Vec<RuleFault>,
-    scope: u32,
-    part: &Take,
+    dation: &Name,
+    findings: &Findings,
 ) -> Result<(), NoMemory>
     ensures { OnOk result ((t : tables.Table) → HoldsTable table.now t →
         faults.new.items ≡
         faults.old.items ++
-        fault_if
-        (spec.gives_no_take (views.target_kind t scope (shown_ref part.now.target)) (views.seen t (Within scope) part.now.dation))
-        part.now.dation.place 32) }
+        fault_if (spec.gives_no_take (findings_spec.kind_at findings.now 0) (findings_spec.sense_of t (findings_spec.first_name findings.now)))
+        dation.now.place 32) }
 {
-    let taken = target_kind(alloc, table, scope, &part.target)?;
-    let broken = gives_no_take(
-        taken,
-        table.sense_from(View::Within(scope), &part.dation.text),
-    );
-    tell_if(faults, broken, part.dation.place, rule::S32)?;
+    let sense = sense_of(table, findings.first_name());
+    let broken = gives_no_take(findings.kind_at(0), sense);
+    tell_if(faults, broken, dation.place, rule::S32)?;
     Ok(())
 }

@@ -1,24 +1,17 @@
 // Formats of PUT and GET: S33.
 
-ghost use Rattle.std.specs.Prelude.{◌≡◌, ◌++◌, ◌&&◌, ◌||◌, not, nat_le, nat_lt, map, None, Some, OnOk};
+ghost use Rattle.std.specs.Prelude.{◌≡◌, ◌++◌, ◌&&◌, ◌||◌, not, nat_le, nat_lt, None, Some, OnOk};
 ghost use Rattle.pearl_tree.specs.declared.format.FreeCode.TheVariants as free_code;
-ghost use Rattle.pearl_tree.specs.ShownExpressions.{shown_expr, shown_ref};
-ghost use Rattle.pearl_names.specs.Holding.{HoldsTable};
-ghost use Rattle.pearl_names.specs.Tables as tables;
 ghost use Rattle.pearl_check.specs.declared.limit.TheConstants as limit;
 ghost use Rattle.pearl_check.specs.Formats as spec;
-ghost use Rattle.pearl_check.specs.Views as views;
 
 use crate::limit::{DATA_MAX, FORMAT_MAX, WIDTH_MAX};
 use crate::tell::tell_if;
-use crate::views::{target_kinds, value_kinds};
-use pearl_names::table::SenseTable;
 use pearl_tree::fault::RuleFault;
 use pearl_tree::format::{Fmt, FreeCode, WideCode};
 use pearl_tree::rule;
-use pearl_tree::statement::{Get, Put};
 use pearl_value::kind::Kind;
-use std::alloc::{AllocError as NoMemory, Global};
+use std::alloc::AllocError as NoMemory;
 
 fn place_of(item: &Fmt) -> u32
     ensures { result ≡ spec.place_of_item item.now }
@@ -287,7 +280,8 @@ fn is_ill_sized(items: &[Fmt], kinds: &[Option<Kind>]) -> bool
     count != kinds.len() || count > DATA_MAX || is_too_wide(items, kinds)
 }
 
-fn format_faults(
+/// Adds what is broken of S33 in a PUT or GET at this place, whose values or targets have these kinds.
+pub(crate) fn format_faults(
     faults: &mut Vec<RuleFault>,
     place: u32,
     items: &[Fmt],
@@ -297,53 +291,5 @@ fn format_faults(
 {
     item_faults(faults, items, kinds)?;
     tell_if(faults, is_ill_sized(items, kinds), place, rule::S33)?;
-    Ok(())
-}
-
-/// Adds what is broken of S33 in this PUT.
-pub(crate) fn s33_of_put(
-    alloc: Global,
-    table: &SenseTable,
-    faults: &mut Vec<RuleFault>,
-    scope: u32,
-    part: &Put,
-) -> Result<(), NoMemory>
-    ensures { OnOk result ((t : tables.Table) → HoldsTable table.now t →
-        faults.new.items ≡
-        faults.old.items ++
-        spec.format_faults part.now.place part.now.formats.items.items
-        (map (views.value_kind t scope) (map shown_expr part.now.values.items.items))) }
-{
-    let kinds = value_kinds(alloc, table, scope, part.values.as_slice())?;
-    format_faults(
-        faults,
-        part.place,
-        part.formats.as_slice(),
-        kinds.as_slice(),
-    )?;
-    Ok(())
-}
-
-/// Adds what is broken of S33 in this GET.
-pub(crate) fn s33_of_get(
-    alloc: Global,
-    table: &SenseTable,
-    faults: &mut Vec<RuleFault>,
-    scope: u32,
-    part: &Get,
-) -> Result<(), NoMemory>
-    ensures { OnOk result ((t : tables.Table) → HoldsTable table.now t →
-        faults.new.items ≡
-        faults.old.items ++
-        spec.format_faults part.now.place part.now.formats.items.items
-        (map (views.target_kind t scope) (map shown_ref part.now.targets.items.items))) }
-{
-    let kinds = target_kinds(alloc, table, scope, part.targets.as_slice())?;
-    format_faults(
-        faults,
-        part.place,
-        part.formats.as_slice(),
-        kinds.as_slice(),
-    )?;
     Ok(())
 }

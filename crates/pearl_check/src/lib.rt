@@ -13,6 +13,7 @@ pub mod callers;
 mod cut;
 mod dations;
 pub mod fault;
+mod findings;
 mod first;
 mod formats;
 pub mod laws;
@@ -27,7 +28,6 @@ pub mod sizes;
 mod statements;
 pub mod tally;
 mod tell;
-mod views;
 
 use crate::accept::accept;
 use crate::fault::CheckFault;

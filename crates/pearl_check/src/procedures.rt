@@ -119,16 +119,16 @@ pub struct Sight<'a> {
     pub view: View,
 }
 
+// Few names are those of procedures: the others aren't looked for in the scopes.
 fn add_call(calls: &mut Vec<u32>, sight: Sight<'_>, name: &Name) -> Result<(), NoMemory>
     ensures { OnOk result ((t : tables.Table) → HoldsTable sight.entry.table.now t →
         calls.new.items ≡ calls.old.items ++ spec.calls_seen t sight.entry.procedures.now sight.entry.view (name.now ∷ [])) }
 {
-    if !is_procedure(sight.table.sense_from(sight.view, &name.text)) {
-        return Ok(());
-    }
     match sight.procedures.number_of(name) {
         Some(number) => {
-            calls.push(number)?;
+            if is_procedure(sight.table.sense_from(sight.view, &name.text)) {
+                calls.push(number)?;
+            }
             Ok(())
         }
         None => Ok(()),

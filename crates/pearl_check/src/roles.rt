@@ -1,6 +1,6 @@
 // The rules on each part that a statement asks for: S15 to S22, S23, S25 and S29.
 
-ghost use Rattle.std.specs.Prelude.{◌≡◌, ◌++◌, List, Option, Some, option_copied, OnOk};
+ghost use Rattle.std.specs.Prelude.{◌≡◌, ◌++◌, List, Option, Some, option_copied, IfOk, OnOk};
 ghost use Rattle.pearl_tree.specs.ShownExpressions.{shown_expr};
 ghost use Rattle.pearl_names.specs.declared.types.StructForm.{StructForm as StructFormOf};
 ghost use Rattle.pearl_names.specs.Holding.{HoldsSense, HoldsFound, HoldsTable};
@@ -9,12 +9,15 @@ ghost use Rattle.pearl_check_expr.specs.Judged.{expr_place};
 ghost use Rattle.pearl_check_expr.specs.Senses as senses;
 ghost use Rattle.pearl_check_expr.specs.Subjects.{shown_subject};
 ghost use Rattle.pearl_check.specs.Asked as asked_spec;
+ghost use Rattle.pearl_check.specs.Findings as findings_spec;
 ghost use Rattle.pearl_check.specs.Roles as spec;
-ghost use Rattle.pearl_check.specs.Views.{subject_place};
+ghost use Rattle.pearl_check.specs.Views.{subject_kind, subject_place};
 
 use crate::asked::{Asked, NameRole, Role};
+use crate::findings::{Findings, sense_of};
 use crate::tell::tell_if;
 use pearl_check_expr::subject::{Subject, kind_of};
+use pearl_names::meaning::Found;
 use pearl_names::scope::View;
 use pearl_names::sense::Sense;
 use pearl_names::table::SenseTable;
@@ -194,6 +197,7 @@ fn s29_in(
     }
 }
 
+// It answers the kind of the subject.
 fn subject_faults(
     alloc: Global,
     table: &SenseTable,
@@ -201,8 +205,10 @@ fn subject_faults(
     role: Role,
     scope: u32,
     subject: Subject<'_>,
-) -> Result<(), NoMemory>
-    ensures { OnOk result ((t : tables.Table) → HoldsTable table.now t →
+) -> Result<Option<Kind>, NoMemory>
+    ensures kind { IfOk result (λ kind. (t : tables.Table) → HoldsTable table.now t →
+        kind ≡ subject_kind t scope (shown_subject subject.entry)) }
+    ensures faults { OnOk result ((t : tables.Table) → HoldsTable table.now t →
         faults.new.items ≡ faults.old.items ++ spec.asked_faults t (asked_spec.Subject role scope (shown_subject subject.entry))) }
 {
     let kind = kind_of(alloc, table, scope, subject, faults)?;
@@ -210,32 +216,38 @@ fn subject_faults(
     s23_in(faults, role, kind, place)?;
     s25_in(table, faults, scope, subject)?;
     s29_in(faults, role, kind, place)?;
-    Ok(())
+    Ok(kind)
 }
 
+// It answers the entry that the name means.
 fn named_faults(
     table: &SenseTable,
     faults: &mut Vec<RuleFault>,
     role: NameRole,
     scope: u32,
     name: &Name,
-) -> Result<(), NoMemory>
-    ensures { OnOk result ((t : tables.Table) → HoldsTable table.now t →
+) -> Result<Option<Found>, NoMemory>
+    ensures meant { IfOk result (λ found. (t : tables.Table) → HoldsTable table.now t → found ≡ findings_spec.meant t scope name.now) }
+    ensures faults { OnOk result ((t : tables.Table) → HoldsTable table.now t →
         faults.new.items ≡ faults.old.items ++ spec.asked_faults t (asked_spec.Named role scope name.now)) }
 {
-    let misnamed = is_misnamed(role, table.sense_from(View::Within(scope), &name.text));
+    let found = table.find_from(View::Within(scope), &name.text);
+    let misnamed = is_misnamed(role, sense_of(table, found));
     tell_if(faults, misnamed, name.place, rule::S16)?;
-    Ok(())
+    Ok(found)
 }
 
-/// Adds the rules that are broken at what a statement asks for: S15 to S22, S23, S25 and S29.
+/// Adds the rules that are broken at what a statement asks for: S15 to S22, S23, S25 and S29; and what is found of it.
 pub(crate) fn asked_faults(
     alloc: Global,
     table: &SenseTable,
     faults: &mut Vec<RuleFault>,
+    findings: &mut Findings,
     asked: &Asked<'_>,
 ) -> Result<(), NoMemory>
-    ensures { OnOk result ((t : tables.Table) → HoldsTable table.now t →
+    ensures found { OnOk result ((t : tables.Table) → HoldsTable table.now t →
+        findings_spec.IsFound t findings.old findings.new (asked_spec.shown_asked asked.now)) }
+    ensures faults { OnOk result ((t : tables.Table) → HoldsTable table.now t →
         faults.new.items ≡ faults.old.items ++ spec.asked_faults t (asked_spec.shown_asked asked.now)) }
 {
     match *asked {
@@ -244,11 +256,13 @@ pub(crate) fn asked_faults(
             scope,
             subject,
         } => {
-            subject_faults(alloc, table, faults, role, scope, subject)?;
+            let kind = subject_faults(alloc, table, faults, role, scope, subject)?;
+            findings.kinds.push(kind)?;
             Ok(())
         }
         Asked::Named { role, scope, name } => {
-            named_faults(table, faults, role, scope, name)?;
+            let found = named_faults(table, faults, role, scope, name)?;
+            findings.names.push(found)?;
             Ok(())
         }
     }

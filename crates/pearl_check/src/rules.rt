@@ -11,11 +11,13 @@ ghost use Rattle.pearl_names.specs.Scopes.{scopes_in_all, scopes_in_decl};
 ghost use Rattle.pearl_names.specs.Tables as tables;
 ghost use Rattle.pearl_scope.specs.Placed.{placed_at, placed_in, placed_body};
 ghost use Rattle.pearl_check.specs.Asked.{asked_in};
+ghost use Rattle.pearl_check.specs.Findings.{AreFound};
 ghost use Rattle.pearl_check.specs.Roles as roles;
 ghost use Rattle.pearl_check.specs.Routines.{decl_routines, decls_routines, shown_sort};
 ghost use Rattle.pearl_check.specs.Rules as spec;
 
 use crate::asked::{Asked, add_asked};
+use crate::findings::Findings;
 use crate::limit::PRIORITY_MAX;
 use crate::roles::asked_faults;
 use crate::routine::RoutineSort;
@@ -30,19 +32,22 @@ use pearl_tree::statement::Body;
 use pearl_tree::tree::{Decl, TaskHead, Tree};
 use std::alloc::{AllocError as NoMemory, Global};
 
+// It answers what is found of these parts.
 fn all_asked_faults(
     alloc: Global,
     table: &SenseTable,
     faults: &mut Vec<RuleFault>,
     asked: &[Asked<'_>],
-) -> Result<(), NoMemory>
-    ensures { OnOk result ((t : tables.Table) → HoldsTable table.now t →
+) -> Result<Findings, NoMemory>
+    ensures found { IfOk result (λ findings. (t : tables.Table) → HoldsTable table.now t → AreFound t findings (asked_in asked.now)) }
+    ensures faults { OnOk result ((t : tables.Table) → HoldsTable table.now t →
         faults.new.items ≡ faults.old.items ++ flat_map (roles.asked_faults t) (asked_in asked.now)) }
 {
+    let mut findings = Findings::new(alloc);
     for part in asked {
-        asked_faults(alloc, table, faults, part)?;
+        asked_faults(alloc, table, faults, &mut findings, part)?;
     }
-    Ok(())
+    Ok(findings)
 }
 
 fn statement_faults_at(
@@ -57,8 +62,8 @@ fn statement_faults_at(
 {
     let mut asked = Vec::new(alloc);
     add_asked(&mut asked, place)?;
-    all_asked_faults(alloc, table, faults, asked.as_slice())?;
-    own_faults(alloc, table, faults, sort, place)?;
+    let findings = all_asked_faults(alloc, table, faults, asked.as_slice())?;
+    own_faults(alloc, table, faults, sort, place, &findings)?;
     Ok(())
 }
 
