@@ -33,6 +33,10 @@ fn modules() -> &'static [(&'static str, &'static str)] {
             => "a B3*2;proc 0[]{}proc 1[&B3,]{p0();P0:=B1:1;return;}proc 2 F31[F31,&B3,]{p1(&P1,);return with O0;}task t 255[F31,]{new O0 F31*1;O0:=Add(p2(F31:2,&L0(1:2,)[F31:1,],),p2(O0,&L0(1:2,)[F31:2,],));p2(F31:1,&L0(1:2,)[F31:1,],);}";
         "PROBLEM;TYPE y STRUCT[u FIXED,v(3) BIT];DCL g STRUCT[m CHAR,n(4) y];p:PROC;DCL w(2) STRUCT[m CHAR,n y];w(2).n.v(3):=g.n(4).v(1);END;"
             => "g.m C1*1;g.n.u F31*4;g.n.v B1*12;proc 0[C1,C1,F31,F31,B1,B1,B1,B1,B1,B1,]{new O0 C1*2;new O2 F31*2;new O4 B1*6;O4(1:2,1:3,)[F31:2,F31:3,]:=L2(1:4,1:3,)[F31:4,F31:1,];}";
+        "PROBLEM;t:TASK;DCL r STRUCT[a FIXED,b(2) FIXED,c CHAR(2),(d,e) CHAR(2),f FIXED],s STRUCT[a BIT,b STRUCT[(c,d) BIT]] INIT('1'B);END;"
+            => "task t 255[F31,F31,F31,C2,C2,C2,F31,B1,B1,B1,]{new O0 F31*3;new O3 C2*3;new O6 F31*1;new O7 B1*3=B1:1;}";
+        "PROBLEM;t:TASK;DCL (r,s) STRUCT[a FIXED,b(2) FIXED,(c,d) CHAR(2)] INIT(1,2,3,'x','y',4,5,6,'z');END;"
+            => "task t 255[F31,F31,F31,C2,C2,F31,F31,F31,C2,C2,]{new O0 F31*3=F31:1=F31:2=F31:3;new O3 C2*2='x '='y ';new O5 F31*3=F31:4=F31:5=F31:6;new O8 C2*2='z ';}";
         "PROBLEM;DCL a(-2:5,3) FIXED,b BIT,c CLOCK,s SEMA,f FIXED(63);t:TASK;a(1,1):=-ABS a(LWB a,2 UPB a)**2;b:=NOT TRY s OR b AND '1'B;c:=NOW+1 MIN;f:=5000000000-f-1;END;"
             => "a F31*24;b B1*1;c T*1;f F63*1;sema 0;task t 255[]{L0(-2:5,1:3,)[F31:1,F31:1,]:=Pow(Minus(Abs(L0(-2:5,1:3,)[F31:-2,F31:3,])),F31:2);L1:=Or(Not(TRY s0),And(L1,B1:1));L2:=Add(NOW,D:60000);L3:=Sub(Sub(F63:5000000000,L3),F31:1);}";
         "SYSTEM;irq:INTERRUPT(2);PROBLEM;SPC irq INTERRUPT;t:TASK;AT 1:0:0 ALL 1 SEC UNTIL 2:0:0 ACTIVATE u PRIO 3;AFTER 5 SEC ACTIVATE t;WHEN irq AFTER 1 SEC ALL 2 SEC DURING 9 SEC ACTIVATE u;WHEN irq ACTIVATE t;WHEN irq CONTINUE u;CONTINUE t;AFTER 1 SEC RESUME;AT 3:0:0 RESUME;SUSPEND;SUSPEND u;TERMINATE u;PREVENT;END;u:TASK PRIO 2;ALL 1 SEC ACTIVATE u;END;"

@@ -165,17 +165,16 @@ nesting = source (task [] (OfBegin (local (item "m" (upto 2 ∷ [])
     (MoreFields (OfOne (name "b" 0)) (upto 3 ∷ []) (OfBasic fixed) 0 NoFields)) 0) []) ∷ [])
     (MoreStmts (OfAssign (reference "m" (at (literal 1) (dot "b" (at (literal 2) NoSelectors)))) (literal 1) 0) NoStmts) 0 0 ∷ []) ∷ [])
 
--- two cells of m.a, and behind them the six of m.b
+-- two cells of m.a, and behind them the six of m.b: all eight have one kind
 nested : resolve (table_of nesting) [] [] nesting ≡ no_tables (record {
   name = codes "t";
   priority = 255;
   main = true;
   routine = record {
     cells = Plain short ∷ Plain short ∷ Plain short ∷ Plain short ∷ Plain short ∷ Plain short ∷ Plain short ∷ Plain short ∷ [];
-    body = then_ (plain_stmt.OfRenew 0 (values 2 []))
-        (then_ (plain_stmt.OfRenew 2 (values 6 []))
+    body = then_ (plain_stmt.OfRenew 0 (values 8 []))
         (then_ (plain_stmt.OfAssign (plain.OfVariable (Own 2) (bounds 2 ∷ bounds 3 ∷ [])
-        (plain.MoreExprs (value 1) (plain.MoreExprs (value 2) plain.NoExprs))) (value 1)) plain_stmt.NoStmts));
+        (plain.MoreExprs (value 1) (plain.MoreExprs (value 2) plain.NoExprs))) (value 1)) plain_stmt.NoStmts);
   };
 } ∷ [])
 unfolding names_of_scopes sorted_names

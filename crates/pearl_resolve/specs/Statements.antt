@@ -19,7 +19,7 @@ use Rattle.pearl_names.specs.Tables.{Parameter}
 use Rattle.pearl_program.specs.PlainExpressions.{PlainExpr, PlainExprs, PlainArguments}
 use Rattle.pearl_program.specs.PlainStatements.{PlainPeriodEnd, OfUntil, OfDuring, PlainPeriod, PlainStart, OfAt, OfAfter, OfWhen, OfWhenAfter, PlainOnce, OnceAt, OnceAfter, OnceWhen, PlainCounter, PlainStmt, OfRenew, OfAssign, OfCallOf, OfIf, OfCase, OfRepeat, OfExit, OfReturn, OfActivate, OfContinue, OfResume, OfSuspend, OfTerminate, OfPrevent, OfRequest, OfRelease, OfEnable, OfDisable, OfTrigger, OfPut, OfGet, OfSend, OfTake, PlainStmts, NoStmts, MoreStmts, PlainBranches, NoBranches, MoreBranches}
 use Rattle.pearl_program.specs.PlainPrograms.{PlainLeaf}
-use Rattle.pearl_resolve.specs.Laying.{leaves_of_sense, slots, left_behind, filled_leaves}
+use Rattle.pearl_resolve.specs.Laying.{leaves_of_sense, slots, left_behind, filled_leaves, merged}
 use Rattle.pearl_resolve.specs.Numbers.{At, counts, loop_cells, entered, after, after_all, after_branches}
 use Rattle.pearl_resolve.specs.Expressions.{Numbered, Meant, meant, number_of, params_of, resolve_expr, resolve_exprs, resolve_arguments, resolve_variable}
 
@@ -116,9 +116,10 @@ abbrev pub joined : PlainStmts → PlainStmts → PlainStmts
 joined NoStmts more = more
 joined (MoreStmts statement rest) more = MoreStmts statement (joined rest more)
 
+-- neighbouring leaves of one kind get them together
 abbrev pub variable_renewals : List ShownConst → Option Meant → PlainStmts
 variable_renewals constants None = NoStmts
-variable_renewals constants (Some thing) = renewals thing.number (filled_leaves [] constants (leaves_of_sense thing.sense))
+variable_renewals constants (Some thing) = renewals thing.number (filled_leaves [] constants (merged (leaves_of_sense thing.sense)))
 
 abbrev pub slots_of_meant : Option Meant → ℕ
 slots_of_meant None = 0

@@ -1,4 +1,6 @@
 mod Formatting
 mod Making
 mod Walking
+mod Merging
 mod Fills
+pub mod Offered

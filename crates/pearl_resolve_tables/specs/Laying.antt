@@ -1,7 +1,8 @@
 -- How a scope's variables lie in leaves and cells, and what their INIT puts into them.
-use Rattle.std.specs.Prelude.{ℕ, ◌-◌, ℤ, pos, neg_ℤ, min, List, [], ◌∷◌, ◌++◌, length, map, take, drop, Option, Some, None, Result, Ok, Err}
+use Rattle.std.specs.Prelude.{ℕ, ◌+◌, ◌-◌, ℤ, pos, neg_ℤ, min, Bool, true, false, ◌==◌, if◌then◌else◌, List, [], ◌∷◌, ◌++◌, length, map, take, drop, Option, Some, None, Result, Ok, Err}
 use Rattle.std.specs.List.{flat_map, sum_by}
 use Rattle.pearl_value.specs.declared.kind.Kind.{Kind}
+use Rattle.pearl_value.specs.declared.kind.Kind.TheVariants as kinds
 use Rattle.pearl_value.specs.declared.cell.Cell.{Cell}
 use Rattle.pearl_value.specs.declared.cell.Cell.TheVariants.{Fixed, Bits, Chars, Clock, Span}
 use Rattle.pearl_value.specs.declared.trap.Trap.{Trap}
@@ -27,6 +28,30 @@ form_of_sense sense = None
 
 abbrev pub slots : List Leaf → ℕ
 slots leaves = sum_by (λ (leaf : Leaf). elements leaf.bounds) leaves
+
+abbrev pub same_kind : Kind → Kind → Bool
+same_kind (kinds.Fixed a) (kinds.Fixed b) = a == b
+same_kind (kinds.Bits a) (kinds.Bits b) = a == b
+same_kind (kinds.Chars a) (kinds.Chars b) = a == b
+same_kind kinds.Clock kinds.Clock = true
+same_kind kinds.Span kinds.Span = true
+same_kind a b = false
+
+-- two leaves of one kind as one, that of an array with the elements of both
+abbrev pub together : Leaf → Leaf → Leaf
+together own leaf =
+    record { path = []; bounds = (pos 0, pos (elements own.bounds + elements leaf.bounds - 1)) ∷ []; kind = own.kind }
+
+-- a leaf and those behind it, where neighbouring ones of one kind are one leaf
+abbrev pub merged_behind : Leaf → List Leaf → List Leaf
+merged_behind own [] = own ∷ []
+merged_behind own (leaf ∷ rest) =
+    if same_kind own.kind leaf.kind then merged_behind (together own leaf) rest else own ∷ merged_behind leaf rest
+
+-- the leaves of a variable, where neighbouring ones of one kind are one leaf
+abbrev pub merged : List Leaf → List Leaf
+merged [] = []
+merged (leaf ∷ rest) = merged_behind leaf rest
 
 -- how many cells a name has in the routine that declares it
 abbrev pub cells_of_sense : Sense → ℕ

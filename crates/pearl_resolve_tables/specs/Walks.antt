@@ -1,6 +1,7 @@
 -- Walks over the leaves of a variable: where names are asked for, the name is made longer on the way down and cut off on
 -- the way up.
-use Rattle.std.specs.Prelude.{◌≡◌, ℕ, ℤ, Bool, true, List, [], ◌∷◌, ◌++◌, length, reverse, Option, Some, None}
+use Rattle.std.specs.Prelude.{◌≡◌, ℕ, ◌+◌, ℤ, Bool, true, false, List, [], ◌∷◌, ◌++◌, length, reverse, Option, Some, None}
+use Rattle.pearl_value.specs.declared.kind.Kind.{Kind}
 use Rattle.pearl_names.specs.declared.types.Elements.{Elements}
 use Rattle.pearl_names.specs.declared.types.StructForm.{StructForm}
 use Rattle.pearl_names.specs.declared.types.TypeRef.{TypeRef}
@@ -11,7 +12,7 @@ use Rattle.pearl_names.specs.Runs.{drop_fields}
 use Rattle.pearl_names.specs.Shapes.{Shape, OfFields, Fields}
 use Rattle.pearl_resolve_tables.specs.declared.walk.Frame.{Frame}
 use Rattle.pearl_resolve_tables.specs.declared.walk.Found.{Found}
-use Rattle.pearl_resolve_tables.specs.Laying.{path_name}
+use Rattle.pearl_resolve_tables.specs.Laying.{slots, merged, path_name}
 
 -- so many elements of a type, behind these names, have these leaves
 pub record HasLeaves (forms : List StructForm) (part : TypeRef) (count : ℕ) (path : List (List ℕ)) (leaves : List Leaf) : Type 0 where
@@ -63,3 +64,14 @@ abbrev pub GoesOn : List StructForm → (asked : Bool) → (base : List ℕ) →
 GoesOn forms asked base None frames text leaves = leaves ≡ []
 GoesOn forms asked base (Some found) frames text leaves =
     (leaf : Leaf) × (rest : List Leaf) × IsFound asked base found text leaf × AllLeft forms asked base frames text rest × (leaves ≡ leaf ∷ rest)
+
+-- a walk without names has gone past leaves with so many elements of one kind, which are the first of the merged ones,
+-- and has come to those behind them
+pub record PassesAlike (forms : List StructForm) (of : Kind) (many : ℕ) (next : Option Found) (frames : List Frame) (text : List ℕ) (leaves : List Leaf) : Type 0 where
+  pub own : Leaf
+  pub rest : List Leaf
+  pub kind : of ≡ own.kind
+  pub count : many ≡ elements own.bounds
+  pub goes : GoesOn forms false [] next frames text rest
+  pub merges : merged leaves ≡ own ∷ merged rest
+  pub counted : slots leaves ≡ many + slots rest

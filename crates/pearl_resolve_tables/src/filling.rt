@@ -1,12 +1,12 @@
 // The leaves of a variable one after the other, each with the constants that are left for it.
 
-ghost use Rattle.std.specs.Prelude.{◌≡◌, ◌+◌, ℕ, [], List, Some, map, IfOk, OnOk};
+ghost use Rattle.std.specs.Prelude.{◌≡◌, ◌↔◌, ◌+◌, ℕ, false, [], List, Some, map, IfOk, OnOk, IsTrue};
 ghost use Rattle.pearl_names.specs.Holding.{HoldsForm};
 ghost use Rattle.pearl_names.specs.Tables as tables;
 ghost use Rattle.pearl_names.specs.Layout.{Leaf, leaves_of};
 ghost use Rattle.pearl_tree.specs.ShownLiterals.{shown_const};
 ghost use Rattle.pearl_resolve_tables.specs.Laying as spec;
-ghost use Rattle.pearl_resolve_tables.specs.Walks.{AllLeft, GoesOn};
+ghost use Rattle.pearl_resolve_tables.specs.Walks.{AllLeft, GoesOn, PassesAlike};
 
 use crate::counts::{all_elements, sum};
 use crate::values::left_behind;
@@ -14,7 +14,17 @@ use crate::walk::{Found, Frame, descend, go_on};
 use pearl_names::sense::Form;
 use pearl_names::types::StructForm;
 use pearl_tree::literal::Const;
+use pearl_value::kind::Kind;
 use std::alloc::{AllocError, Global};
+
+/// More leaves than a variable may have.
+pub(crate) const TOO_MANY: u32 = 65_537;
+
+fn is_same_kind(kind: Kind, other: Kind) -> bool
+    ensures { IsTrue result ↔ (kind ≡ other) }
+{
+    kind == other
+}
 
 /// A walk over the leaves of a variable that has come to one of them, if one is left.
 #[derive(Drop)]
@@ -72,5 +82,27 @@ impl Filling<'_> {
         self.slots = sum(self.slots, found.count)?;
         self.next = go_on(forms, asked, &mut self.name, &mut self.frames)?;
         Ok(())
+    }
+
+    /// Goes past a leaf that the walk has come to and those of its kind next to it, and answers how many slots these have.
+    pub fn pass_alike(&mut self, forms: &[StructForm], found: Found) -> Result<u32, AllocError>
+        ensures slots { IfOk result (λ count. self.new.slots ≡ self.old.slots + count) }
+        ensures passes { IfOk result (λ count. (leaves : List Leaf) → GoesOn forms.now false [] (Some found) self.old.frames.items self.old.name.items leaves →
+            PassesAlike forms.now found.kind count self.new.next self.new.frames.items self.new.name.items leaves) }
+    {
+        let mut count = found.count;
+        self.pass(forms, false, found)?;
+        for _leaf in 0..TOO_MANY {
+            let next = match self.next {
+                Some(next) => next,
+                None => return Ok(count),
+            };
+            if !is_same_kind(next.kind, found.kind) {
+                return Ok(count);
+            }
+            count = sum(count, next.count)?;
+            self.pass(forms, false, next)?;
+        }
+        Err(AllocError)
     }
 }

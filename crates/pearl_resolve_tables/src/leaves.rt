@@ -10,8 +10,8 @@ ghost use Rattle.pearl_program.specs.PlainStatements.{plain_values};
 ghost use Rattle.pearl_tree.specs.ShownLiterals.{shown_const};
 ghost use Rattle.pearl_resolve_tables.specs.Laying as spec;
 
-use crate::filling::Filling;
-use crate::values::first_values;
+use crate::filling::{Filling, TOO_MANY};
+use crate::values::{first_values, left_behind};
 use crate::walk::Found;
 use pearl_names::sense::{Form, Sense};
 use pearl_names::types::StructForm;
@@ -19,9 +19,6 @@ use pearl_program::table::{FirstValues, Leaf};
 use pearl_tree::literal::Const;
 use pearl_value::listing::Listing;
 use std::alloc::{AllocError, Global};
-
-// More leaves than a variable may have.
-const TOO_MANY: u32 = 65_537;
 
 fn leaf_of(
     alloc: Global,
@@ -95,6 +92,7 @@ fn add_form(
     Err(AllocError)
 }
 
+// Adds what neighbouring leaves of one kind hold at first as one.
 fn add_form_values(
     alloc: Global,
     forms: &[StructForm],
@@ -104,19 +102,21 @@ fn add_form_values(
 ) -> Result<u32, AllocError>
     ensures values { OnOk result ((of : tables.Form) → HoldsForm forms.now (Some form.now) (Some of) →
         map plain_values into.new.items ≡ map plain_values into.old.items ++
-        spec.filled_values (map shown_const constants.now) (leaves_of [] of.bounds of.shape)) }
+        spec.filled_values (map shown_const constants.now) (spec.merged (leaves_of [] of.bounds of.shape))) }
     ensures slots { IfOk result (λ count. (of : tables.Form) → HoldsForm forms.now (Some form.now) (Some of) →
         count ≡ spec.slots (leaves_of [] of.bounds of.shape)) }
 {
-    let mut filling = Filling::start(alloc, forms, form, false, &[], constants)?;
+    let mut filling = Filling::start(alloc, forms, form, false, &[], &[])?;
+    let mut left = constants;
     for _leaf in 0..TOO_MANY {
         let found = match filling.next {
             Some(found) => found,
             None => return Ok(filling.slots),
         };
-        let values = first_values(alloc, found.kind, found.count, filling.constants)?;
+        let count = filling.pass_alike(forms, found)?;
+        let values = first_values(alloc, found.kind, count, left)?;
         into.push(values)?;
-        filling.pass(forms, false, found)?;
+        left = left_behind(count, left);
     }
     Err(AllocError)
 }
@@ -147,8 +147,8 @@ pub fn add_leaves(
     }
 }
 
-/// Adds what the leaves hold at first, without their names, as `add_leaves` does: where TYPEs are nested deep, the names
-/// of many leaves would take far more room than the text.
+/// Adds what the leaves hold at first, as `add_leaves` does, but without their names, and of neighbouring leaves of one
+/// kind together: names and texts of many leaves would take far more room than the module's text.
 pub fn add_first_values(
     alloc: Global,
     forms: &[StructForm],
@@ -158,7 +158,7 @@ pub fn add_first_values(
 ) -> Result<u32, AllocError>
     ensures values { OnOk result ((of : tables.Sense) → HoldsSense forms.now sense.now of →
         map plain_values into.new.items ≡ map plain_values into.old.items ++
-        spec.filled_values (map shown_const constants.now) (spec.leaves_of_sense of)) }
+        spec.filled_values (map shown_const constants.now) (spec.merged (spec.leaves_of_sense of))) }
     ensures slots { IfOk result (λ count. (of : tables.Sense) → HoldsSense forms.now sense.now of →
         count ≡ spec.slots (spec.leaves_of_sense of)) }
 {

@@ -28,7 +28,7 @@ use Rattle.pearl_program.specs.PlainStatements.{PlainStmts, NoStmts, MoreStmts}
 use Rattle.pearl_program.specs.PlainPrograms.{PlainLeaf}
 use Rattle.pearl_program.specs.HiddenCells as hiding
 use Rattle.pearl_program.specs.HiddenCells.{run, hidden_in_all, hidden_in_branches}
-use Rattle.pearl_resolve.specs.Laying.{leaves_of_sense, left_behind, filled_leaves}
+use Rattle.pearl_resolve.specs.Laying.{leaves_of_sense, left_behind, filled_leaves, merged}
 use Rattle.pearl_resolve.specs.Numbers.{At, counts, loop_cells, entered, scope_numbers, after, after_all, after_branches, after_otherwise, numbers_in, numbers_in_all, numbers_in_branches, numbers_in_otherwise, routine_start, in_body, after_body, body_numbers}
 use Rattle.pearl_resolve.specs.Expressions.{Numbered, Meant, meant, number_of, resolve_variable}
 use Rattle.pearl_resolve.specs.Cells.{scope_cells, counter_cells, get_cells, cells_in, cells_in_all, cells_in_branches, cells_in_otherwise, routine_cells}
@@ -53,7 +53,7 @@ renewals_none cell (leaf ∷ rest) = renewals_none (cell + leaf.values.count) re
 
 variable_none : (constants : List ShownConst) (thing : Option Meant) → hidden_in_all (variable_renewals constants thing) ≡ []
 variable_none constants None = refl
-variable_none constants (Some thing) = renewals_none thing.number (filled_leaves [] constants (leaves_of_sense thing.sense))
+variable_none constants (Some thing) = renewals_none thing.number (filled_leaves [] constants (merged (leaves_of_sense thing.sense)))
 
 names_none : (numbered : Numbered) (scope : ℕ) (constants : List ShownConst) (names : List Name) →
     hidden_in_all (names_renewals numbered scope constants names) ≡ []

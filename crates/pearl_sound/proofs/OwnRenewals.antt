@@ -25,12 +25,13 @@ use Rattle.pearl_names.specs.Sorts.{sorted_names}
 use Rattle.pearl_names.specs.Tables.{Variable, Control, OwnParameter, NewType, Semaphore, Interrupt, AlphicDation, BasicDation, Task, Procedure, Sense, senses_of, table_of, leaves_in}
 use Rattle.pearl_program.specs.declared.expression.Target.TheVariants as target
 use Rattle.pearl_program.specs.PlainStatements.{PlainStmts, NoStmts, MoreStmts}
-use Rattle.pearl_program.specs.Typing.{Around, AreOwn}
+use Rattle.pearl_program.specs.Typing.{Around, AreOpen, AreOwn}
 use Rattle.pearl_program.specs.SoundStatements.{IsIf, AreStmts}
-use Rattle.pearl_resolve.specs.Laying.{slots, left_behind, filled_leaves, cells_of_sense}
+use Rattle.pearl_resolve.specs.Laying.{slots, left_behind, filled_leaves, merged, cells_of_sense}
 use Rattle.pearl_resolve.specs.Numbers.{own_numbers, senses_at}
 use Rattle.pearl_resolve.specs.Expressions.{Numbered, Meant, meant, meant_at, number_at}
 use Rattle.pearl_resolve.specs.Statements.{joined, renewals, variable_renewals, slots_of_meant, names_renewals, items_renewals, declared_renewals}
+use Rattle.pearl_resolve_tables.proofs.Offered.{merged_slots, merged_count}
 use Rattle.pearl_sound.specs.KnownNames.{IsThereIn}
 use Rattle.pearl_sound.specs.Ready.{AreRightFirst}
 use Rattle.pearl_sound.specs.Stretches.{Stretch, rows_of, AreInARow}
@@ -94,7 +95,11 @@ sense_renewed : (around : Around) (constants : List ShownConst) (sense : Sense) 
     AreRightFirst (variable_renewals constants (Some (thing_of sense scope number))) →
     AreStmts around (variable_renewals constants (Some (thing_of sense scope number)))
 sense_renewed around constants (Variable form inv) scope number held right =
-    leaves_renewed around number [] constants (leaves_in form) held right
+    let leaves = leaves_in form in
+    leaves_renewed around number [] constants (merged leaves) (
+      subst (λ kinds. Lies around.cells (map Plain kinds) number) (sym (merged_slots leaves)) held.0,
+      subst (λ count. AreOpen around.hidden number count) (sym (merged_count leaves)) held.1,
+    ) right
 sense_renewed around constants sense scope number held right = tt
 
 thing_renewed : (around : Around) (constants : List ShownConst) (found : Option Meant) → IsIf (Held around) found →

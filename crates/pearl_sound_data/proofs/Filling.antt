@@ -3,9 +3,8 @@ use Rattle.std.specs.Prelude.{◌≡◌, ℕ, zero, suc, ◌-◌, ℤ, min, Bool
 use Rattle.std.specs.List.{AllByRecursion, flat_map, list_all}
 use Rattle.std.proofs.Common.{refl, ap, ◌∙◌, sym, subst, arith, true≢false}
 use Rattle.std.proofs.Math.Seq.{take-nil, drop-nil}
-use Rattle.std.proofs.lemmas.List.{length-append, length-replicate}
+use Rattle.std.proofs.lemmas.List.{length-replicate}
 use Rattle.std.proofs.lemmas.List.Concat.{flat_map-append}
-use Rattle.std.proofs.lemmas.List.Sums.{sum_by-cons}
 use Rattle.std.proofs.lemmas.Option.{none-some}
 use Rattle.pearl_value.specs.declared.kind.Kind.{Kind}
 use Rattle.pearl_value.specs.declared.cell.Cell.{Cell}
@@ -31,6 +30,7 @@ use Rattle.pearl_scope.proofs.Offered.{fits_where_put}
 use Rattle.pearl_program.specs.PlainPrograms.{PlainLeaf}
 use Rattle.pearl_program.specs.FirstCells.{first_cells}
 use Rattle.pearl_resolve_tables.specs.Laying.{value_of, or_blank, constant_in, values_of_leaf, slots, left_behind, filled_leaves}
+use Rattle.pearl_resolve_tables.proofs.Offered.{slot_count}
 use Rattle.pearl_sound_data.specs.Constants.{IsConstant}
 use Rattle.pearl_resolve.specs.Expressions.{Numbered, meant}
 use Rattle.pearl_resolve.specs.Statements.{slots_of_meant}
@@ -118,15 +118,6 @@ init_fills name constants (leaf ∷ rest) =
     (λ i. leaf_filled constants leaf i ++ init_fills name behind rest i) ∙
     ap (λ n. filled (leaf_slots leaf) constants ++ filled (slots_of rest) (left_behind n constants)) (sym (length-replicate (elements leaf.bounds) leaf.kind)) ∙
     sym (slots_go_on (leaf_slots leaf) (slots_of rest) constants)
-
-pub slot_count : (leaves : List Leaf) → length (slots_of leaves) ≡ slots leaves
-slot_count [] = refl
-slot_count (leaf ∷ rest) =
-    let own = length-append (leaf_slots leaf) (slots_of rest) in
-    let each = length-replicate (elements leaf.bounds) leaf.kind in
-    let more = slot_count rest in
-    let sum = sum_by-cons (λ (leaf : Leaf). elements leaf.bounds) leaf rest in
-    omega (arith, own, each, more, sum)
 
 cells_append : (one two : List PlainLeaf) → flat_map (λ (leaf : PlainLeaf). first_cells leaf.values) (one ++ two) ≡
     flat_map (λ (leaf : PlainLeaf). first_cells leaf.values) one ++ flat_map (λ (leaf : PlainLeaf). first_cells leaf.values) two

@@ -23,7 +23,8 @@ use Rattle.pearl_names.proofs.Offered.{elements_some}
 use Rattle.pearl_scope.specs.Laws.{has_value}
 use Rattle.pearl_program.specs.PlainPrograms.{PlainLeaf}
 use Rattle.pearl_program.specs.SoundStatements.{AreFirst}
-use Rattle.pearl_resolve_tables.specs.Laying.{negative_if, value_of, or_blank, constant_in, values_of_leaf, left_behind, filled_leaves}
+use Rattle.pearl_resolve_tables.specs.Laying.{negative_if, value_of, or_blank, constant_in, values_of_leaf, left_behind, filled_leaves, merged}
+use Rattle.pearl_resolve_tables.proofs.Offered.{merged_kinds}
 use Rattle.pearl_sound_data.specs.Constants.{IsInRange, IsConstant}
 use Rattle.pearl_sound_data.proofs.Faults.{all_dropped}
 
@@ -93,3 +94,7 @@ filled_first name constants (leaf ∷ rest) kinds all = (
   first_values leaf kinds.0 constants all,
   filled_first name (left_behind (elements leaf.bounds) constants) rest kinds.1 (left_constants (elements leaf.bounds) constants all),
 )
+
+pub merged_first : (constants : List ShownConst) (leaves : List Leaf) → AllByRecursion (λ (leaf : Leaf). IsKind leaf.kind) leaves →
+    AllByRecursion IsConstant constants → AllByRecursion (λ (leaf : PlainLeaf). AreFirst leaf.values) (filled_leaves [] constants (merged leaves))
+merged_first constants leaves kinds all = filled_first [] constants (merged leaves) (merged_kinds IsKind leaves kinds) all

@@ -1,7 +1,7 @@
 -- What other crates may cite of this crate's proofs.
 
 -- constants become values of each kind, and the leaves that they are put into have first values
-pub use Rattle.pearl_sound_data.proofs.FirstValues.{left_constants, filled_first}
+pub use Rattle.pearl_sound_data.proofs.FirstValues.{left_constants, merged_first}
 -- the leaves of what names stand for: their kinds have lengths in range, their fields are written in types
 pub use Rattle.pearl_sound_data.proofs.Shapes.{IfThere, SenseHasKinds, table_kinds}
 -- what names mean has what all that is in the table has

@@ -11,12 +11,13 @@ use Rattle.pearl_names.specs.declared.scope.View.TheVariants.{Within}
 use Rattle.pearl_names.specs.Layout.{Leaf, elements, leaf_slots, slots_of}
 use Rattle.pearl_scope.specs.Rules.{slots_of_names}
 use Rattle.pearl_program.specs.PlainStatements.{PlainStmts, NoStmts, MoreStmts}
-use Rattle.pearl_resolve_tables.specs.Laying.{slots, left_behind, filled_leaves}
+use Rattle.pearl_resolve_tables.specs.Laying.{slots, left_behind, filled_leaves, merged}
+use Rattle.pearl_resolve_tables.proofs.Offered.{slot_count, merged_slots}
 use Rattle.pearl_resolve.specs.Expressions.{Numbered, Meant, meant, number_of}
 use Rattle.pearl_resolve.specs.Statements.{joined, names_renewals, renewals, slots_of_meant, variable_renewals}
 use Rattle.pearl_sound_data.specs.Laws.{HasLeaves}
 use Rattle.pearl_sound_data.specs.Filling.{filled, cells_from, renewed, renewed_by}
-use Rattle.pearl_sound_data.proofs.Filling.{leaf_filled, slot_count, slots_go_on}
+use Rattle.pearl_sound_data.proofs.Filling.{leaf_filled, slots_go_on}
 
 filled_long : (kinds : List Kind) (constants : List ShownConst) → length (filled kinds constants) ≡ length kinds
 filled_long [] constants = refl
@@ -57,8 +58,9 @@ variable_renewed numbered scope constants name leaves has =
     let number : has.0.number ≡ number_of numbered (Within scope) name =
     ap (λ found. unwrap_or (option_map (λ (thing : Meant). thing.number) found) 0) (sym has.1) in
     ap (λ found. renewed (variable_renewals constants found)) has.1
-    ∙ ap (λ l. renewed (renewals has.0.number (filled_leaves [] constants l))) has.2
-    ∙ leaves_renewed has.0.number constants leaves
+    ∙ ap (λ l. renewed (renewals has.0.number (filled_leaves [] constants (merged l)))) has.2
+    ∙ leaves_renewed has.0.number constants (merged leaves)
+    ∙ ap (λ kinds. cells_from has.0.number (filled kinds constants)) (merged_slots leaves)
     ∙ ap (λ n. cells_from n (filled (slots_of leaves) constants)) number
 
 renewed_joined : (one two : PlainStmts) → renewed (joined one two) ≡ renewed one ++ renewed two

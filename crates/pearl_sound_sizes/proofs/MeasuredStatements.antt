@@ -32,7 +32,7 @@ use Rattle.pearl_check.specs.Views.{view_of}
 use Rattle.pearl_program.specs.PlainStatements.{PlainStmts, NoStmts, MoreStmts}
 use Rattle.pearl_program.specs.PlainPrograms.{PlainLeaf}
 use Rattle.pearl_program.specs.Weights.{Sizes, of_expr, of_variable, of_exprs, of_arguments, of_if, of_period_end, of_period, of_start, of_once, of_counter, of_variables, greatest, greatest_of_all, greatest_of_branches}
-use Rattle.pearl_resolve.specs.Laying.{leaves_of_sense, left_behind, filled_leaves}
+use Rattle.pearl_resolve.specs.Laying.{leaves_of_sense, left_behind, filled_leaves, merged}
 use Rattle.pearl_resolve.specs.Numbers.{At, counts, loop_cells, entered, after, after_all, after_branches}
 use Rattle.pearl_resolve.specs.Expressions.{Numbered, Meant, meant, number_of, params_of, resolve_expr, resolve_variable}
 use Rattle.pearl_resolve.specs.Statements.{value_in, listed, values_in, arguments_in, or_no_params, period_end_in, period_in, when_in, start_in, start_in_if, period_of, period_of_if, once_in, on_task, on_semaphores, on_interrupt, renewals, joined, variable_renewals, slots_of_meant, names_renewals, items_renewals, declared_renewals, resolve_stmt, resolve_all, resolve_branches, resolve_otherwise}
@@ -199,7 +199,7 @@ module _ (sizes : Sizes) (is : IsMeasure sizes) (numbered : Numbered) where
 
   variable_none : (constants : List ShownConst) (found : Option Meant) → greatest_of_all sizes (variable_renewals constants found) ≡ 0
   variable_none constants None = refl
-  variable_none constants (Some thing) = renewals_none thing.number (filled_leaves [] constants (leaves_of_sense thing.sense))
+  variable_none constants (Some thing) = renewals_none thing.number (filled_leaves [] constants (merged (leaves_of_sense thing.sense)))
 
   names_none : (scope : ℕ) (constants : List ShownConst) (names : List Name) → greatest_of_all sizes (names_renewals numbered scope constants names) ≡ 0
   names_none scope constants [] = refl

@@ -19,11 +19,11 @@ use Rattle.pearl_program.specs.PlainStatements.{PlainStmts, NoStmts, MoreStmts}
 use Rattle.pearl_program.specs.SoundStatements.{AreFirst}
 use Rattle.pearl_system.specs.declared.device.SpecifiedDevice.{SpecifiedDevice}
 use Rattle.pearl_resolve.specs.Expressions.{Numbered, Meant, meant}
-use Rattle.pearl_resolve.specs.Laying.{leaves_of_sense, left_behind, filled_leaves}
+use Rattle.pearl_resolve.specs.Laying.{leaves_of_sense, left_behind, filled_leaves, merged}
 use Rattle.pearl_resolve.specs.Resolve.{numbered_of}
 use Rattle.pearl_resolve.specs.Statements.{joined, renewals, variable_renewals, slots_of_meant, names_renewals, items_renewals, declared_renewals}
 use Rattle.pearl_sound_data.specs.Constants.{IsConstant, ItemHasConstants, BodyDeclHasConstants, HasConstants, AllHaveConstants, BranchesHaveConstants, OtherwiseHasConstants, DeclHasConstants}
-use Rattle.pearl_sound_data.proofs.Offered.{filled_first, left_constants, ThingIs, meant_so, IfThere, SenseHasKinds}
+use Rattle.pearl_sound_data.proofs.Offered.{merged_first, left_constants, ThingIs, meant_so, IfThere, SenseHasKinds}
 use Rattle.pearl_sound_data.proofs.Offered.{table_kinds}
 use Rattle.pearl_sound.specs.Ready.{AreRightFirst, RenewsRight, RoutineRenewsRight}
 use Rattle.pearl_sound.proofs.Offered.{all_append}
@@ -41,7 +41,7 @@ thing_right : (constants : List ShownConst) → AllByRecursion IsConstant consta
 thing_right constants all None kinds = tt
 thing_right constants all (Some thing) kinds =
     let leaves = leaves_of_sense thing.sense in
-    leaves_right thing.number (filled_leaves [] constants leaves) (filled_first [] constants leaves kinds all)
+    leaves_right thing.number (filled_leaves [] constants (merged leaves)) (merged_first constants leaves kinds all)
 
 module _ (tree : ShownTree) (numbers : List (List ℕ)) where
   abbrev numbered : Numbered

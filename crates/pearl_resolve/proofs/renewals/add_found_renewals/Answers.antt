@@ -5,7 +5,7 @@ use Rattle.pearl_program.specs.declared.table.FirstValues.{FirstValues}
 use Rattle.pearl_program.specs.PlainStatements.{plain_stmts, plain_values}
 use Rattle.pearl_resolve.specs.Expressions.{number_at}
 use Rattle.pearl_resolve.specs.Holding.{values_renewals}
-use Rattle.pearl_resolve.specs.Laying.{filled_leaves, filled_values, leaves_of_sense}
+use Rattle.pearl_resolve.specs.Laying.{filled_leaves, filled_values, leaves_of_sense, merged}
 use Rattle.pearl_resolve.specs.Statements.{joined, slots_of_meant, variable_renewals}
 use Rattle.pearl_resolve.proofs.Lookups.{meant_so, meant_nothing}
 use Rattle.pearl_resolve.proofs.Renewing.{leaves_renew}
@@ -25,7 +25,7 @@ returns-in_ok-add_values_renewals-in-Some-clause-renewals c = λ of holds.
     let old = plain_stmts c.args.into.now.items in
     let constants = map shown_const c.args.constants.now in
     let number = c.number_at.ensures ∙ ap (λ n. number_at n c.args.found) holds.numbers in
-    let leaves = leaves_of_sense m.meant in
+    let leaves = merged (leaves_of_sense m.meant) in
     let values = c.in_ok-count-in-Some.ensures.values m.meant held
     ∙ ap (λ (l : List FirstValues). map plain_values l ++ filled_values constants leaves) c.new-values.ensures.items in
     c.in_ok-add_values_renewals-in-Some.ensures
