@@ -4,6 +4,7 @@ use Rattle.std.proofs.Common.{◌≡◌, ℕ, ◌+◌, ◌<◌, ◌≤◌, true,
 use Rattle.pearl_tree.specs.declared.token.Token.{Token}
 use Rattle.pearl_tree.specs.Standing.{Spelling, what_at, SpellsBracketed, SpellsMaybeBracketed, SpellsMaybeHeaded}
 use Rattle.pearl_tree.specs.Standing.{SpellsMaybe, SpellsFlag, SpellsSymbolFlag}
+use Rattle.pearl_tree.specs.Statements.{SpellsMaybeList}
 use Rattle.pearl_parse_expr.specs.Least.{AlikeBefore}
 use Rattle.pearl_parse_expr.proofs.Offered as local
 use Rattle.pearl_parse_expr.proofs.Offered.{Keeps, list_keeps, list_long}
@@ -24,6 +25,11 @@ module _ (tokens others : List Token) (k : ℕ) (alike : AlikeBefore tokens othe
     pub maybe_keeps : Keeps tokens others k 0 (λ tokens. SpellsMaybe (spells tokens))
     maybe_keeps from None to h near = (omega (arith, h), h)
     maybe_keeps from (Some x) to h near = let part = keeps from x to h near in (omega (arith, part.0), part.1)
+
+    pub maybe_list_keeps : Keeps tokens others k 0 (λ tokens. SpellsMaybeList tokens (spells tokens))
+    maybe_list_keeps from [] to h near = (omega (arith, h), h)
+    maybe_list_keeps from (x ∷ xs) to h near =
+        let part = list_keeps tokens others k alike n spells keeps from (x ∷ xs) to h near in (omega (arith, part.0), part.1)
 
     pub bracketed_keeps : Keeps tokens others k (n + 2) (λ tokens. SpellsBracketed tokens (spells tokens))
     bracketed_keeps from xs to h near =
@@ -48,6 +54,11 @@ module _ (tokens others : List Token) (k : ℕ) (alike : AlikeBefore tokens othe
 -- a list has no more parts than tokens
 module _ {X : Type 0} (tokens : List Token) (spells : Spelling X)
     (after : (from : ℕ) (x : X) (to : ℕ) → spells from x to → from + 1 ≤ to) where
+  pub maybe_list_long : (from : ℕ) (xs : List X) (to : ℕ) → SpellsMaybeList tokens spells from xs to →
+      from + length xs ≤ to
+  maybe_list_long from [] to h = omega (arith, h)
+  maybe_list_long from (x ∷ xs) to h = list_long tokens spells after from (x ∷ xs) to h
+
   pub bracketed_long : (from : ℕ) (xs : List X) (to : ℕ) → SpellsBracketed tokens spells from xs to →
       from + length xs ≤ to
   bracketed_long from xs to h = omega (arith, list_long tokens spells after (from + 1) xs h.0 h.2, h.4)

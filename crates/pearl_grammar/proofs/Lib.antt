@@ -10,5 +10,6 @@ mod Leaves
 mod Productions
 mod DeclarationFacts
 mod TypeFacts
+mod Alternatives
 mod StatementFacts
 pub mod Offered

@@ -11,8 +11,8 @@ use Rattle.pearl_tree.specs.declared.symbol.TheConstants as s
 use Rattle.pearl_parse_expr.specs.Least.{AlikeBefore}
 use Rattle.pearl_parse_expr.proofs.Offered as local
 use Rattle.pearl_parse_expr.proofs.Offered.{Keeps, Kept, local_of, each_keeps, list_keeps, IsLocal, token_of, placed_within}
-use Rattle.pearl_grammar.specs.Rules.{First, Second, Part, One, Flag, Sign, Maybe, Each, Listed, Bracketed, MaybeBracketed}
-use Rattle.pearl_grammar.specs.Rules.{MaybeHeaded, Rule, End, Mark, Behind, Then, Or, Value, Held, SpellsPart, Spells}
+use Rattle.pearl_grammar.specs.Rules.{First, Second, Part, One, Flag, Sign, Maybe, Each, Listed, MaybeListed, Bracketed}
+use Rattle.pearl_grammar.specs.Rules.{MaybeBracketed, MaybeHeaded, Rule, End, Mark, Behind, Then, Or, Value, Held, SpellsPart, Spells}
 use Rattle.pearl_grammar.proofs.Rests.{Rest, Ends, Fills, ends_fill, fills_as, fills_token, fills_then}
 use Rattle.pearl_grammar.proofs.Joins as joins
 use Rattle.pearl_grammar.proofs.Tokens.{Kind, AWord, ASymbol, Among, kind_of, is_kind, some_there, what_within, among_first}
@@ -42,6 +42,7 @@ PartFacts (Sign symbol) = Unit {0}
 PartFacts (Maybe part) = PartFacts part
 PartFacts (Each part) = PartFacts part
 PartFacts (Listed part) = PartFacts part
+PartFacts (MaybeListed part) = PartFacts part
 PartFacts (Bracketed part) = PartFacts part
 PartFacts (MaybeBracketed part) = PartFacts part
 PartFacts (MaybeHeaded word part) = PartFacts part
@@ -61,6 +62,7 @@ least_part (Sign symbol) facts = 0
 least_part (Maybe part) facts = 0
 least_part (Each part) facts = 0
 least_part (Listed part) facts = least_part part facts
+least_part (MaybeListed part) facts = 0
 least_part (Bracketed part) facts = least_part part facts + 2
 least_part (MaybeBracketed part) facts = 0
 least_part (MaybeHeaded word part) facts = 0
@@ -79,6 +81,7 @@ fill_part (Sign symbol) facts = 0
 fill_part (Maybe part) facts = 0
 fill_part (Each part) facts = 0
 fill_part (Listed part) facts = fill_part part facts
+fill_part (MaybeListed part) facts = 0
 fill_part (Bracketed part) facts = fill_part part facts + 1 + 1
 fill_part (MaybeBracketed part) facts = 0
 fill_part (MaybeHeaded word part) facts = 0
@@ -97,6 +100,7 @@ firsts_part (Sign symbol) facts = ASymbol symbol ∷ []
 firsts_part (Maybe part) facts = firsts_part part facts
 firsts_part (Each part) facts = firsts_part part facts
 firsts_part (Listed part) facts = firsts_part part facts ++ (ASymbol s.COMMA ∷ [])
+firsts_part (MaybeListed part) facts = firsts_part part facts ++ (ASymbol s.COMMA ∷ [])
 firsts_part (Bracketed part) facts = ASymbol s.LEFT_ROUND ∷ []
 firsts_part (MaybeBracketed part) facts = ASymbol s.LEFT_ROUND ∷ []
 firsts_part (MaybeHeaded word part) facts = AWord word ∷ []
@@ -130,6 +134,8 @@ module _ (tokens others : List Token) (k : ℕ) (alike : AlikeBefore tokens othe
       each_keeps tokens others k alike (least_part part facts) (SpellsPart part) (part_keeps part facts)
   part_keeps (Listed part) facts =
       list_keeps tokens others k alike (least_part part facts) (SpellsPart part) (part_keeps part facts)
+  part_keeps (MaybeListed part) facts =
+      joins.maybe_list_keeps tokens others k alike (least_part part facts) (SpellsPart part) (part_keeps part facts)
   part_keeps (Bracketed part) facts =
       joins.bracketed_keeps tokens others k alike (least_part part facts) (SpellsPart part) (part_keeps part facts)
   part_keeps (MaybeBracketed part) facts =
@@ -219,6 +225,9 @@ part_leads (Each part) facts others from xs to h =
     each_leads others (SpellsPart part) (firsts_part part facts) (part_leads part facts) from xs to h
 part_leads (Listed part) facts others from xs to h =
     list_leads others (SpellsPart part) (firsts_part part facts) (part_leads part facts) from xs to h
+part_leads (MaybeListed part) facts others from [] to h = inl h
+part_leads (MaybeListed part) facts others from (x ∷ xs) to h =
+    list_leads others (SpellsPart part) (firsts_part part facts) (part_leads part facts) from (x ∷ xs) to h
 part_leads (Bracketed part) facts others from xs to h = inr (inl h.1)
 part_leads (MaybeBracketed part) facts others from [] to h = inl h
 part_leads (MaybeBracketed part) facts others from (x ∷ xs) to h = inr (inl h.1)
@@ -286,6 +295,8 @@ part_fills (Maybe part) facts = fills_as 0 Ends ends_fill (LeftPart (Maybe part)
 part_fills (Each part) facts = fills_as 0 Ends ends_fill (LeftPart (Each part)) (λ others k to h. ([], h))
 part_fills (Listed part) facts = fills_as (fill_part part facts) (LeftPart part) (part_fills part facts)
     (LeftPart (Listed part)) (λ others k to h. (h.0 ∷ [], (to, h.1, refl)))
+part_fills (MaybeListed part) facts =
+    fills_as 0 Ends ends_fill (LeftPart (MaybeListed part)) (λ others k to h. ([], h))
 part_fills (Bracketed part) facts =
     fills_token (fill_part part facts + (0 + 1)) (bracketed part)
     (fills_then (SpellsPart part) (part_is_local part facts) (fill_part part facts) (0 + 1)
@@ -320,3 +331,14 @@ rule_fills (Then part rest) facts firm =
     (λ others k to h. ((h.0, h.3.0), (h.1, h.2, h.3.1)))
 rule_fills (Or first second) facts firm = fills_as (fill_of first facts.0) (Left first) (rule_fills first facts.0 firm.0)
     (Left (Or first second)) (λ others k to h. (First h.0, h.1))
+
+-- a rule as one part
+abbrev pub rule_leaf : (rule : Rule) (facts : Facts rule) → IsFirm rule facts → Leaf (Spells rule)
+rule_leaf rule facts firm = record {
+  least = least_of rule facts;
+  kept = λ tokens others k alike. rule_keeps tokens others k alike rule facts firm;
+  fill = fill_of rule facts;
+  fills = rule_fills rule facts firm;
+  firsts = firsts_of rule facts;
+  leads = rule_leads rule facts;
+}

@@ -1,16 +1,23 @@
 -- The tokens that each production spells are those that its definition says.
-use Rattle.std.proofs.Common.{rules, ℕ, ◌+◌, refl, subst}
+use Rattle.std.proofs.Common.{rules, ◌≡◌, ℕ, ◌+◌, List, refl, subst, arith}
+use Rattle.pearl_tree.specs.declared.name.Name.{Name}
+use Rattle.pearl_tree.specs.declared.format.Fmt.{Fmt}
+use Rattle.pearl_tree.specs.declared.token.Token.{Token}
+use Rattle.pearl_tree.specs.declared.symbol.TheConstants as s
+use Rattle.pearl_tree.specs.declared.word_code.TheConstants as w
 use Rattle.pearl_tree.specs.Standing.{SpellsBracketedNumber}
 use Rattle.pearl_tree.specs.Expressions.{SpellsConst}
 use Rattle.pearl_tree.specs.Types.{SpellsNames, SpellsInt, SpellsUpper, SpellsBound, SpellsBounds, SpellsBasic, SpellsField}
 use Rattle.pearl_tree.specs.Declarations.{SpellsDevice, SpellsPrio, SpellsItem, SpellsSema, SpellsDeclared, SpellsClass}
 use Rattle.pearl_tree.specs.Declarations.{SpellsControl, SpellsSpec, SpellsParam}
 use Rattle.pearl_tree.specs.Modules.{SpellsReturns}
-use Rattle.pearl_tree.specs.Standing.{SpellsName, SpellsList}
+use Rattle.pearl_tree.specs.Standing.{HasWord, HasSymbol, IsName, SpellsName, SpellsList}
+use Rattle.pearl_tree.specs.Formats.{SpellsFmt}
+use Rattle.pearl_grammar.specs.Rules.{Spells}
 use Rattle.pearl_tree.specs.Statements.{SpellsAfter, SpellsValue, SpellsPeriodEnd, SpellsPeriod, SpellsStart, SpellsOnce}
 use Rattle.pearl_grammar.specs.Laws.{IsSaid, LengthsAreSaid, TypesAreSaid, VariablesAreSaid, SpecificationsAreSaid, Empties}
 use Rattle.pearl_grammar.specs.Laws.{Exits, Assigns, Calls, Returns, Activates, Continues, Resumes, TasksAreActedOn}
-use Rattle.pearl_grammar.specs.Laws.{SemasAreActedOn, InterruptsAreActedOn, Sends, Takes}
+use Rattle.pearl_grammar.specs.Laws.{SemasAreActedOn, InterruptsAreActedOn, Puts, Gets, Sends, Takes}
 use Rattle.pearl_grammar.specs.Declarations as rule
 use Rattle.pearl_grammar.specs.Statements as statement
 
@@ -130,6 +137,80 @@ on_task_said = search rules
 
 pub on_interrupt_said : InterruptsAreActedOn
 on_interrupt_said = search rules
+
+-- what stands behind TO and FROM
+module _ (tokens : List Token) (a : ℕ) (name : Name) (formats : List Fmt) (to : ℕ) where
+  abbrev Transferred : Type 0
+  Transferred =
+      (b : ℕ) × IsName tokens (a + 1) name × HasWord tokens (a + 2) w.BY ×
+      SpellsList tokens (SpellsFmt tokens) (a + 3) formats b × HasSymbol tokens b s.SEMICOLON × (to ≡ b + 1)
+
+  transfer_parts : Transferred → Spells statement.transfer_rule tokens (a + 1) (name, (formats, tt)) to
+  transfer_parts h =
+      let behind : a + 3 ≡ a + 2 + 1 = omega arith in (
+        a + 2,
+        (h.1, omega arith),
+        (h.2, (h.0, subst (λ k. SpellsList tokens (SpellsFmt tokens) k formats h.0) behind h.3, (h.4, h.5))),
+      )
+
+  transferred : Spells statement.transfer_rule tokens (a + 1) (name, (formats, tt)) to → Transferred
+  transferred h =
+      let word : h.0 ≡ a + 2 = omega (arith, h.1.1) in
+      let behind : h.0 + 1 ≡ a + 3 = omega (arith, h.1.1) in
+      let last = h.2.1 in (
+        last.0,
+        h.1.0,
+        subst (λ k. HasWord tokens k w.BY) word h.2.0,
+        subst (λ k. SpellsList tokens (SpellsFmt tokens) k formats last.0) behind last.1,
+        last.2.0,
+        last.2.1,
+      )
+
+pub put_said : Puts
+put_said depth tokens from x to = (
+  λ h. (
+    h.2,
+    (
+      h.3,
+      (
+        h.0,
+        h.4,
+        (
+          h.5,
+          transfer_parts tokens h.0 x.value.dation x.value.formats.items.items to
+              (h.1, h.6, h.7, h.8, h.9, h.10),
+        ),
+      ),
+    ),
+  ),
+  λ h.
+      let list = h.1.1 in
+      let last = transferred tokens list.0 x.value.dation x.value.formats.items.items to list.2.1 in
+      (list.0, last.0, h.0, h.1.0, list.1, list.2.0, last.1, last.2, last.3, last.4, last.5),
+)
+
+pub get_said : Gets
+get_said depth tokens from x to = (
+  λ h. (
+    h.2,
+    (
+      h.3,
+      (
+        h.0,
+        h.4,
+        (
+          h.5,
+          transfer_parts tokens h.0 x.value.dation x.value.formats.items.items to
+              (h.1, h.6, h.7, h.8, h.9, h.10),
+        ),
+      ),
+    ),
+  ),
+  λ h.
+      let list = h.1.1 in
+      let last = transferred tokens list.0 x.value.dation x.value.formats.items.items to list.2.1 in
+      (list.0, last.0, h.0, h.1.0, list.1, list.2.0, last.1, last.2, last.3, last.4, last.5),
+)
 
 pub send_said : Sends
 send_said = search rules

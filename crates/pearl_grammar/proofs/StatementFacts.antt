@@ -1,5 +1,5 @@
--- The productions of statements that hold no others, but PUT and GET: the facts of their parts, and what follows.
-use Rattle.std.proofs.Common.{◌≡◌, ℕ, zero, suc, ◌+◌, ◌<◌, ◌≤◌, ◌^◌, inl, inr, List, [], ◌∷◌, length, Some, refl, ap}
+-- The productions of statements that hold no others: the facts of their parts, and what follows.
+use Rattle.std.proofs.Common.{◌≡◌, ℕ, zero, suc, ◌+◌, ◌<◌, ◌≤◌, ◌^◌, inl, inr, List, [], ◌∷◌, length, Some, None, refl, ap}
 use Rattle.std.proofs.Common.{◌∙◌, arith}
 use Rattle.std.specs.Option.{option_map}
 use Rattle.pearl_tree.specs.Tokens.{IsLawfulWhat}
@@ -25,25 +25,29 @@ use Rattle.pearl_tree.specs.declared.statement.Start.TheVariants as start_tree
 use Rattle.pearl_tree.specs.declared.statement.Once.{Once}
 use Rattle.pearl_tree.specs.declared.statement.Once.TheVariants as once_tree
 use Rattle.pearl_tree.specs.declared.statement.Stmt.{Stmt, Empty, Exit, Assign, Call, Return, Activate, Continue, Resume, OnTask}
-use Rattle.pearl_tree.specs.declared.statement.Stmt.{OnSemas, OnInterrupt, Send, Take}
-use Rattle.pearl_tree.specs.Standing.{what_at, IsAt}
-use Rattle.pearl_tree.specs.Expressions.{SpellsWhole, SpellsTerms}
+use Rattle.pearl_tree.specs.declared.statement.Stmt.{OnSemas, OnInterrupt, Put, Get, Send, Take}
+use Rattle.pearl_tree.specs.declared.format.FreeCode.TheVariants.{A}
+use Rattle.pearl_tree.specs.declared.format.Fmt.TheVariants.{Free, Wide}
+use Rattle.pearl_tree.specs.Standing.{Spelling, what_at, IsAt, SpellsBracketedNumber}
+use Rattle.pearl_tree.specs.Formats.{free_text, wide_text, SpellsFmt}
+use Rattle.pearl_tree.specs.Expressions.{SpellsWhole, SpellsOwnRef, SpellsTerms}
 use Rattle.pearl_tree.specs.Statements.{task_word, sema_word, interrupt_word, SpellsAfter, SpellsValue, SpellsPeriodEnd}
-use Rattle.pearl_tree.specs.Statements.{SpellsPeriod, SpellsStart, SpellsOnce, SpellsStmt}
+use Rattle.pearl_tree.specs.Statements.{SpellsPeriod, SpellsStart, SpellsOnce, SpellsMaybeList, SpellsStmt}
 use Rattle.pearl_tree.specs.Stops.{BeginAlike}
 use Rattle.pearl_parse_expr.proofs.Offered as local
-use Rattle.pearl_parse_expr.proofs.Offered.{Kept, parts_of, boxed, token_of, after_of, list_long}
+use Rattle.pearl_parse_expr.proofs.Offered.{Kept, parts_of, boxed, token_of, after_of, list_long, letter_token, letter_lawful}
 use Rattle.pearl_grammar.specs.Rules.{First, Second, Rule, Held, Spells, SpellsOneWord}
 use Rattle.pearl_grammar.specs.Laws.{AreSaid}
 use Rattle.pearl_grammar.specs.Reached.{never}
 use Rattle.pearl_grammar.specs.Statements as rule
-use Rattle.pearl_grammar.proofs.Joins.{maybe_bracketed_long}
+use Rattle.pearl_grammar.proofs.Joins.{maybe_keeps, maybe_list_long, maybe_bracketed_long}
 use Rattle.pearl_grammar.proofs.Rests.{Ends, Makes, ends_fill, fills_token}
-use Rattle.pearl_grammar.proofs.Tokens.{AWord, ASymbol, AnyToken, Among, Leads}
+use Rattle.pearl_grammar.proofs.Tokens.{AWord, ASymbol, AnId, AnyToken, Among, Leads}
 use Rattle.pearl_grammar.proofs.RuleFacts.{Left, Leaf, Facts, IsFirm, least_of}
-use Rattle.pearl_grammar.proofs.Walk.{Walk, opened}
+use Rattle.pearl_grammar.proofs.Walk.{Walk}
+use Rattle.pearl_grammar.proofs.Alternatives.{OfKind, of_one_kind}
 use Rattle.pearl_grammar.proofs.Leaves as leaf
-use Rattle.pearl_grammar.proofs.DeclarationFacts.{close_facts}
+use Rattle.pearl_grammar.proofs.DeclarationFacts.{close_facts, bracketed_number}
 use Rattle.pearl_grammar.proofs.Said as said
 use Rattle.pearl_grammar.proofs.Productions as production
 
@@ -206,6 +210,43 @@ becomes = record {
   leads = becomes_leads;
 }
 
+-- ---- items of formats
+
+pub fmt_keeps : Kept 1 SpellsFmt
+fmt_keeps tokens others k alike from (Free code width at) to h near =
+    let rest = maybe_keeps tokens others k alike 3 SpellsBracketedNumber (bracketed_number.kept tokens others k alike)
+    (from + 1) width to h.2 near in
+    let below : from < k = omega (arith, rest.0) in (
+      omega (arith, rest.0),
+      (local.place tokens others k alike from below ∙ h.0, local.what tokens others k alike from below ∙ h.1, rest.1),
+    )
+fmt_keeps tokens others k alike from (Wide code width at) to h near =
+    let rest = bracketed_number.kept tokens others k alike (from + 1) width to h.2 near in
+    let below : from < k = omega (arith, rest.0) in (
+      omega (arith, rest.0),
+      (local.place tokens others k alike from below ∙ h.0, local.what tokens others k alike from below ∙ h.1, rest.1),
+    )
+
+pub fmt_leads : Leads SpellsFmt (AnId ∷ [])
+fmt_leads others from (Free code width at) to h = inr (inl (record { text = record { items = free_text code }; place = at }, h.1))
+fmt_leads others from (Wide code width at) to h = inr (inl (record { text = record { items = wide_text code }; place = at }, h.1))
+
+-- A, where one is missing
+abbrev pub fmt : Leaf SpellsFmt
+fmt = record {
+  least = 1;
+  kept = fmt_keeps;
+  fill = 1;
+  fills = fills_token 0 Ends ends_fill (letter_token 65) (λ others at to. (x : _) × SpellsFmt others at x to)
+      (letter_lawful 65 (inl (omega arith, omega arith)))
+      (λ others k to here h. (
+        Free A None 0,
+        (ap (option_map (λ token. token.place)) here, ap (option_map (λ token. token.what)) here, h),
+      ));
+  firsts = AnId ∷ [];
+  leads = fmt_leads;
+}
+
 -- ---- words
 
 pub of_tasks : (x : TaskWord) → Among (AWord w.SUSPEND ∷ AWord w.TERMINATE ∷ AWord w.PREVENT ∷ [])
@@ -236,7 +277,11 @@ interrupt = leaf.one_word interrupt_word Enable (omega arith) (AWord w.ENABLE �
 
 -- ---- statements
 
--- where each statement that begins as the tokens do is of one kind, its reader begins
+-- a reader of statements of one kind begins
+abbrev pub Starts : {X : Type 0} → (X → Stmt) → (rule : Rule) → Facts rule → Type 0
+Starts kind rule facts = (depth : ℕ) → production.Start 24 (OfKind (λ tokens. SpellsStmt tokens depth) kind) rule facts
+
+-- where each statement that begins as the tokens do is of one kind, a reader of statements begins so
 abbrev pub Begins : {X : Type 0} → (X → Stmt) → (rule : Rule) → Facts rule → Type 0
 Begins {X} kind rule facts =
     (depth : ℕ) (tokens : List Token) (from : ℕ) → from ≤ length tokens → length tokens < 2 ^ 55 →
@@ -252,22 +297,23 @@ module _ {X : Type 0} (kind : X → Stmt) (rule : Rule) (parts : X → Held rule
       (are_said depth) facts firm tokens others k alike from x to h near in
       (omega (arith, kept.0, solid), kept.1)
 
-  pub kind_begins : ((depth : ℕ) → Makes (λ tokens from x to. SpellsStmt tokens depth from (kind x) to) (Left rule)) →
-      Begins kind rule facts
-  kind_begins makes depth tokens from within few only =
-      opened {rule = rule} {facts = facts} firm
-      (λ others from to small h. let made = makes depth others from to small h in (kind made.0, made.1))
-      (λ others agree a to h.
-      let one = only others agree a to h in
-      production.parted (λ tokens from x to. SpellsStmt tokens depth from (kind x) to) rule parts (are_said depth) facts firm
-      others from one.0 to one.1) within (omega arith) (omega arith) few (omega arith)
+  pub kind_starts : ((depth : ℕ) → Makes (OfKind (λ tokens. SpellsStmt tokens depth) kind) (Left rule)) →
+      Starts kind rule facts
+  kind_starts makes depth = production.starts (OfKind (λ tokens. SpellsStmt tokens depth) kind) rule parts (are_said depth)
+      facts firm 24 (omega arith) (makes depth)
 
   -- where any places and parts make one
+  pub whole_kind_starts : (tree : Held rule → X) → ((h : Held rule) → parts (tree h) ≡ h) → Starts kind rule facts
+  whole_kind_starts tree same depth = production.whole_starts (OfKind (λ tokens. SpellsStmt tokens depth) kind) rule parts
+      (are_said depth) facts firm tree same 24 (omega arith)
+
+  pub kind_begins : ((depth : ℕ) → Makes (OfKind (λ tokens. SpellsStmt tokens depth) kind) (Left rule)) →
+      Begins kind rule facts
+  kind_begins makes depth tokens from within few only = of_one_kind kind (kind_starts makes depth tokens from within few) only
+
   pub whole_kind_begins : (tree : Held rule → X) → ((h : Held rule) → parts (tree h) ≡ h) → Begins kind rule facts
-  whole_kind_begins tree same =
-      kind_begins (λ depth others from to small h.
-      production.joined (λ tokens from x to. SpellsStmt tokens depth from (kind x) to) rule parts (are_said depth) facts firm
-      tree same others from to h)
+  whole_kind_begins tree same depth tokens from within few only =
+      of_one_kind kind (whole_kind_starts tree same depth tokens from within few) only
 
 abbrev pub station_facts : Facts rule.station
 station_facts = (leaf.id, close_facts)
@@ -295,12 +341,30 @@ pub assign_keeps : (depth : ℕ) → Kept 1 (λ tokens from x to. SpellsStmt tok
 assign_keeps = kind_keeps Assign rule.assign_rule (λ x. rule.assign_parts x.value) said.assign_said assign_facts
     (omega arith, tt) (omega arith)
 
+pub assign_starts : Starts Assign rule.assign_rule assign_facts
+assign_starts = whole_kind_starts Assign rule.assign_rule (λ x. rule.assign_parts x.value) said.assign_said assign_facts
+    (omega arith, tt) (λ h. boxed (record { target = h.1.0; value = h.1.1.1.0; place = h.0 })) (λ h. refl)
+
 abbrev pub call_facts : Facts rule.call_rule
 call_facts = (tt, (leaf.id, (expression, close_facts)))
 
 pub call_keeps : (depth : ℕ) → Kept 1 (λ tokens from x to. SpellsStmt tokens depth from (Call x) to)
 call_keeps = kind_keeps Call rule.call_rule (λ x. rule.call_parts x.value) said.call_said call_facts (omega arith, tt)
     (omega arith)
+
+pub call_starts : Starts Call rule.call_rule call_facts
+call_starts = kind_starts Call rule.call_rule (λ x. rule.call_parts x.value) said.call_said call_facts (omega arith, tt)
+    (λ depth others from to small h.
+    let arguments = h.1.1.2.2 in
+    let few : length h.0.1.1.1.0 < 2 ^ 63 = omega (
+      arith,
+      maybe_bracketed_long others _ (after_of 1 _ (leaf.expr_keeps limit.BRACKETS_MAX) others) h.1.1.2.0 h.0.1.1.1.0
+          arguments.0 arguments.1,
+      arguments.2.1,
+      small,
+    ) in
+    let part = boxed (record { call = h.0.1.0; name = h.0.1.1.0; arguments = parts_of h.0.1.1.1.0 few; place = h.0.0 }) in
+    (part, (said.call_said depth others from part to).1 h.1))
 
 abbrev pub return_facts : Facts rule.return_rule
 return_facts = (omega arith, (value, close_facts))
@@ -377,6 +441,68 @@ pub on_interrupt_begins : Begins OnInterrupt rule.on_interrupt_rule on_interrupt
 on_interrupt_begins = whole_kind_begins OnInterrupt rule.on_interrupt_rule (λ x. rule.on_interrupt_parts x.value)
     said.on_interrupt_said on_interrupt_facts (omega arith, tt)
     (λ h. boxed (record { word = h.1.0; name = h.1.1.0; place = h.0 })) (λ h. refl)
+
+abbrev pub transfer_facts : Facts rule.transfer_rule
+transfer_facts = (leaf.id, (omega arith, (fmt, close_facts)))
+
+-- a list that may be missing, and one of formats behind it, have room in a tree
+few_transfers : {X : Type 0} (spells : List Token → Spelling X) → Kept 1 spells → (others : List Token) (from : ℕ)
+    (xs : List X) (m : ℕ) → SpellsMaybeList others (spells others) from xs m → (x : Held rule.transfer_rule) (to : ℕ) →
+    Spells rule.transfer_rule others (m + 1) x to → to < 2 ^ 63 → (length xs < 2 ^ 63) × (length x.1.0 < 2 ^ 63)
+few_transfers spells kept others from xs m h x to g small =
+    let formats = list_long others (SpellsFmt others) (after_of 1 SpellsFmt fmt_keeps others) (g.0 + 1) x.1.0 g.2.1.0 g.2.1.1 in (
+      omega (
+        arith,
+        maybe_list_long others (spells others) (after_of 1 spells kept others) from xs m h,
+        g.1.1,
+        formats,
+        g.2.1.2.1,
+        small,
+      ),
+      omega (arith, formats, g.2.1.2.1, small),
+    )
+
+abbrev pub put_facts : Facts rule.put_rule
+put_facts = (omega arith, (expression, (omega arith, transfer_facts)))
+
+pub put_keeps : (depth : ℕ) → Kept 1 (λ tokens from x to. SpellsStmt tokens depth from (Put x) to)
+put_keeps = kind_keeps Put rule.put_rule (λ x. rule.put_parts x.value) said.put_said put_facts (omega arith, tt)
+    (omega arith)
+
+pub put_begins : Begins Put rule.put_rule put_facts
+put_begins = kind_begins Put rule.put_rule (λ x. rule.put_parts x.value) said.put_said put_facts (omega arith, tt)
+    (λ depth others from to small h.
+    let list = h.1.1.1 in
+    let few = few_transfers SpellsWhole (leaf.expr_keeps limit.BRACKETS_MAX) others (from + 1) h.0.1.0 list.0 list.1 h.0.1.1
+    to list.2.1 small in
+    let part = boxed (record {
+      values = parts_of h.0.1.0 few.0;
+      dation = h.0.1.1.0;
+      formats = parts_of h.0.1.1.1.0 few.1;
+      place = h.0.0;
+    }) in
+    (part, (said.put_said depth others from part to).1 h.1))
+
+abbrev pub get_facts : Facts rule.get_rule
+get_facts = (omega arith, (leaf.own_reference, (omega arith, transfer_facts)))
+
+pub get_keeps : (depth : ℕ) → Kept 1 (λ tokens from x to. SpellsStmt tokens depth from (Get x) to)
+get_keeps = kind_keeps Get rule.get_rule (λ x. rule.get_parts x.value) said.get_said get_facts (omega arith, tt)
+    (omega arith)
+
+pub get_begins : Begins Get rule.get_rule get_facts
+get_begins = kind_begins Get rule.get_rule (λ x. rule.get_parts x.value) said.get_said get_facts (omega arith, tt)
+    (λ depth others from to small h.
+    let list = h.1.1.1 in
+    let few = few_transfers SpellsOwnRef leaf.own_ref_keeps others (from + 1) h.0.1.0 list.0 list.1 h.0.1.1 to list.2.1
+    small in
+    let part = boxed (record {
+      targets = parts_of h.0.1.0 few.0;
+      dation = h.0.1.1.0;
+      formats = parts_of h.0.1.1.1.0 few.1;
+      place = h.0.0;
+    }) in
+    (part, (said.get_said depth others from part to).1 h.1))
 
 abbrev pub send_facts : Facts rule.send_rule
 send_facts = (omega arith, (expression, (omega arith, station_facts)))

@@ -4,12 +4,12 @@ use Rattle.std.proofs.Common.{◌≡◌, ℕ, ◌+◌, ◌<◌, ◌≤◌, ◌�
 use Rattle.std.proofs.Common.{Some, Ok, Err, refl, sym, subst, ap, ◌∙◌, arith}
 use Rattle.pearl_tree.specs.declared.token.What.{What}
 use Rattle.pearl_tree.specs.declared.token.Token.{Token}
-use Rattle.pearl_tree.specs.Standing.{Spelling, what_at, HasSymbol, SpellsSymbolFlag}
+use Rattle.pearl_tree.specs.Standing.{Spelling, what_at, HasSymbol, SpellsFlag, SpellsSymbolFlag}
 use Rattle.pearl_tree.specs.declared.token.What.TheVariants as what
 use Rattle.pearl_parse_expr.specs.declared.reading.Halt.{Halt}
 use Rattle.pearl_parse_expr.specs.declared.reading.Halt.TheVariants.{Refused, NoMemory}
 use Rattle.pearl_parse_expr.specs.declared.reading.Reading.{Reading}
-use Rattle.pearl_parse_expr.specs.Stops.{IsLongest, IsHalted, EndsEarly, is_symbol}
+use Rattle.pearl_parse_expr.specs.Stops.{IsLongest, IsHalted, EndsEarly, is_symbol, is_word}
 use Rattle.pearl_parse_expr.specs.Least.{GoesIn, HaltsIn}
 use Rattle.pearl_parse_expr.specs.Reads.{ReadsOnlyAs, ReadsAs, ReadsMaybe, Reads, ReadsOnly, ReadsList, ReadsOnlyList}
 use Rattle.pearl_parse_expr.specs.Reads.{ReadsMaybeList}
@@ -90,6 +90,25 @@ took_symbol {inner} {symbol} {tokens} {at} {low} {new} here there itself is with
     by others stands false to h = inr
         (omega (arith, h), subst (λ k. is_symbol symbol (what_at others k) ≡ true) (sym h) (ap (is_symbol symbol) stands ∙ itself))
 
+-- a word that may be missing: it stands there, or doesn't
+pub took_flag : {inner word : ℕ} {tokens : List Token} {at low end new : ℕ} (stands : Bool) →
+    is_word word (what_at tokens at) ≡ stands → SpellsFlag tokens word at stands end → at ≤ end → end ≤ length tokens →
+    is_word word (Some (what.Word word)) ≡ true → new ≡ max end low → low ≤ length tokens →
+    Took inner (λ tokens. SpellsFlag tokens word) (is_word word) tokens at low stands end new
+took_flag {inner} {word} {tokens} {at} {low} {end} {new} stands here spelled ahead inside itself is within =
+    took {extends = is_word word} end new spelled (λ others agree y to h.
+    by others stands spelled (ap (is_word word) (sym (agree at ahead)) ∙ here) y to h) (omega (arith, ahead, inside))
+    (record { goes = inl refl }) is within
+  where
+    by : (others : List Token) (stands : Bool) → SpellsFlag tokens word at stands end →
+        is_word word (what_at others at) ≡ stands → (y : Bool) (to : ℕ) → SpellsFlag others word at y to →
+        (to ≡ end) ⊎ EndsEarly (is_word word) others end to
+    by others false told there false to h = inl (h ∙ sym told)
+    by others false told there true to h = absurd (clash _ (ap (is_word word) h.0 ∙ itself) there)
+    by others true told there false to h = inr
+        (omega (arith, h, told.1), subst (λ k. is_word word (what_at others k) ≡ true) (sym h) there)
+    by others true told there true to h = inl (h.1 ∙ sym told.1)
+
 -- ---- parts that were not read
 
 module _ {Y : Type 0} {inner : ℕ} {spells : List Token → Spelling Y} {tokens : List Token} {at low : ℕ} where
@@ -108,13 +127,13 @@ module _ {Y : Type 0} {inner : ℕ} {spells : List Token → Spelling Y} {tokens
         least = (k, refused.1, refused.2, least, refl);
       })
 
-  -- where what stands before it was told a token later, but none that is its own
+  -- where what stands before it was told another token, and neither is behind the first of its own
   pub lacks_past : (before : ℕ) (halt result : Halt) → IsHalted spells tokens at halt → HaltsIn inner spells tokens at halt →
-      result ≡ behind halt before → low ≤ before → before ≤ max low at → low ≤ length tokens →
+      result ≡ behind halt before → max before at ≡ max low at → low ≤ length tokens →
       Lacks inner spells tokens at low result
-  lacks_past before NoMemory result refused least is above below within = lacks NoMemory result refused least is within
-  lacks_past before (Refused k) result refused least is above below within =
-      let same : max k before ≡ max k low = omega (arith, above, below, refused.1) in
+  lacks_past before NoMemory result refused least is before_it within = lacks NoMemory result refused least is within
+  lacks_past before (Refused k) result refused least is before_it within =
+      let same : max k before ≡ max k low = omega (arith, before_it, refused.1) in
       lacks (Refused k) result refused least (is ∙ ap Refused same) within
 
   -- nothing before it was stopped behind it

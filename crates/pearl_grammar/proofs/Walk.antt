@@ -13,7 +13,7 @@ use Rattle.pearl_parse_expr.specs.Stops.{IsLongest, EndsEarly, StopsWithin}
 use Rattle.pearl_parse_expr.specs.Least.{AlikeBefore, ReachesIn}
 use Rattle.pearl_parse_expr.proofs.Offered as local
 use Rattle.pearl_parse_expr.proofs.Offered.{clash, shorter, order, or_first, or_second, placed_within}
-use Rattle.pearl_grammar.specs.Rules.{First, Second, Part, One, Rule, Mark, Behind, Then, Or, Value, Held, SpellsPart}
+use Rattle.pearl_grammar.specs.Rules.{First, Second, Part, One, Rule, End, Mark, Behind, Then, Or, Value, Held, SpellsPart}
 use Rattle.pearl_grammar.specs.Rules.{Spells}
 use Rattle.pearl_grammar.specs.Reached.{GoesBehind, HaltsBehind, IsStopped, never}
 use Rattle.pearl_grammar.proofs.Rests.{Rest, Next, Makes}
@@ -21,7 +21,7 @@ use Rattle.pearl_grammar.proofs.States.{State}
 use Rattle.pearl_grammar.proofs.States as states
 use Rattle.pearl_grammar.proofs.Tokens.{Among, AllAnswer, answers}
 use Rattle.pearl_grammar.proofs.RuleFacts.{Left, Facts, IsFirm, least_of, fill_of, firsts_of}
-use Rattle.pearl_grammar.proofs.RuleFacts.{part_is_local, rule_fills, rule_leads, rule_begins, rule_stands}
+use Rattle.pearl_grammar.proofs.RuleFacts.{part_is_local, rule_fills, rule_leads, rule_begins, rule_stands, rule_leaf}
 
 pub record Walk {X : Type 0} (room : ℕ) (whole : List Token → Spelling X) (tokens : List Token) (from low : ℕ)
     (rule : Rule) (facts : Facts rule) (early : Option What → Bool) (at stop : ℕ) : Type 0 where
@@ -167,6 +167,21 @@ module _ {X : Type 0} {room : ℕ} {whole : List Token → Spelling X} {tokens :
         near = a.near;
         inside = a.inside;
       })
+
+  -- what is left, as one part
+  pub as_one : {rule : Rule} {facts : Facts rule} {at stop : ℕ}
+      (a : Walk room whole tokens from low rule facts early at stop) →
+      Walk room whole tokens from low (Then (One (Held rule) (Spells rule)) End) (rule_leaf rule facts a.firm, tt) early at stop
+  as_one {rule} {facts} {at} {stop} a = record {
+    goes = λ others agree x to h. later early others at at to (omega arith) (λ g. ((g.0, tt), (to, g.1, refl)))
+        (a.goes others agree x to h);
+    level = state_as room whole tokens from low (Left rule) (Left (Then (One (Held rule) (Spells rule)) End)) at at stop stop
+        a.level (omega arith) a.level.inside (inl refl)
+        (λ others alike end h. (h.0.0, subst (λ k. Spells rule others at h.0.0 k) (sym h.1.2) h.1.1));
+    firm = tt;
+    near = a.near;
+    inside = a.inside;
+  }
 
   -- ---- a part
 

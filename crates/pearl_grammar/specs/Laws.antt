@@ -14,7 +14,7 @@ use Rattle.pearl_grammar.specs.Declarations as declaration
 use Rattle.pearl_tree.specs.declared.token.Token.{Token}
 use Rattle.pearl_tree.specs.Standing.{Spelling}
 use Rattle.pearl_tree.specs.declared.statement.Stmt.{Stmt, Empty, Exit, Assign, Call, Return, Activate, Continue, Resume, OnTask}
-use Rattle.pearl_tree.specs.declared.statement.Stmt.{OnSemas, OnInterrupt, Send, Take}
+use Rattle.pearl_tree.specs.declared.statement.Stmt.{OnSemas, OnInterrupt, Put, Get, Send, Take}
 use Rattle.pearl_tree.specs.Statements.{SpellsStmt}
 use Rattle.pearl_grammar.specs.Rules.{Rule, Held, Spells}
 use Rattle.pearl_grammar.specs.Statements as rule
@@ -45,7 +45,7 @@ SpecificationsAreSaid = (specs : Parts Spec) (place : ℕ) (tokens : List Token)
     SpellsDecl tokens from (decl.Specify specs place) to ↔
     Spells declaration.specify_rule tokens from (place, (specs.items.items, tt)) to
 
--- ---- statements that hold no others, but PUT and GET, however many of those that do stand around them
+-- ---- statements that hold no others, however many of those that do stand around them
 
 -- statements of one kind
 abbrev pub AreSaid : {X : Type 0} → (X → Stmt) → (rule : Rule) → (X → Held rule) → Type 0
@@ -83,6 +83,12 @@ SemasAreActedOn = AreSaid OnSemas rule.on_semas_rule (λ part. rule.on_semas_par
 
 abbrev pub InterruptsAreActedOn : Type 0
 InterruptsAreActedOn = AreSaid OnInterrupt rule.on_interrupt_rule (λ part. rule.on_interrupt_parts part.value)
+
+abbrev pub Puts : Type 0
+Puts = AreSaid Put rule.put_rule (λ part. rule.put_parts part.value)
+
+abbrev pub Gets : Type 0
+Gets = AreSaid Get rule.get_rule (λ part. rule.get_parts part.value)
 
 abbrev pub Sends : Type 0
 Sends = AreSaid Send rule.send_rule (λ part. rule.send_parts part.value)

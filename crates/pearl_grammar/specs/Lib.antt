@@ -2,7 +2,7 @@
 pub mod Rules
 -- the productions of names, bounds, types and declarations without a body
 pub mod Declarations
--- the productions of statements that hold no others, but PUT and GET
+-- the productions of statements that hold no others
 pub mod Statements
 -- what holds of productions: what each spells is what the definition of its part says
 pub mod Laws

@@ -6,6 +6,7 @@ use Rattle.pearl_tree.specs.declared.token.What.TheVariants as what
 use Rattle.pearl_tree.specs.declared.token.Token.{Token}
 use Rattle.pearl_tree.specs.Standing.{Spelling, what_at, IsAt, HasWord, SpellsEach, SpellsList, SpellsBracketed}
 use Rattle.pearl_tree.specs.Standing.{SpellsMaybeBracketed, SpellsMaybeHeaded, SpellsMaybe, SpellsFlag, SpellsSymbolFlag}
+use Rattle.pearl_tree.specs.Statements.{SpellsMaybeList}
 
 -- one of two
 pub data Choice (A B : Type 0) : Type 0 where
@@ -25,6 +26,8 @@ pub data Part : Type 1 where
   Each : (part : Part) → Part
   -- part { "," part }
   Listed : (part : Part) → Part
+  -- [ part { "," part } ]
+  MaybeListed : (part : Part) → Part
   -- "(" part { "," part } ")"
   Bracketed : (part : Part) → Part
   -- [ "(" part { "," part } ")" ]
@@ -52,6 +55,7 @@ Value (Sign symbol) = Bool
 Value (Maybe part) = Option (Value part)
 Value (Each part) = List (Value part)
 Value (Listed part) = List (Value part)
+Value (MaybeListed part) = List (Value part)
 Value (Bracketed part) = List (Value part)
 Value (MaybeBracketed part) = List (Value part)
 Value (MaybeHeaded word part) = List (Value part)
@@ -71,6 +75,7 @@ SpellsPart (Sign symbol) tokens from x to = SpellsSymbolFlag tokens symbol from 
 SpellsPart (Maybe part) tokens from x to = SpellsMaybe (SpellsPart part tokens) from x to
 SpellsPart (Each part) tokens from x to = SpellsEach (SpellsPart part tokens) from x to
 SpellsPart (Listed part) tokens from x to = SpellsList tokens (SpellsPart part tokens) from x to
+SpellsPart (MaybeListed part) tokens from x to = SpellsMaybeList tokens (SpellsPart part tokens) from x to
 SpellsPart (Bracketed part) tokens from x to = SpellsBracketed tokens (SpellsPart part tokens) from x to
 SpellsPart (MaybeBracketed part) tokens from x to = SpellsMaybeBracketed tokens (SpellsPart part tokens) from x to
 SpellsPart (MaybeHeaded word part) tokens from x to = SpellsMaybeHeaded tokens word (SpellsPart part tokens) from x to

@@ -1,4 +1,4 @@
--- The productions of statements that hold no others, but PUT and GET, and how a tree holds their parts.
+-- The productions of statements that hold no others, and how a tree holds their parts.
 use Rattle.std.specs.Prelude.{◌≡◌, ℕ, ◌+◌, List}
 use Rattle.pearl_tree.specs.declared.token.Token.{Token}
 use Rattle.pearl_tree.specs.declared.statement.PeriodEnd.{PeriodEnd}
@@ -15,6 +15,7 @@ use Rattle.pearl_tree.specs.declared.statement.Continue.{Continue}
 use Rattle.pearl_tree.specs.declared.statement.Resume.{Resume}
 use Rattle.pearl_tree.specs.declared.expression.Expr.{Expr}
 use Rattle.pearl_tree.specs.declared.expression.Ref.{Ref}
+use Rattle.pearl_tree.specs.declared.format.Fmt.{Fmt}
 use Rattle.pearl_tree.specs.declared.statement.TaskWord.{TaskWord}
 use Rattle.pearl_tree.specs.declared.statement.SemaWord.{SemaWord}
 use Rattle.pearl_tree.specs.declared.statement.InterruptWord.{InterruptWord}
@@ -22,15 +23,18 @@ use Rattle.pearl_tree.specs.declared.statement.OnTask.{OnTask}
 use Rattle.pearl_tree.specs.declared.statement.OnSemas.{OnSemas}
 use Rattle.pearl_tree.specs.declared.statement.OnInterrupt.{OnInterrupt}
 use Rattle.pearl_tree.specs.declared.statement.Return.{Return}
+use Rattle.pearl_tree.specs.declared.statement.Put.{Put}
+use Rattle.pearl_tree.specs.declared.statement.Get.{Get}
 use Rattle.pearl_tree.specs.declared.statement.Send.{Send}
 use Rattle.pearl_tree.specs.declared.statement.Take.{Take}
 use Rattle.pearl_tree.specs.Expressions.{SpellsWhole, SpellsOwnRef}
 use Rattle.pearl_tree.specs.Standing.{Spelling}
+use Rattle.pearl_tree.specs.Formats.{SpellsFmt}
 use Rattle.pearl_tree.specs.Statements.{task_word, sema_word, interrupt_word, SpellsValue, SpellsAfter, SpellsPeriodEnd}
 use Rattle.pearl_tree.specs.Statements.{SpellsPeriod, SpellsStart, SpellsOnce, HasBecomes}
 use Rattle.pearl_tree.specs.declared.symbol.TheConstants as s
 use Rattle.pearl_tree.specs.declared.word_code.TheConstants as w
-use Rattle.pearl_grammar.specs.Rules.{First, Second, Part, One, Flag, Maybe, Listed, MaybeBracketed, Rule, End, Mark, Then, Or, Held}
+use Rattle.pearl_grammar.specs.Rules.{First, Second, Part, One, Flag, Maybe, Listed, MaybeListed, MaybeBracketed, Rule, End, Mark, Then, Or, Held}
 use Rattle.pearl_grammar.specs.Rules.{word, symbol, SpellsOneWord}
 use Rattle.pearl_grammar.specs.Declarations.{id, close}
 
@@ -39,6 +43,9 @@ expression = One Expr SpellsWhole
 
 abbrev pub reference : Part
 reference = One Ref SpellsOwnRef
+
+abbrev pub fmt : Part
+fmt = One Fmt SpellsFmt
 
 abbrev pub after : ℕ → Part
 after code = One Expr (λ tokens. SpellsAfter tokens code)
@@ -177,6 +184,24 @@ on_interrupt_rule = Mark (Then (One InterruptWord (SpellsOneWord interrupt_word)
 
 abbrev pub on_interrupt_parts : OnInterrupt → Held on_interrupt_rule
 on_interrupt_parts x = (x.place, (x.word, (x.name, tt)))
+
+-- id BY fmt { "," fmt } ";"
+abbrev pub transfer_rule : Rule
+transfer_rule = Then id (word w.BY (Then (Listed fmt) close))
+
+-- PUT [ expr { "," expr } ] TO id BY fmt { "," fmt } ";"
+abbrev pub put_rule : Rule
+put_rule = Mark (word w.PUT (Then (MaybeListed expression) (word w.TO transfer_rule)))
+
+abbrev pub put_parts : Put → Held put_rule
+put_parts x = (x.place, (x.values.items.items, (x.dation, (x.formats.items.items, tt))))
+
+-- GET [ ref { "," ref } ] FROM id BY fmt { "," fmt } ";"
+abbrev pub get_rule : Rule
+get_rule = Mark (word w.GET (Then (MaybeListed reference) (word w.FROM transfer_rule)))
+
+abbrev pub get_parts : Get → Held get_rule
+get_parts x = (x.place, (x.targets.items.items, (x.dation, (x.formats.items.items, tt))))
 
 -- SEND expr TO id ";"
 abbrev pub send_rule : Rule

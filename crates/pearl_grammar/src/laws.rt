@@ -9,7 +9,7 @@ ghost use Rattle.pearl_grammar.specs.Declarations as rules;
 ghost use Rattle.std.specs.Prelude.{ℕ};
 ghost use Rattle.pearl_grammar.specs.Laws.{IsSaid, LengthsAreSaid, TypesAreSaid, VariablesAreSaid, SpecificationsAreSaid};
 ghost use Rattle.pearl_grammar.specs.Laws.{Exits, TasksAreActedOn, SemasAreActedOn, InterruptsAreActedOn, Sends, Takes, Returns};
-ghost use Rattle.pearl_grammar.specs.Laws.{Empties, Assigns, Calls, Activates, Continues, Resumes};
+ghost use Rattle.pearl_grammar.specs.Laws.{Empties, Assigns, Calls, Activates, Continues, Resumes, Puts, Gets};
 ghost use Rattle.pearl_tree.specs.Statements as statements;
 ghost use Rattle.pearl_grammar.specs.Statements as parts;
 
@@ -70,12 +70,14 @@ pub fn times_are_said()
     ensures once { IsSaid statements.SpellsOnce parts.once_rule parts.once_parts }
 {}
 
-/// Those of statements that hold no others do, but PUT and GET, which have none.
+/// Those of statements that hold no others do.
 pub fn statements_are_said()
     ensures exit { Exits }
     ensures on_task { TasksAreActedOn }
     ensures on_semas { SemasAreActedOn }
     ensures on_interrupt { InterruptsAreActedOn }
+    ensures put { Puts }
+    ensures get { Gets }
     ensures send { Sends }
     ensures take { Takes }
     ensures return_ { Returns }

@@ -4,10 +4,9 @@ mod Along
 mod Starts
 mod Repetitions
 mod StatementRests
-mod Before
-mod TransferRests
-mod CallRests
-mod Arguments
+mod Unless
+mod Transfers
+mod Named
 mod ScheduleRests
 mod Activations
 mod TaskingRests
@@ -34,11 +33,9 @@ mod Tails
 mod StatementLeast
 mod Beginnings
 mod States
-mod CallLeast
 mod ScheduleLeast
 mod LoopLeast
 mod Closings
-mod TransferLeast
 mod RepeatedLeast
 mod NestedLeast
 mod Stands
@@ -46,9 +43,7 @@ mod EachReads
 mod NestedReads
 mod LoopReads
 mod BlockReads
-mod TransferReads
 mod TaskingReads
-mod CallReads
 mod DeclarationReads
 mod DeclarationLeast
 mod SystemLeast

@@ -1,55 +1,20 @@
 -- Which tokens the parts of statements depend on that are read for themselves: those before their end alone.
-use Rattle.std.proofs.Common.{◌≡◌, ℕ, ◌+◌, ◌<◌, List, ◌∙◌, arith}
+use Rattle.std.proofs.Common.{◌≡◌, ℕ, ◌<◌, List, ◌∙◌, arith}
 use Rattle.pearl_tree.specs.declared.token.Token.{Token}
-use Rattle.pearl_tree.specs.Standing.{Spelling, what_at, SpellsMaybe}
-use Rattle.pearl_tree.specs.Expressions.{SpellsWhole}
-use Rattle.pearl_tree.specs.Formats.{SpellsFmt}
+use Rattle.pearl_tree.specs.Standing.{what_at, SpellsMaybe}
 use Rattle.pearl_tree.specs.Statements.{SpellsAfter, SpellsFor, SpellsBodyDecl, SpellsStmt}
 use Rattle.pearl_tree.specs.declared.word_code.TheConstants as w
 use Rattle.pearl_parse_expr.specs.Least.{AlikeBefore}
 use Rattle.pearl_parse_expr.proofs.Offered as local
 use Rattle.pearl_parse_decl.proofs.Offered.{Keeps}
 use Rattle.pearl_parse_decl.proofs.Offered as offered
-use Rattle.pearl_parse.specs.Stops.{SpellsBefore, SpellsFormats, SpellsStation}
-use Rattle.pearl_parse.specs.Calls.{SpellsArguments}
 use Rattle.pearl_parse.specs.Bodies.{SpellsStatements, SpellsInner, SpellsCondition, SpellsHeads}
-use Rattle.pearl_parse.proofs.LocalStatements.{after_keeps, maybe_list_keeps, for_keeps, body_declaration_keeps}
+use Rattle.pearl_parse.proofs.LocalStatements.{after_keeps, for_keeps, body_declaration_keeps}
 use Rattle.pearl_parse.proofs.LocalStatements.{stmt_keeps}
 
 module _ (tokens others : List Token) (k : ℕ) (alike : AlikeBefore tokens others k) where
   what : (j : ℕ) → j < k → what_at others j ≡ what_at tokens j
   what = local.what tokens others k alike
-
-  pub before_keeps : {X : Type 0} (word : ℕ) (spells : List Token → Spelling X) → Keeps tokens others k 1 spells →
-      Keeps tokens others k 1 (SpellsBefore word spells)
-  before_keeps word spells keeps from xs to h near =
-      let list = maybe_list_keeps tokens others k alike spells keeps from xs h.0 h.1 (omega (arith, h.3)) in
-      (omega (arith, list.0, h.3), (h.0, list.1, what h.0 (omega (arith, h.3)) ∙ h.2, h.3))
-
-  pub formats_keep : Keeps tokens others k 2 SpellsFormats
-  formats_keep from xs to h near =
-      let list = offered.list_keeps tokens others k alike 1 SpellsFmt (offered.fmt_keeps tokens others k alike) from
-      xs h.0 h.1 (omega (arith, h.3)) in
-      (omega (arith, list.0, h.3), (h.0, list.1, what h.0 (omega (arith, h.3)) ∙ h.2, h.3))
-
-  pub station_keeps : Keeps tokens others k 4 SpellsStation
-  station_keeps from x to h near =
-      let formats = formats_keep (from + 2) x.1 to h.2 near in
-      let below : from + 1 < k = omega (arith, formats.0) in (
-        omega (arith, formats.0),
-        (
-          local.name tokens others k alike from x.0 (omega arith) h.0,
-          what (from + 1) below ∙
-              h.1,
-          formats.1,
-        ),
-      )
-
-  pub arguments_keep : Keeps tokens others k 1 SpellsArguments
-  arguments_keep from xs to h near =
-      let list = offered.maybe_bracketed_keeps tokens others k alike 1 SpellsWhole
-      (offered.whole_keeps tokens others k alike) from xs h.0 h.1 (omega (arith, h.3)) in
-      (omega (arith, list.0, h.3), (h.0, list.1, what h.0 (omega (arith, h.3)) ∙ h.2, h.3))
 
   pub condition_keeps : Keeps tokens others k 3 SpellsCondition
   condition_keeps from x to h near =

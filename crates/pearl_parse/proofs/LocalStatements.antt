@@ -1,5 +1,5 @@
 -- Which tokens schedules, statements and bodies depend on: those before their end alone.
-use Rattle.std.proofs.Common.{◌≡◌, ℕ, ◌+◌, ◌-◌, ◌<◌, ◌≤◌, List, [], ◌∷◌, ◌∙◌, arith}
+use Rattle.std.proofs.Common.{◌≡◌, ℕ, ◌+◌, ◌-◌, ◌<◌, ◌≤◌, List, ◌∙◌, arith}
 use Rattle.pearl_tree.specs.declared.name.Name.{Name}
 use Rattle.pearl_tree.specs.declared.statement.Body.{Body}
 use Rattle.pearl_tree.specs.declared.statement.Stmt.{Stmt, Empty, Assign, Call, If', Case', Repeat', Exit, Begin'}
@@ -11,12 +11,10 @@ use Rattle.pearl_tree.specs.declared.statement.Case as case_
 use Rattle.pearl_tree.specs.declared.statement.Case.{Row_of-Branch, end_of-Branch, more_of-Branch}
 use Rattle.pearl_tree.specs.declared.token.Token.{Token}
 use Rattle.pearl_tree.specs.declared.limit.TheConstants as limit
-use Rattle.pearl_tree.specs.Standing.{Spelling, what_at, place_at, IsName, SpellsMaybe, SpellsEach}
-use Rattle.pearl_tree.specs.Standing.{SpellsList}
-use Rattle.pearl_tree.specs.Expressions.{SpellsWhole, SpellsOwnRef}
-use Rattle.pearl_tree.specs.Formats.{SpellsFmt}
+use Rattle.pearl_tree.specs.Standing.{what_at, place_at, IsName, SpellsMaybe, SpellsEach}
+use Rattle.pearl_tree.specs.Expressions.{SpellsWhole}
 use Rattle.pearl_tree.specs.Declarations.{SpellsItem}
-use Rattle.pearl_tree.specs.Statements.{SpellsAfter, SpellsFor, SpellsMaybeList}
+use Rattle.pearl_tree.specs.Statements.{SpellsAfter, SpellsFor}
 use Rattle.pearl_tree.specs.Statements.{SpellsPeriodEnd, SpellsPeriod, SpellsStart, SpellsOnce, SpellsBodyDecl}
 use Rattle.pearl_tree.specs.Statements.{SpellsStmt, SpellsStmts, SpellsAlternatives, SpellsMoreAlternatives}
 use Rattle.pearl_tree.specs.Statements.{SpellsOtherwise, SpellsBranch, SpellsBody, SpellsWholeBody}
@@ -40,12 +38,6 @@ module _ (tokens others : List Token) (k : ℕ) (alike : AlikeBefore tokens othe
   whole_keeps : Keeps tokens others k 1 SpellsWhole
   whole_keeps = offered.whole_keeps tokens others k alike
 
-  own_ref_keeps : Keeps tokens others k 1 SpellsOwnRef
-  own_ref_keeps = offered.own_ref_keeps tokens others k alike
-
-  formats_keep : Keeps tokens others k 1 (λ tokens. SpellsList tokens (SpellsFmt tokens))
-  formats_keep = offered.list_keeps tokens others k alike 1 SpellsFmt (offered.fmt_keeps tokens others k alike)
-
   -- ---- parts of statements
 
   pub after_keeps : (word : ℕ) → Keeps tokens others k 2 (λ tokens. SpellsAfter tokens word)
@@ -60,13 +52,6 @@ module _ (tokens others : List Token) (k : ℕ) (alike : AlikeBefore tokens othe
   for_keeps from x to h near =
       let below : from + 1 < k = omega (arith, h.2) in
       (omega (arith, h.2), (what from (omega arith) ∙ h.0, name (from + 1) x below h.1, h.2))
-
-  pub maybe_list_keeps : {X : Type 0} (spells : List Token → Spelling X) → Keeps tokens others k 1 spells →
-      Keeps tokens others k 0 (λ tokens. SpellsMaybeList tokens (spells tokens))
-  maybe_list_keeps spells keeps from [] to h near = (omega (arith, h), h)
-  maybe_list_keeps spells keeps from (x ∷ xs) to h near =
-      let part = offered.list_keeps tokens others k alike 1 spells keeps from (x ∷ xs) to h near in
-      (omega (arith, part.0), part.1)
 
   pub period_end_keeps : Keeps tokens others k 2 SpellsPeriodEnd
   period_end_keeps = by_rule.period_end.kept tokens others k alike
@@ -216,50 +201,8 @@ module _ (tokens others : List Token) (k : ℕ) (alike : AlikeBefore tokens othe
         near
     stmt_keeps depth from (OnInterrupt part) to h near = by_rule.on_interrupt_keeps depth tokens others k alike from
         part to h near
-    stmt_keeps depth from (Put part) to h near =
-        let below : h.1 < k = omega (arith, h.10) in
-        let formats = formats_keep (h.0 + 3) part.value.formats.items.items h.1 h.8 (omega arith) in
-        let within : h.0 + 3 < h.1 = omega (arith, formats.0) in
-        let values = maybe_list_keeps SpellsWhole whole_keeps (from + 1) part.value.values.items.items h.0 h.4
-        (omega arith) in
-        let behind : from < h.0 = omega (arith, values.0) in (
-          omega (arith, h.10),
-          (
-            h.0,
-            h.1,
-            place from (omega arith) ∙ h.2,
-            what from (omega arith) ∙ h.3,
-            values.1,
-            what h.0 (omega arith) ∙ h.5,
-            name (h.0 + 1) part.value.dation (omega arith) h.6,
-            what (h.0 + 2) (omega arith) ∙ h.7,
-            formats.1,
-            what h.1 below ∙ h.9,
-            h.10,
-          ),
-        )
-    stmt_keeps depth from (Get part) to h near =
-        let below : h.1 < k = omega (arith, h.10) in
-        let formats = formats_keep (h.0 + 3) part.value.formats.items.items h.1 h.8 (omega arith) in
-        let within : h.0 + 3 < h.1 = omega (arith, formats.0) in
-        let targets = maybe_list_keeps SpellsOwnRef own_ref_keeps (from + 1) part.value.targets.items.items h.0 h.4
-        (omega arith) in
-        let behind : from < h.0 = omega (arith, targets.0) in (
-          omega (arith, h.10),
-          (
-            h.0,
-            h.1,
-            place from (omega arith) ∙ h.2,
-            what from (omega arith) ∙ h.3,
-            targets.1,
-            what h.0 (omega arith) ∙ h.5,
-            name (h.0 + 1) part.value.dation (omega arith) h.6,
-            what (h.0 + 2) (omega arith) ∙ h.7,
-            formats.1,
-            what h.1 below ∙ h.9,
-            h.10,
-          ),
-        )
+    stmt_keeps depth from (Put part) to h near = by_rule.put_keeps depth tokens others k alike from part to h near
+    stmt_keeps depth from (Get part) to h near = by_rule.get_keeps depth tokens others k alike from part to h near
     stmt_keeps depth from (Send part) to h near = by_rule.send_keeps depth tokens others k alike from part to h near
     stmt_keeps depth from (Take part) to h near = by_rule.take_keeps depth tokens others k alike from part to h near
 

@@ -1,25 +1,19 @@
 -- How a reader goes on behind a part that it read: what is left of the whole, told in both ways, and how the whole ends
 -- with its last part or with a semicolon.
-use Rattle.std.proofs.Common.{◌≡◌, ℕ, ◌+◌, ◌*◌, ◌<◌, ◌≤◌, max, List, length, Result, Ok, ap, arith}
+use Rattle.std.proofs.Common.{◌≡◌, ℕ, ◌+◌, ◌*◌, ◌≤◌, List, length, Result, Ok, arith}
 use Rattle.std.specs.Result.{IsErr, IsErrAnd}
 use Rattle.pearl_tree.specs.declared.token.Token.{Token}
-use Rattle.pearl_tree.specs.Standing.{Spelling, HasSymbol}
-use Rattle.pearl_tree.specs.declared.symbol.TheConstants as s
+use Rattle.pearl_tree.specs.Standing.{Spelling}
 use Rattle.pearl_parse_expr.specs.declared.reading.Halt.{Halt}
 use Rattle.pearl_parse_expr.specs.declared.reading.Reading.{Reading}
-use Rattle.pearl_parse_expr.specs.Stops.{IsOnly, is_symbol}
+use Rattle.pearl_parse_expr.specs.Stops.{IsOnly}
 use Rattle.pearl_parse_expr.specs.Least.{GoesIn}
 use Rattle.pearl_parse_expr.specs.Reads.{ReadsOnly}
 use Rattle.pearl_parse_expr.proofs.Offered.{IsLocal}
 use Rattle.pearl_grammar.specs.Reached.{IsStopped, HaltsBehind}
-use Rattle.pearl_parse.specs.Stops.{IsMissing}
 use Rattle.pearl_parse.specs.Reads.{ReadsOnlyBehind}
 use Rattle.pearl_grammar.proofs.Offered.{Rest, Ends, Next, ends_fill, State, past_part, halt_part, done, goes_in_told}
-use Rattle.pearl_parse.proofs.Steps.{Goes, past_only, missing, no_part, ends}
-use Rattle.pearl_parse.proofs.StatementRests.{exit_rest}
-use Rattle.pearl_parse.proofs.Made.{semicolon}
-use Rattle.pearl_parse.proofs.Tails.{semicolon_fills}
-use Rattle.pearl_parse.proofs.States.{past_symbol, halt_token}
+use Rattle.pearl_parse.proofs.Steps.{Goes, past_only, no_part}
 use Rattle.pearl_parse.proofs.Unread.{unread}
 
 -- from number `at` on, no earlier than `first`, whatever begins as the whole does goes on by `rest`, and what `made`
@@ -62,27 +56,3 @@ module _ {X : Type 0} (room : ℕ) (whole : List Token → Spelling X) (tokens :
           (past_part room whole tokens from 0 0 inner some Ends is_local ends_fill (omega arith) at stop fits a.level y
           x.end x.stop h (omega (arith, read.bounds)) (omega (arith, read.bounds)) read.least)
           (omega (arith, read.bounds)))
-
-  -- before the semicolon with which the whole ends
-  module _ (few : 1 ≤ room) (a : Stands room whole tokens from 0 first exit_rest semicolon at stop) where
-    pub no_semicolon : {R : Halt → Type 0} (halt : Halt) (result : Result (Reading X) Halt) →
-        IsErr result × IsErrAnd result R → ((e : Halt) → R e → e ≡ halt) →
-        IsMissing tokens (is_symbol s.SEMICOLON) at stop halt → ReadsOnly room whole tokens from result
-    no_semicolon {R} halt result h step absent =
-        unread room whole tokens from R halt result h step
-        (missing whole tokens from (is_symbol s.SEMICOLON) exit_rest at stop at halt a.goes
-        (λ others to h. ap (is_symbol s.SEMICOLON) h.0) a.near a.level.inside a.inside absent)
-        (halt_token room whole tokens from 0 1 semicolon semicolon_fills few (is_symbol s.SEMICOLON) at stop halt
-        a.level absent)
-
-    module _ (new : ℕ) (is : new ≡ max stop (at + 1)) where
-      pub semicolon_is_only : IsOnly whole tokens from (at + 1) new
-      semicolon_is_only = ends whole tokens from exit_rest at stop new (at + 1) a.goes (omega (arith, is))
-          (λ others to h. h.1)
-
-      pub semicolon_goes : HasSymbol tokens at s.SEMICOLON → at < length tokens →
-          GoesIn room whole tokens from (at + 1) new
-      semicolon_goes here within =
-          goes_in_told room whole tokens from 0 (omega arith) (at + 1) new (omega (arith, a.level.near))
-          (done room whole tokens from 0 (at + 1) stop new
-          (past_symbol room whole tokens from 0 s.SEMICOLON Ends at stop (at + 1) (omega arith) a.level here within) is)

@@ -1,5 +1,5 @@
 -- Where the readers of statements that hold no others begin: behind the first word.
-use Rattle.std.proofs.Common.{◌≡◌, ℕ, ◌+◌, ◌<◌, ◌^◌, List, length, Some, Ok, T, eqb, refl, sym, ◌∙◌, arith}
+use Rattle.std.proofs.Common.{◌≡◌, ℕ, ◌+◌, ◌<◌, ◌^◌, List, length, Some, Vec, Ok, T, eqb, ap, refl, sym, ◌∙◌, arith}
 use Rattle.pearl_tree.specs.declared.expression.Expr.{Expr}
 use Rattle.pearl_tree.specs.declared.expression.Ref.{Ref}
 use Rattle.pearl_tree.specs.declared.statement.TaskWord.{TaskWord}
@@ -8,15 +8,15 @@ use Rattle.pearl_tree.specs.declared.statement.SemaWord.{SemaWord}
 use Rattle.pearl_tree.specs.declared.statement.SemaWord.TheVariants.{Request, Release}
 use Rattle.pearl_tree.specs.declared.statement.InterruptWord.{InterruptWord}
 use Rattle.pearl_tree.specs.declared.statement.InterruptWord.TheVariants.{Enable, Disable, Trigger}
-use Rattle.pearl_tree.specs.declared.statement.Stmt.{Stmt, Exit, Return, OnTask, OnSemas, OnInterrupt, Send, Take}
+use Rattle.pearl_tree.specs.declared.statement.Stmt.{Stmt, Exit, Return, OnTask, OnSemas, OnInterrupt, Put, Get, Send, Take}
 use Rattle.pearl_tree.specs.declared.token.What.TheVariants as what
 use Rattle.pearl_tree.specs.declared.token.Token.{Token}
 use Rattle.pearl_tree.specs.Standing.{HasWord}
 use Rattle.pearl_tree.specs.Stops.{BeginAlike}
 use Rattle.pearl_tree.specs.Statements.{SpellsStmt, SpellsValue, task_word, sema_word, interrupt_word}
 use Rattle.pearl_tree.specs.declared.word_code.TheConstants as w
-use Rattle.pearl_tree.proofs.Offered.{group_of}
-use Rattle.pearl_grammar.specs.Rules.{One, Maybe, Listed, Rule, Then, word}
+use Rattle.pearl_tree.proofs.Offered.{group_of, no_expr_at}
+use Rattle.pearl_grammar.specs.Rules.{One, Maybe, Listed, MaybeListed, Rule, Then, word}
 use Rattle.pearl_grammar.specs.Declarations.{id, close}
 use Rattle.pearl_grammar.specs.Reached.{never}
 use Rattle.pearl_grammar.specs.Statements as rule
@@ -24,14 +24,16 @@ use Rattle.pearl_grammar.proofs.Offered.{Facts, Walk, mark_read, token_read, one
 use Rattle.pearl_grammar.proofs.Offered.{return_facts}
 use Rattle.pearl_grammar.proofs.Offered.{return_begins, on_task_facts, on_task_begins, on_semas_facts, on_semas_begins}
 use Rattle.pearl_grammar.proofs.Offered.{on_interrupt_facts, on_interrupt_begins, send_facts, send_begins, take_facts}
-use Rattle.pearl_grammar.proofs.Offered.{take_begins}
+use Rattle.pearl_grammar.proofs.Offered.{take_begins, put_facts, put_begins, get_facts, get_begins}
 use Rattle.pearl_tree.specs.Expressions.{SpellsWhole, SpellsOwnRef}
 use Rattle.pearl_parse_expr.specs.declared.reading.Reading.{Reading}
-use Rattle.pearl_parse_expr.specs.Stops.{extends_expression, extends_operand}
+use Rattle.pearl_parse_expr.specs.Stops.{extends_expression, extends_operand, is_name}
 use Rattle.pearl_parse_expr.specs.Reads.{Reads}
 use Rattle.pearl_grammar.proofs.Offered.{part_read, took_longest}
-use Rattle.pearl_parse.specs.Reads.{ReadsBehind}
+use Rattle.pearl_parse.specs.Reads.{ReadsBehind, ReadsUnless}
+use Rattle.pearl_parse_expr.proofs.Offered.{clash}
 use Rattle.pearl_parse.proofs.Along.{took_behind}
+use Rattle.pearl_parse.proofs.Unless.{took_unless}
 use Rattle.pearl_parse.proofs.ByFirst.{group, of_kind}
 
 -- each statement of this kind, as first tokens tell kinds, is made so
@@ -59,6 +61,14 @@ pub on_interrupts : AllOf OnInterrupt 12
 on_interrupts others depth from (OnInterrupt part) to e h = (part, h)
 on_interrupts others depth from a to e h = absurd e
 
+pub puts : AllOf Put 13
+puts others depth from (Put part) to e h = (part, h)
+puts others depth from a to e h = absurd e
+
+pub gets : AllOf Get 14
+gets others depth from (Get part) to e h = (part, h)
+gets others depth from a to e h = absurd e
+
 pub sends : AllOf Send 15
 sends others depth from (Send part) to e h = (part, h)
 sends others depth from a to e h = absurd e
@@ -66,6 +76,14 @@ sends others depth from a to e h = absurd e
 pub takes : AllOf Take 16
 takes others depth from (Take part) to e h = (part, h)
 takes others depth from a to e h = absurd e
+
+-- no expression begins with TO
+no_value : (tokens : List Token) (from : ℕ) (x : Expr) (to : ℕ) → HasWord tokens from w.TO →
+    SpellsWhole tokens from x to → ⊥
+no_value tokens from x to here h =
+    no_expr_at tokens from w.TO here refl (λ e. absurd (omega (arith, e))) (λ e. absurd (omega (arith, e)))
+    (λ e. absurd (omega (arith, e)))
+    (λ e. absurd (omega (arith, e))) x to h
 
 kind_of_task : (word : TaskWord) → group_of (what.Word (task_word word)) ≡ Some 10
 kind_of_task Suspend = refl
@@ -125,6 +143,18 @@ module _ (tokens : List Token) (depth from : ℕ) (inside : from < length tokens
       (begun OnInterrupt 12 (interrupt_word word) on_interrupts (kind_of_interrupt word) here))) (λ others k x to h.
       h.1) refl (here, refl) inside
 
+  pub put_begun : HasWord tokens from w.PUT →
+      At (Then (MaybeListed rule.expression) (word w.TO rule.transfer_rule)) put_facts.1 (from + 1) from
+  put_begun here =
+      token_read (mark_read (put_begins depth tokens from (omega arith) few (begun Put 13 w.PUT puts refl here)))
+      refl here inside
+
+  pub get_begun : HasWord tokens from w.GET →
+      At (Then (MaybeListed rule.reference) (word w.FROM rule.transfer_rule)) get_facts.1 (from + 1) from
+  get_begun here =
+      token_read (mark_read (get_begins depth tokens from (omega arith) few (begun Get 14 w.GET gets refl here)))
+      refl here inside
+
   pub send_begun : HasWord tokens from w.SEND →
       At (Then rule.expression (word w.TO rule.station)) send_facts.1 (from + 1) from
   send_begun here =
@@ -152,3 +182,20 @@ module _ (tokens : List Token) (depth from : ℕ) (inside : from < length tokens
       part_read (take_begun here) (took_longest {new = x.stop} read (omega (arith, read.ahead)) (omega arith))
       (refl, tt)
       (omega arith) (omega arith) (omega arith)
+
+  -- PUT [ expr { "," expr } ]
+  pub past_put : HasWord tokens from w.PUT → {A : Type 0} {x : Reading (Vec Expr A)} →
+      ReadsUnless w.TO SpellsWhole extends_expression tokens (from + 1) (Ok x) →
+      At (word w.TO rule.transfer_rule) put_facts.1.1 x.end x.stop
+  past_put here {A} {x} read =
+      part_read (put_begun here) (took_unless {new = x.stop} (λ others at x to here h. no_value others at x to here h) read
+      (omega (arith, read.bounds)) (omega arith)) (refl, tt) (omega arith) (omega arith) (omega arith)
+
+  -- GET [ ref { "," ref } ]
+  pub past_got : HasWord tokens from w.GET → {A : Type 0} {x : Reading (Vec Ref A)} →
+      ReadsUnless w.FROM SpellsOwnRef extends_operand tokens (from + 1) (Ok x) →
+      At (word w.FROM rule.transfer_rule) get_facts.1.1 x.end x.stop
+  past_got here {A} {x} read =
+      part_read (get_begun here) (took_unless {new = x.stop} (λ others at x to here h. clash _ (ap is_name h.1.0)
+      (ap is_name here)) read (omega (arith, read.bounds)) (omega arith)) (refl, tt) (omega arith) (omega arith)
+      (omega arith)

@@ -2,33 +2,19 @@
 use Rattle.std.proofs.Common.{◌≡◌, ℕ, ◌+◌, ◌<◌, ◌^◌, max, List, length, arith}
 use Rattle.pearl_tree.specs.declared.name.Name.{Name}
 use Rattle.pearl_tree.specs.declared.token.Token.{Token}
-use Rattle.pearl_tree.specs.Standing.{HasWord, HasSymbol, IsName, SpellsName}
-use Rattle.pearl_tree.specs.Expressions.{SpellsWhole, SpellsOwnRef}
-use Rattle.pearl_tree.specs.Statements.{HasBecomes}
+use Rattle.pearl_tree.specs.Standing.{HasSymbol, IsName, SpellsName}
 use Rattle.pearl_tree.specs.declared.symbol.TheConstants as s
-use Rattle.pearl_tree.specs.declared.word_code.TheConstants as w
 use Rattle.pearl_parse_expr.specs.declared.reading.Halt.{Halt}
 use Rattle.pearl_parse_expr.specs.Stops.{is_symbol, is_name}
 use Rattle.pearl_parse_expr.specs.Least.{GoesIn}
-use Rattle.pearl_parse_decl.proofs.Offered.{local_of, whole_keeps, own_ref_keeps}
-use Rattle.pearl_parse_expr.proofs.Offered.{IsLocal}
-use Rattle.pearl_parse.specs.Stops.{IsMissing, SpellsBefore, SpellsStation}
+use Rattle.pearl_parse.specs.Stops.{IsMissing}
 use Rattle.pearl_grammar.specs.Reached.{HaltsBehind}
-use Rattle.pearl_parse.specs.Calls.{SpellsArguments}
 use Rattle.pearl_grammar.proofs.Offered.{Rest, Ends, Next, Makes, State, first, done, goes_in_told}
 use Rattle.pearl_parse.proofs.StatementRests.{Spelled}
-use Rattle.pearl_parse.proofs.Comes.{Behind, BehindWord}
-use Rattle.pearl_parse.proofs.Made as made
 use Rattle.pearl_parse.proofs.Made.{semicolon}
 use Rattle.pearl_parse.proofs.Tails.{semicolon_fills, name_fills}
-use Rattle.pearl_parse.proofs.States.{past_word, past_symbol, past_name}
+use Rattle.pearl_parse.proofs.States.{past_symbol, past_name}
 use Rattle.pearl_parse.proofs.States.{halt_token}
-
-pub expr_is_local : IsLocal SpellsWhole
-expr_is_local = local_of 1 SpellsWhole whole_keeps
-
-pub ref_is_local : IsLocal SpellsOwnRef
-ref_is_local = local_of 1 SpellsOwnRef own_ref_keeps
 
 module _ (tokens : List Token) (depth from : ℕ) (inside : from < length tokens) (few : length tokens < 2 ^ 55) where
   abbrev pub Statement : Rest → ℕ → ℕ → Type 0
@@ -37,30 +23,6 @@ module _ (tokens : List Token) (depth from : ℕ) (inside : from < length tokens
   pub by_rule : (rest : Rest) → Makes (Spelled depth) rest → Statement rest from from
   by_rule rest makes = first 24 (Spelled depth) tokens from 0 rest from from makes (omega arith) (omega arith)
       (omega arith) (omega arith) few
-
-  by_word : (word : ℕ) (rest : Rest) → Makes (Spelled depth) (BehindWord word rest) → HasWord tokens from word →
-      Statement rest (from + 1) from
-  by_word word rest makes here =
-      past_word 24 (Spelled depth) tokens from 0 word rest from from (from + 1) (omega arith)
-      (by_rule (BehindWord word rest) makes) here inside
-
-  pub call_begun : HasWord tokens from w.CALL → Statement (Next SpellsName (Next SpellsArguments Ends)) (from + 1) from
-  call_begun = by_word w.CALL (Next SpellsName (Next SpellsArguments Ends)) (made.call_made depth)
-
-  pub named_call_begun : Statement (Next SpellsName (Next SpellsArguments Ends)) from from
-  named_call_begun = by_rule (Next SpellsName (Next SpellsArguments Ends)) (made.named_call_made depth)
-
-  pub assignment_begun : Statement (Next SpellsOwnRef (Behind HasBecomes (Next SpellsWhole semicolon))) from from
-  assignment_begun = by_rule (Next SpellsOwnRef (Behind HasBecomes (Next SpellsWhole semicolon)))
-      (made.assignment_made depth)
-
-  pub put_begun : HasWord tokens from w.PUT →
-      Statement (Next (SpellsBefore w.TO SpellsWhole) (Next SpellsStation Ends)) (from + 1) from
-  put_begun = by_word w.PUT (Next (SpellsBefore w.TO SpellsWhole) (Next SpellsStation Ends)) (made.put_made depth)
-
-  pub get_begun : HasWord tokens from w.GET → Statement (Next (SpellsBefore w.FROM SpellsOwnRef)
-      (Next SpellsStation Ends)) (from + 1) from
-  get_begun = by_word w.GET (Next (SpellsBefore w.FROM SpellsOwnRef) (Next SpellsStation Ends)) (made.get_made depth)
 
 -- ---- how they end
 

@@ -11,29 +11,19 @@ use Rattle.pearl_tree.specs.Statements.{SpellsAfter}
 use Rattle.pearl_parse_expr.specs.declared.reading.Halt.{Halt}
 use Rattle.pearl_parse_expr.specs.declared.reading.Halt.TheVariants.{Refused, NoMemory}
 use Rattle.pearl_parse_expr.specs.Stops.{IsHalted}
-use Rattle.pearl_parse_expr.specs.Least.{AlikeBefore, ReachesIn, GoesIn, HaltsIn}
+use Rattle.pearl_parse_expr.specs.Least.{ReachesIn, GoesIn, HaltsIn}
 use Rattle.pearl_parse_expr.proofs.Offered.{stuck_of, reached_halt, IsLocal}
 use Rattle.pearl_parse_expr.proofs.Offered as local
 use Rattle.pearl_parse.specs.Stops.{IsMissing}
 use Rattle.pearl_grammar.specs.Reached.{GoesBehind, HaltsBehind}
 use Rattle.pearl_grammar.proofs.Offered as states
 use Rattle.pearl_grammar.proofs.Offered.{Rest, Next, Fills, State, moved, halt_part, past_part}
-use Rattle.pearl_parse.proofs.Comes.{Behind, BehindWord, BehindSymbol, Maybe, come_word}
+use Rattle.pearl_parse.proofs.Comes.{BehindWord, BehindSymbol, Maybe, come_word}
 use Rattle.pearl_parse.proofs.Comes.{come_symbol, come_name}
 
 module _ {X : Type 0} (room : ℕ) (whole : List Token → Spelling X) (tokens : List Token) (from low : ℕ) where
   abbrev pub At : Rest → ℕ → ℕ → Type 0
   At = State room whole tokens from low
-
-  -- behind one token
-  pub past_token : (first : List Token → ℕ → Type 0) (rest : Rest) (at stop next : ℕ) → next ≡ at + 1 →
-      At (Behind first rest) at stop →
-      ((others : List Token) → AlikeBefore tokens others (at + 1) → first others at) → at < length tokens →
-      At rest next stop
-  past_token first rest at stop next is a here within =
-      subst (λ k. At rest k stop) (sym is)
-      (moved room whole tokens from low (Behind first rest) rest at stop (at + 1) a (omega arith) (omega arith)
-      (λ others alike to small h. a.comes others (λ j below. alike j (omega arith)) to small (here others alike, h)))
 
   pub past_word : (word : ℕ) (rest : Rest) (at stop next : ℕ) → next ≡ at + 1 → At (BehindWord word rest) at stop →
       HasWord tokens at word → at < length tokens → At rest next stop

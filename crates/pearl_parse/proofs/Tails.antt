@@ -1,58 +1,25 @@
 -- The tokens that complete what was read of a statement or a module: names, symbols, words, and the ends of what is
 -- open.
-use Rattle.std.proofs.Common.{ℕ, ◌+◌, inl, List, [], ◌∷◌, None, ap, refl, arith}
+use Rattle.std.proofs.Common.{ℕ, ◌+◌, List, [], ◌∷◌, ap, refl, arith}
 use Rattle.std.specs.Option.{option_map}
-use Rattle.pearl_tree.specs.declared.expression.Primary as primary
-use Rattle.pearl_tree.specs.declared.expression.Expr as tree
-use Rattle.pearl_tree.specs.declared.format.FreeCode.TheVariants.{A}
-use Rattle.pearl_tree.specs.declared.format.Fmt.TheVariants.{Free}
 use Rattle.pearl_tree.specs.declared.token.What.TheVariants as what
 use Rattle.pearl_tree.specs.declared.token.Token.{Token}
 use Rattle.pearl_tree.specs.Tokens.{IsLawfulWhat}
-use Rattle.pearl_tree.specs.Standing.{Spelling, SpellsName, SpellsList, SpellsEach, SpellsSome}
-use Rattle.pearl_tree.specs.Expressions.{SpellsWhole}
-use Rattle.pearl_tree.specs.Formats.{SpellsFmt}
-use Rattle.pearl_tree.specs.Statements.{HasBecomes, SpellsBranch}
+use Rattle.pearl_tree.specs.Standing.{Spelling, SpellsName, SpellsEach, SpellsSome}
+use Rattle.pearl_tree.specs.Statements.{SpellsBranch}
 use Rattle.pearl_tree.specs.Modules.{SpellsBlock}
 use Rattle.pearl_tree.specs.declared.symbol.TheConstants as s
 use Rattle.pearl_tree.specs.declared.word_code.TheConstants as w
-use Rattle.pearl_parse_expr.proofs.Offered.{letter_token, letter_lawful, placed, token_of, parts_of}
-use Rattle.pearl_parse.specs.Stops.{SpellsFormats}
-use Rattle.pearl_parse.specs.Calls.{SpellsArguments}
+use Rattle.pearl_parse_expr.proofs.Offered.{placed, token_of, parts_of}
 use Rattle.pearl_parse.specs.Bodies.{SpellsStatements, SpellsInner}
 use Rattle.pearl_grammar.proofs.Offered.{Rest, Ends, Next, Fills, ends_fill, fills_as, fills_token}
-use Rattle.pearl_parse.proofs.Comes.{Behind, BehindWord, BehindSymbol, Maybe}
+use Rattle.pearl_parse.proofs.Comes.{BehindWord, BehindSymbol, Maybe}
 use Rattle.pearl_parse.proofs.Comes.{fills_word, fills_symbol, fills_name, fills_maybe}
 use Rattle.pearl_parse.proofs.Made.{semicolon}
 use Rattle.pearl_parse.proofs.ScheduleMade.{After, activation, continuation, resumption}
 use Rattle.pearl_parse.proofs.NestedRests.{closing_rest}
 
 module _ (n : ℕ) (rest : Rest) (fills : Fills n rest) where
-  -- NOW, as the expression that is missing
-  pub fills_expr : Fills (n + 1) (Next SpellsWhole rest)
-  fills_expr =
-      fills_token n rest fills (token_of (what.Word w.NOW)) (Next SpellsWhole rest) (omega arith)
-      (λ others k to here h.
-      let word = ap (option_map (λ token. token.what)) here in
-      let at = ap (option_map (λ token. token.place)) here in (
-        tree.Operand (record { monadics = parts_of [] (omega arith); primary = primary.Now 0; place = 0 }),
-        k + 1,
-        ((k, at, omega arith, refl, (at, word, refl)), omega arith),
-        h,
-      ))
-
-  -- A, as the only format
-  pub fills_formats : Fills (n + 1) (Next (λ tokens. SpellsList tokens (SpellsFmt tokens)) rest)
-  fills_formats =
-      fills_token n rest fills (letter_token 65) (Next (λ tokens. SpellsList tokens (SpellsFmt tokens)) rest)
-      (letter_lawful 65 (inl (omega arith, omega arith)))
-      (λ others k to here h. (
-        Free A None 0 ∷ [],
-        k + 1,
-        (k + 1, (ap (option_map (λ token. token.place)) here, ap (option_map (λ token. token.what)) here, refl), refl),
-        h,
-      ))
-
   -- no parts
   pub fills_each : {X : Type 0} (spells : List Token → Spelling X) →
       Fills n (Next (λ tokens. SpellsEach (spells tokens)) rest)
@@ -86,35 +53,8 @@ semicolon_fills = fills_symbol 0 Ends ends_fill s.SEMICOLON (omega arith)
 pub name_fills : Fills 2 (Next SpellsName semicolon)
 name_fills = fills_name 1 semicolon semicolon_fills
 
--- ":=" expr ";"
-pub assignment_fills : Fills 3 (Behind HasBecomes (Next SpellsWhole semicolon))
-assignment_fills =
-    fills_as 3 (BehindSymbol s.BECOMES (Next SpellsWhole semicolon)) (fills_symbol 2 (Next SpellsWhole semicolon)
-    (fills_expr 1 semicolon semicolon_fills) s.BECOMES (omega arith))
-    (Behind HasBecomes (Next SpellsWhole semicolon)) (λ others k to h. (inl h.0, h.1))
-
 pub bracket_fills : Fills 1 (BehindSymbol s.RIGHT_ROUND Ends)
 bracket_fills = fills_symbol 0 Ends ends_fill s.RIGHT_ROUND (omega arith)
-
--- behind the id of a call
-pub arguments_fill : Fills 1 (Next SpellsArguments Ends)
-arguments_fill = fills_as 1 semicolon semicolon_fills (Next SpellsArguments Ends)
-    (λ others k to h. ([], to, (k, refl, h.0, h.1), refl))
-
--- id ";"
-pub call_fills : Fills 2 (Next SpellsName (Next SpellsArguments Ends))
-call_fills = fills_name 1 (Next SpellsArguments Ends) arguments_fill
-
--- fmt ";"
-pub formats_fill : Fills 2 (Next SpellsFormats Ends)
-formats_fill =
-    fills_as 2 (Next (λ tokens. SpellsList tokens (SpellsFmt tokens)) semicolon)
-    (fills_formats 1 semicolon semicolon_fills) (Next SpellsFormats Ends)
-    (λ others k to h. (h.0, to, (h.1, h.2, h.3.0, h.3.1), refl))
-
--- BY fmt ";"
-pub by_fills : Fills 3 (BehindWord w.BY (Next SpellsFormats Ends))
-by_fills = fills_word 2 (Next SpellsFormats Ends) formats_fill w.BY (omega arith)
 
 -- ---- schedules
 

@@ -1,10 +1,9 @@
 -- Which tokens the parts of calls and returns spell.
-use Rattle.std.specs.Prelude.{◌≡◌, ℕ, ◌+◌, ◌||◌, Bool, List, Option}
+use Rattle.std.specs.Prelude.{◌||◌, Bool, List, Option}
 use Rattle.pearl_tree.specs.declared.expression.Expr.{Expr}
 use Rattle.pearl_tree.specs.declared.token.What.{What}
 use Rattle.pearl_tree.specs.declared.token.Token.{Token}
-use Rattle.pearl_tree.specs.Standing.{Spelling, HasSymbol, SpellsMaybeBracketed}
-use Rattle.pearl_tree.specs.Expressions.{SpellsWhole}
+use Rattle.pearl_tree.specs.Standing.{Spelling}
 use Rattle.pearl_tree.specs.Statements.{SpellsValue}
 use Rattle.pearl_tree.specs.declared.symbol.TheConstants as s
 use Rattle.pearl_parse_expr.specs.Stops.{is_symbol}
@@ -13,12 +12,6 @@ use Rattle.pearl_parse.specs.Stops.{SpellsOptional}
 -- [ "(" expr ")" ], where a bracket begins one
 abbrev pub SpellsOptionalValue : List Token → Spelling (Option Expr)
 SpellsOptionalValue = SpellsOptional (is_symbol s.LEFT_ROUND) SpellsValue
-
--- [ "(" expr { "," expr } ")" ] ";"
-abbrev pub SpellsArguments : List Token → Spelling (List Expr)
-SpellsArguments tokens from arguments to =
-    (m : ℕ) × SpellsMaybeBracketed tokens (SpellsWhole tokens) from arguments m × HasSymbol tokens m s.SEMICOLON ×
-    (to ≡ m + 1)
 
 -- `:=` or `=`
 abbrev pub is_becomes : Option What → Bool

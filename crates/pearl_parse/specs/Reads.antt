@@ -1,20 +1,19 @@
 -- What is known of a statement that is read, or isn't, of a part that is read behind others and is told no earlier than
--- at the token at which they were stopped, and of a list behind no other part, which a word given to its reader ends.
-use Rattle.std.specs.Prelude.{◌≢◌, ℕ, ◌+◌, ◌≤◌, Bool, List, length, Option, Vec, OnOk, IfOk, IfErr, Result}
+-- at the token at which they were stopped, and of a list that may be missing in front of a word.
+use Rattle.std.specs.Prelude.{◌≡◌, ◌≢◌, ℕ, ◌+◌, ◌≤◌, Bool, true, false, List, length, Option, Vec, OnOk, IfOk, IsOkAnd, IfErr, Result}
 use Rattle.pearl_tree.specs.declared.statement.Stmt.{Stmt}
 use Rattle.pearl_tree.specs.declared.token.What.{What}
 use Rattle.pearl_tree.specs.declared.token.What.TheVariants as what
 use Rattle.pearl_tree.specs.declared.token.Token.{Token}
-use Rattle.pearl_tree.specs.Standing.{Spelling, HasWord, HasSymbol}
-use Rattle.pearl_tree.specs.Statements.{SpellsStmt}
+use Rattle.pearl_tree.specs.Standing.{Spelling, what_at, HasWord, HasSymbol, SpellsList}
+use Rattle.pearl_tree.specs.Statements.{SpellsMaybeList, SpellsStmt}
 use Rattle.pearl_tree.specs.Tokens.{IsLawfulWhat}
 use Rattle.pearl_tree.specs.declared.symbol.TheConstants as s
 use Rattle.pearl_parse_expr.specs.declared.reading.Halt.{Halt}
 use Rattle.pearl_parse_expr.specs.declared.reading.Halt.TheVariants.{NoMemory}
 use Rattle.pearl_parse_expr.specs.declared.reading.Reading.{Reading}
-use Rattle.pearl_parse_expr.specs.Stops.{IsLongest, IsOnly, IsAhead, IsHalted, StopsWithin}
-use Rattle.pearl_parse_expr.specs.Least.{IsLeastIn}
-use Rattle.pearl_parse_expr.specs.Reads.{ReadsOnly}
+use Rattle.pearl_parse_expr.specs.Stops.{IsLongest, IsOnly, StopsWithin, is_word, by_comma}
+use Rattle.pearl_parse_expr.specs.Reads.{ReadsOnly, ReadsList}
 use Rattle.pearl_grammar.specs.Reached.{IsStopped, HaltsBehind}
 use Rattle.pearl_parse.specs.Bodies.{SpellsClosing}
 use Rattle.pearl_parse.specs.Reached.{IsLeastBehind}
@@ -49,13 +48,6 @@ pub record ReadsBehind {X Y Z : Type 0} (room : ℕ) (told : List Token → Spel
   pub refused : IfErr result (λ halt. IsStopped part tokens from least_stop halt)
   pub least : IsLeastBehind room some tokens from least_stop result
 
--- a list that isn't empty, with the tokens that end it
-abbrev pub ReadsOnlyListBehind : {X A : Type 0} → ℕ → (List Token → Spelling (List X)) → List Token → ℕ → ℕ →
-    Result (Reading (Vec X A)) Halt → Type 0
-ReadsOnlyListBehind room part tokens from least_stop result =
-    ReadsOnlyBehind room (λ tokens from list to. part tokens from list.items to) part part tokens from (from + 1)
-    least_stop result
-
 -- the longest list: `list` is what the tokens up to its end spell, and what goes on as far as the stop, and `part` all
 -- that begins where it does
 abbrev pub ReadsListBehind : {X Y A : Type 0} → ℕ → (List Token → Spelling (List X)) →
@@ -76,12 +68,12 @@ pub record ReadsClosing (word : ℕ) (tokens : List Token) (from least_stop : �
       IfErr result (λ halt. HaltsBehind 8 (SpellsClosing word) tokens from least_stop halt)
   pub memory : IfErr result (λ halt. halt ≢ NoMemory)
 
--- a list of one end that isn't empty, whose stop is known to be the least one under a premise: the word that ends it is
--- given to its reader, and completes a list only where a spelling means it
-pub record ReadsOnlyListWhere {X A : Type 0} (premise : Type 0) (room : ℕ) (part : List Token → Spelling (List X))
+-- a list that is missing where this word stands, and elsewhere the longest one
+pub record ReadsUnless {X A : Type 0} (word : ℕ) (part : List Token → Spelling X) (extends : Option What → Bool)
     (tokens : List Token) (from : ℕ) (result : Result (Reading (Vec X A)) Halt) : Type 0 where
-  pub spells : IfOk result (λ reading. part tokens from reading.part.items reading.end)
-  pub only : IfOk result (λ reading. IsOnly part tokens from reading.end reading.stop)
-  pub ahead : IfOk result (λ reading. IsAhead tokens from reading.end reading.stop)
-  pub refused : IfErr result (λ halt. IsHalted part tokens from halt)
-  pub least : premise → IsLeastIn room part tokens from result
+  pub spells : IfOk result (λ list. SpellsMaybeList tokens (part tokens) from list.part.items list.end)
+  pub bounds : IfOk result (λ list. StopsWithin tokens from from list.end list.stop)
+  pub none : is_word word (what_at tokens from) ≡ true →
+      HasWord tokens from word × IsOkAnd result (λ list. (list.end ≡ from) × (list.stop ≡ from))
+  pub some : is_word word (what_at tokens from) ≡ false →
+      ReadsList 16 (λ tokens. SpellsList tokens (part tokens)) (by_comma extends) tokens from result

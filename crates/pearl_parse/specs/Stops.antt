@@ -1,23 +1,21 @@
 -- What statements that begin alike have in common: which token goes on with a part, and with which none goes on.
-use Rattle.std.specs.Prelude.{◌≡◌, ℕ, ◌+◌, ◌==◌, ◌||◌, Bool, true, false, List, [], ◌∷◌, max, Option, Some}
+use Rattle.std.specs.Prelude.{◌≡◌, ℕ, ◌==◌, ◌||◌, Bool, true, false, List, [], ◌∷◌, max, Option, Some}
 use Rattle.std.specs.Prelude.{None}
 use Rattle.pearl_tree.specs.declared.token.What.{What}
 use Rattle.pearl_tree.specs.declared.token.What.TheVariants as what
 use Rattle.pearl_tree.specs.declared.token.Token.{Token}
 use Rattle.pearl_tree.specs.declared.limit.TheConstants as limit
-use Rattle.pearl_tree.specs.Standing.{Spelling, what_at, HasWord, HasSymbol, IsName, SpellsName, SpellsList}
+use Rattle.pearl_tree.specs.Standing.{Spelling, what_at, SpellsName, SpellsList}
 use Rattle.pearl_parse_expr.specs.declared.reading.Halt.{Halt}
 use Rattle.pearl_parse_expr.specs.declared.reading.Halt.TheVariants.{Refused, NoMemory}
 use Rattle.pearl_parse_expr.specs.Stops.{SpellsNamed}
 use Rattle.pearl_parse.specs.FirstWords.{statement_words}
 use Rattle.pearl_parse.specs.declared.transfer.Transfer.{Transfer}
 use Rattle.pearl_tree.specs.declared.expression.Selector.{Selector}
-use Rattle.pearl_tree.specs.Statements.{SpellsMaybeList}
-use Rattle.pearl_tree.specs.Formats.{SpellsFmt}
+use Rattle.pearl_grammar.specs.Rules.{Spells}
+use Rattle.pearl_grammar.specs.Statements.{transfer_rule}
 use Rattle.pearl_tree.specs.declared.name.Name.{Name}
-use Rattle.pearl_tree.specs.declared.format.Fmt.{Fmt}
 use Rattle.pearl_tree.specs.declared.symbol.TheConstants as s
-use Rattle.pearl_tree.specs.declared.word_code.TheConstants as w
 
 -- why a token is not there: it is refused at its number, or at `stop` where that is greater
 abbrev pub IsMissing : List Token → (Option What → Bool) → ℕ → ℕ → Halt → Type 0
@@ -34,28 +32,14 @@ abbrev pub SpellsOptional : {X : Type 0} → (Option What → Bool) → (List To
 SpellsOptional begins spells tokens from None to = (to ≡ from) × (begins (what_at tokens from) ≡ false)
 SpellsOptional begins spells tokens from (Some x) to = spells tokens from x to
 
--- [ part { "," part } ] word
-abbrev pub SpellsBefore : {X : Type 0} → ℕ → (List Token → Spelling X) → List Token → Spelling (List X)
-SpellsBefore word spells tokens from xs to =
-    (m : ℕ) × SpellsMaybeList tokens (spells tokens) from xs m × HasWord tokens m word × (to ≡ m + 1)
-
 -- id { "," id }
 abbrev pub SpellsNameList : List Token → Spelling (List Name)
 SpellsNameList tokens = SpellsList tokens (SpellsName tokens)
 
--- fmt { "," fmt } ";"
-abbrev pub SpellsFormats : List Token → Spelling (List Fmt)
-SpellsFormats tokens from formats to =
-    (m : ℕ) × SpellsList tokens (SpellsFmt tokens) from formats m × HasSymbol tokens m s.SEMICOLON × (to ≡ m + 1)
-
 -- id BY fmt { "," fmt } ";"
-abbrev pub SpellsStation : List Token → Spelling (Name × List Fmt)
-SpellsStation tokens from station to =
-    IsName tokens from station.0 × HasWord tokens (from + 1) w.BY × SpellsFormats tokens (from + 2) station.1 to
-
--- the same, as it is read
 abbrev pub SpellsTransfer : List Token → Spelling Transfer
-SpellsTransfer tokens from transfer to = SpellsStation tokens from (transfer.dation, transfer.formats.items) to
+SpellsTransfer tokens from transfer to =
+    Spells transfer_rule tokens from (transfer.dation, (transfer.formats.items, tt)) to
 
 abbrev pub is_among : List ℕ → ℕ → Bool
 is_among [] code = false

@@ -8,13 +8,13 @@ ghost use Rattle.pearl_tree.specs.declared.symbol.TheConstants as s;
 ghost use Rattle.pearl_parse_expr.specs.Stops.{is_name, is_symbol};
 ghost use Rattle.pearl_parse.specs.Calls as calls;
 ghost use Rattle.pearl_parse_expr.specs.Reads.{ReadsOnly, ReadsOnlyMaybe};
-ghost use Rattle.pearl_parse.specs.Reads.{ReadsOnlyListBehind, ReadsStatement};
+ghost use Rattle.pearl_parse.specs.Reads.{ReadsStatement};
 
 use crate::expression::expr;
 use crate::name::name;
 use crate::token::symbol;
 use pearl_parse_decl::expression::own_reference;
-use pearl_parse_decl::list::list;
+use pearl_parse_decl::list::maybe_bracketed;
 use pearl_parse_expr::reading::{Halt, Reading};
 use pearl_parse_expr::standing::{is_symbol, place_at};
 use pearl_tree::expression::Expr;
@@ -63,35 +63,6 @@ pub fn return_(alloc: Global, tokens: &[Token], from: usize) -> Result<Reading<S
     Ok(returned.boxed(alloc)?.map(Stmt::Return))
 }
 
-/// `[ "(" expr { "," expr } ")" ] ";"`
-fn arguments(
-    alloc: Global,
-    tokens: &[Token],
-    from: usize,
-    least_stop: usize,
-) -> Result<Reading<Vec<Expr>>, Halt>
-    requires from { from ≤ length tokens.now }
-    requires least_stop { least_stop ≤ length tokens.now }
-    ensures { ReadsOnlyListBehind 24 calls.SpellsArguments tokens.now from least_stop result }
-{
-    if !is_symbol(tokens, from, LEFT_ROUND) {
-        symbol(tokens, from, least_stop, SEMICOLON)?;
-        return Ok(Reading::none(alloc, from, least_stop).past(1));
-    }
-    match list(alloc, tokens, from + 1) {
-        Ok(list) => {
-            let stop = list.stop.max(least_stop);
-            symbol(tokens, list.end, stop, RIGHT_ROUND)?;
-            symbol(tokens, list.end + 1, stop, SEMICOLON)?;
-            Ok(list.no_earlier(stop).past(2))
-        }
-        Err(halt) => match halt {
-            Halt::Refused(stop) => Err(Halt::Refused(stop.max(least_stop))),
-            Halt::NoMemory => Err(Halt::NoMemory),
-        },
-    }
-}
-
 /// `CALL id [ "(" expr { "," expr } ")" ] ";"`
 pub fn call(alloc: Global, tokens: &[Token], from: usize) -> Result<Reading<Stmt>, Halt>
     requires within { from < length tokens.now }
@@ -99,9 +70,10 @@ pub fn call(alloc: Global, tokens: &[Token], from: usize) -> Result<Reading<Stmt
     ensures { ReadsStatement tokens.now from result }
 {
     let called = name(tokens, from + 1, from)?;
-    let arguments = arguments(alloc, tokens, from + 2, from)?;
+    let arguments = maybe_bracketed(alloc, tokens, from + 2)?;
+    symbol(tokens, arguments.end, arguments.stop, SEMICOLON)?;
     let place = place_at(tokens, from);
-    let call = arguments.map(Parts::new).map(|arguments| Call {
+    let call = arguments.past(1).map(Parts::new).map(|arguments| Call {
         call: true,
         name: called,
         arguments,
@@ -145,8 +117,9 @@ pub fn named(alloc: Global, tokens: &[Token], from: usize) -> Result<Reading<Stm
     // The reference holds the arguments as its selectors: it goes before they are read as a call's.
     drop(target);
     let called = name(tokens, from, stop)?;
-    let arguments = arguments(alloc, tokens, from + 1, stop)?;
-    let call = arguments.map(Parts::new).map(|arguments| Call {
+    let arguments = maybe_bracketed(alloc, tokens, from + 1)?.no_earlier(stop);
+    symbol(tokens, arguments.end, arguments.stop, SEMICOLON)?;
+    let call = arguments.past(1).map(Parts::new).map(|arguments| Call {
         call: false,
         name: called,
         arguments,

@@ -1,16 +1,13 @@
-// Parts that stand one after the other with nothing between them, and lists that may be missing before a word.
+// Parts that stand one after the other with nothing between them, and lists that may be missing in front of a word.
 
-ghost use Rattle.std.specs.Prelude.{◌≡◌, ℕ, ◌+◌, ◌<◌, ◌≤◌, List, Bool, Option, length, IfErr, true, Some, false};
+ghost use Rattle.std.specs.Prelude.{◌≡◌, ℕ, ◌+◌, ◌<◌, ◌≤◌, List, Bool, Option, length, IfErr, true};
 ghost use Rattle.pearl_tree.specs.declared.token.Token.{Token};
 ghost use Rattle.pearl_tree.specs.declared.token.What.{What};
-ghost use Rattle.pearl_tree.specs.Standing.{Spelling, SpellsEach, what_at, HasWord};
+ghost use Rattle.pearl_tree.specs.Standing.{Spelling, SpellsEach, what_at};
 ghost use Rattle.pearl_parse_expr.specs.declared.reading.Halt.{Halt};
 ghost use Rattle.pearl_parse_expr.specs.Reads.{ReadsOnly, ReadsMaybe};
 ghost use Rattle.pearl_parse_decl.specs.Readings.{IsSelfContained};
-ghost use Rattle.pearl_tree.specs.Tokens.{IsLawfulWhat};
-ghost use Rattle.pearl_parse.specs.Stops.{SpellsBefore};
-ghost use Rattle.pearl_parse.specs.Reads.{ReadsOnlyListWhere};
-ghost use Rattle.pearl_tree.specs.declared.token.What.TheVariants as what;
+ghost use Rattle.pearl_parse.specs.Reads.{ReadsUnless};
 
 use pearl_parse_decl::list::{Readable, list};
 use pearl_parse_expr::reading::{Halt, Reading};
@@ -55,24 +52,18 @@ pub fn each<P: Repeated>(
     }
 }
 
-/// `[ part { "," part } ]` and the word behind it, with which no part begins and none goes on.
-pub fn before<P: Readable>(
+/// `[ part { "," part } ]` in front of a word: none where the word stands, and elsewhere the longest list.
+pub fn unless<P: Readable>(
     alloc: Global,
     tokens: &[Token],
     from: usize,
     word: u8,
 ) -> Result<Reading<Vec<P>>, Halt>
-    requires within { from ≤ length tokens.now }
-    requires begins { (others : List Token) (at : ℕ) (x : P) (to : ℕ) → HasWord others at word → P.spelling others at x to → ⊥ }
-    requires stops { P.extends (Some (what.Word word)) ≡ false }
-    ensures { ReadsOnlyListWhere (IsLawfulWhat (what.Word word)) 24 (SpellsBefore word P.spelling) tokens.now from result }
+    requires { from ≤ length tokens.now }
+    ensures { ReadsUnless word P.spelling P.extends tokens.now from result }
 {
     if is_word(tokens, from, word) {
-        return Ok(Reading::none(alloc, from, from).past(1));
+        return Ok(Reading::none(alloc, from, from));
     }
-    let list = list(alloc, tokens, from)?;
-    if !is_word(tokens, list.end, word) {
-        return Err(Halt::Refused(list.stop));
-    }
-    Ok(list.past(1))
+    list(alloc, tokens, from)
 }

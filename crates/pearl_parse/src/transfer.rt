@@ -2,19 +2,20 @@
 
 ghost use Rattle.std.specs.Prelude.{◌+◌, ◌<◌, ◌≤◌, length};
 ghost use Rattle.pearl_tree.specs.Standing.{HasWord};
-ghost use Rattle.pearl_parse.specs.Reads.{ReadsOnlyListBehind, ReadsOnlyBehind, ReadsStatement};
-ghost use Rattle.pearl_parse_expr.specs.declared.reading.Halt.{Halt};
+ghost use Rattle.pearl_grammar.specs.Rules.{Spells};
+ghost use Rattle.pearl_grammar.specs.Statements.{transfer_rule};
+ghost use Rattle.pearl_parse.specs.Reads.{ReadsOnlyBehind, ReadsStatement};
 ghost use Rattle.pearl_tree.specs.declared.word_code.TheConstants as w;
 ghost use Rattle.pearl_parse.specs.Stops as spec;
 
 use crate::expression::expr;
-use crate::lists::before;
+use crate::lists::unless;
 use crate::name::name;
 use crate::token::{symbol, word as word_here};
 use pearl_parse_decl::expression::own_reference;
-use pearl_parse_decl::list::list;
+use pearl_parse_decl::list::{behind, list};
 use pearl_parse_expr::reading::{Halt, Reading, boxed};
-use pearl_parse_expr::standing::{is_symbol, place_at};
+use pearl_parse_expr::standing::place_at;
 use pearl_tree::format::Fmt;
 use pearl_tree::name::Name;
 use pearl_tree::parts::Parts;
@@ -23,31 +24,6 @@ use pearl_tree::symbol::SEMICOLON;
 use pearl_tree::token::Token;
 use pearl_tree::word_code::*;
 use std::alloc::Global;
-
-/// The formats of a transfer, and the semicolon behind them.
-fn formats(
-    alloc: Global,
-    tokens: &[Token],
-    from: usize,
-    least_stop: usize,
-) -> Result<Reading<Vec<Fmt>>, Halt>
-    requires from { from ≤ length tokens.now }
-    requires least_stop { least_stop ≤ length tokens.now }
-    ensures { ReadsOnlyListBehind 24 spec.SpellsFormats tokens.now from least_stop result }
-{
-    match list(alloc, tokens, from) {
-        Ok(list) => {
-            if !is_symbol(tokens, list.end, SEMICOLON) {
-                return Err(Halt::Refused(list.stop.max(least_stop)));
-            }
-            Ok(list.no_earlier(least_stop).past(1))
-        }
-        Err(halt) => match halt {
-            Halt::Refused(stop) => Err(Halt::Refused(stop.max(least_stop))),
-            Halt::NoMemory => Err(Halt::NoMemory),
-        },
-    }
-}
 
 /// What stands behind TO or FROM.
 #[derive(Drop)]
@@ -65,12 +41,18 @@ fn station(
 ) -> Result<Reading<Transfer>, Halt>
     requires from { from ≤ length tokens.now }
     requires least_stop { least_stop ≤ length tokens.now }
-    ensures { ReadsOnlyBehind 24 spec.SpellsTransfer spec.SpellsStation spec.SpellsStation tokens.now from (from + 1) least_stop result }
+    ensures { ReadsOnlyBehind 24 spec.SpellsTransfer (Spells transfer_rule) (Spells transfer_rule) tokens.now from (from + 1) least_stop result }
 {
     let dation = name(tokens, from, least_stop)?;
     word_here(tokens, from + 1, least_stop, BY)?;
-    let formats = formats(alloc, tokens, from + 2, least_stop)?;
-    Ok(formats.map(|formats| Transfer { dation, formats }))
+    match list(alloc, tokens, from + 2) {
+        Ok(list) => {
+            let formats = list.no_earlier(least_stop);
+            symbol(tokens, formats.end, formats.stop, SEMICOLON)?;
+            Ok(formats.past(1).map(|formats| Transfer { dation, formats }))
+        }
+        Err(halt) => Err(behind(halt, least_stop)),
+    }
 }
 
 /// `PUT [ expr { "," expr } ] TO id BY fmt { "," fmt } ";"`
@@ -79,8 +61,9 @@ pub fn put(alloc: Global, tokens: &[Token], from: usize) -> Result<Reading<Stmt>
     requires word { HasWord tokens.now from w.PUT }
     ensures { ReadsStatement tokens.now from result }
 {
-    let values = before(alloc, tokens, from + 1, TO)?;
-    let station = station(alloc, tokens, values.end, values.stop)?;
+    let values = unless(alloc, tokens, from + 1, TO)?;
+    word_here(tokens, values.end, values.stop, TO)?;
+    let station = station(alloc, tokens, values.end + 1, values.stop)?;
     let put = Put {
         values: Parts::new(values.part),
         dation: station.part.dation,
@@ -100,8 +83,9 @@ pub fn get(alloc: Global, tokens: &[Token], from: usize) -> Result<Reading<Stmt>
     requires word { HasWord tokens.now from w.GET }
     ensures { ReadsStatement tokens.now from result }
 {
-    let targets = before(alloc, tokens, from + 1, FROM)?;
-    let station = station(alloc, tokens, targets.end, targets.stop)?;
+    let targets = unless(alloc, tokens, from + 1, FROM)?;
+    word_here(tokens, targets.end, targets.stop, FROM)?;
+    let station = station(alloc, tokens, targets.end + 1, targets.stop)?;
     let get = Get {
         targets: Parts::new(targets.part),
         dation: station.part.dation,

@@ -1,14 +1,12 @@
 -- On which tokens parts depend: those before their end alone.
-use Rattle.std.proofs.Common.{ℕ, ◌+◌, ◌<◌, ◌≤◌, List, ◌∙◌, arith}
-use Rattle.pearl_tree.specs.declared.format.Fmt.TheVariants.{Free, Wide}
+use Rattle.std.proofs.Common.{ℕ, ◌+◌, ◌≤◌, List, ◌∙◌, arith}
 use Rattle.pearl_tree.specs.declared.tree.TaskHead.TheVariants.{PrioFirst, MainFirst}
 use Rattle.pearl_tree.specs.declared.limit.TheConstants as limit
 use Rattle.pearl_tree.specs.declared.token.Token.{Token}
 use Rattle.pearl_tree.specs.declared.word_code.TheConstants as w
-use Rattle.pearl_tree.specs.Standing.{Spelling, SpellsBracketedNumber}
+use Rattle.pearl_tree.specs.Standing.{Spelling}
 use Rattle.pearl_tree.specs.Expressions.{SpellsWhole}
 use Rattle.pearl_tree.specs.Types.{SpellsWholeTyping}
-use Rattle.pearl_tree.specs.Formats.{SpellsFmt}
 use Rattle.pearl_tree.specs.Declarations.{SpellsDevice, SpellsItem, SpellsDeclared, SpellsSpec, SpellsParam, SpellsPrio}
 use Rattle.pearl_tree.specs.Modules.{SpellsTaskHead, SpellsReturns}
 use Rattle.pearl_parse_expr.proofs.Offered as local
@@ -17,7 +15,7 @@ pub use Rattle.pearl_parse_expr.proofs.Offered.{list_keeps, each_long, more_long
 use Rattle.pearl_grammar.proofs.Offered as fact
 use Rattle.pearl_grammar.proofs.Offered.{expr_keeps, whole_typing, item, declared}
 pub use Rattle.pearl_grammar.proofs.Offered.{flag_keeps, symbol_flag_keeps, maybe_keeps, maybe_bracketed_keeps}
-pub use Rattle.pearl_grammar.proofs.Offered.{maybe_bracketed_long, name_keeps, own_ref_keeps}
+pub use Rattle.pearl_grammar.proofs.Offered.{maybe_bracketed_long, name_keeps, own_ref_keeps, fmt_keeps}
 use Rattle.pearl_parse_decl.specs.Readings.{IsSelfContained}
 
 pub contained_of : {X : Type 0} (n : ℕ) (spells : List Token → Spelling X) → 1 ≤ n → Kept n spells →
@@ -56,21 +54,6 @@ pub returns_keep : Kept 4 SpellsReturns
 returns_keep = fact.returns.kept
 
 -- ---- without one
-
-pub fmt_keeps : Kept 1 SpellsFmt
-fmt_keeps tokens others k alike from (Free code width at) to h near =
-    let rest = maybe_keeps tokens others k alike 3 SpellsBracketedNumber (fact.bracketed_number.kept tokens others k alike)
-    (from + 1) width to h.2 near in
-    let below : from < k = omega (arith, rest.0) in (
-      omega (arith, rest.0),
-      (local.place tokens others k alike from below ∙ h.0, local.what tokens others k alike from below ∙ h.1, rest.1),
-    )
-fmt_keeps tokens others k alike from (Wide code width at) to h near =
-    let rest = fact.bracketed_number.kept tokens others k alike (from + 1) width to h.2 near in
-    let below : from < k = omega (arith, rest.0) in (
-      omega (arith, rest.0),
-      (local.place tokens others k alike from below ∙ h.0, local.what tokens others k alike from below ∙ h.1, rest.1),
-    )
 
 pub task_head_keeps : Kept 0 SpellsTaskHead
 task_head_keeps tokens others k alike from (PrioFirst prio main) to h near =

@@ -67,7 +67,7 @@ returns-in-Err-clause-reads c =
     (directed c.args.tokens.now c.args.from c.requires.within (search rules) c.args.names read c.requires.word
     c.in-Some.direction c.in-Some.ensures.some c.in-Some.ensures.within)
     (lacks_past c.max-before.result c.in-Err.halt c.behind.result none.refused none.least c.behind.ensures.same
-    (omega (arith, c.max-before.ensures)) (omega (arith, c.max-before.ensures)) (omega (arith, read.ahead)))
+    (omega (arith, c.max-before.ensures)) (omega (arith, read.ahead)))
     (omega (arith, read.ahead)) (omega arith))
 
 pub returns-clause-reads : goal.returns-clause-reads
