@@ -36,7 +36,7 @@ const INDEX: &str = "'\n0 trap main Index\n0 state main dormant\n0 close\n";
 
 // The module has 65,536 slots: leaves of one structure, or elements of one leaf. Bounds and values go from -2^31 to
 // 2^31 - 1.
-static DATA: [Long; 9] = edges![
+static DATA: [Long; 10] = edges![
     [
         (HEAD, 1),
         ("DCL r STRUCT[", 1),
@@ -94,6 +94,8 @@ static DATA: [Long; 9] = edges![
         (TAIL, 1),
     ], [("run 99", 1)] => Done [(BEGIN, 1), (" 4 5  2147418112  2147483647", 1), (INDEX, 1)];
     [(HEAD, 1), ("DCL a(^2147483647:2147483648) FIXED; main: TASK MAIN; END;", 1), (TAIL, 1)], [("run 99", 1)]
+        => Refused [("error source ^ S5\n", 1)];
+    [(HEAD, 1), ("DCL a(^-2147483649:0) FIXED; main: TASK MAIN; END;", 1), (TAIL, 1)], [("run 99", 1)]
         => Refused [("error source ^ S5\n", 1)];
     [
         (HEAD, 1),

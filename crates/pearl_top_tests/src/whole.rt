@@ -39,6 +39,9 @@ pub static BODIES: Table = Table {
         "DCL x FIXED; main: TASK MAIN; REPEAT REPEAT x := x + 1; IF x > 1 THEN EXIT; FIN; \
             END; IF x > 4 THEN EXIT; FIN; x := 4; END; PUT x TO tty BY F(2); END;",
             "run 100" => "0 out 1 ' 5'\n0 end main\n0 state main dormant\n";
+        "DCL x FIXED; main: TASK MAIN; REPEAT CASE 9 ALT x := 8; OUT EXIT; FIN; x := 9; END; \
+            PUT x TO tty BY F(2); END;",
+            "run 10" => "0 out 1 ' 0'\n0 end main\n0 state main dormant\n";
         "DCL x FIXED INIT(2); main: TASK MAIN; IF x EQ 1 THEN PUT 'a' TO tty BY A; ELSE \
             PUT 'b' TO tty BY A; FIN; END;",
             "run 10" => "0 out 1 'b'\n0 end main\n0 state main dormant\n";
