@@ -5,7 +5,8 @@ usage: tools/check_crates.py [--write]
 
 A crate names a library in its .rt and .antt files, as in `pearl_value::cell` or `Rattle.pearl_value.specs`. It stands on
 crates of its own heading and of those above. Prints what doesn't hold, and ends with status 1 if there is something. With
---write the lists are made anew first.
+--write the lists are mended first: what is named and not listed is added at the end, what isn't named goes, and the rest
+keeps its order (another order would have each crate above proved anew).
 """
 
 import os
@@ -52,11 +53,16 @@ def needed(crates):
             for crate, words in ((crate, named(crate)) for crate in crates)}
 
 
+def mended(listed, needs):
+    """The listed libraries that are needed, in their order, and then those that lack."""
+    return [name for name in listed if name in needs] + [name for name in needs if name not in listed]
+
+
 def write():
     needs, lines = needed(told()), []
     for line in read(LIST).splitlines():
-        crate, colon, _ = line.split("#")[0].partition(":")
-        lines.append(" ".join([crate + ":"] + needs[crate]) if colon else line)
+        crate, colon, listed = line.split("#")[0].partition(":")
+        lines.append(" ".join([crate + ":"] + mended(listed.split(), needs[crate])) if colon else line)
     with open(LIST, "w", encoding="utf-8") as file:
         file.write("\n".join(lines) + "\n")
 

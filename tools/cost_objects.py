@@ -1,8 +1,22 @@
 """Objects and journals for tools/costs.py: of each opcode an object that is filled with it, of each line a journal.
 
 An object has one task, one procedure, a device of each sort, a semaphore, a leaf of eight slots and a format; its code is
-one opcode again and again, with what has to stand before and behind it (docs/use/object-format.md). All are valid.
+one opcode again and again, with what has to stand before and behind it (docs/use/object-format.md). All these are valid.
+What is dear without instructions comes behind them.
 """
+
+from typing import Callable, NamedTuple
+
+
+class Form(NamedTuple):
+    """A file by how much there is of something, its bounds in MB (10^6 bytes) and seconds, and the status of its runs."""
+
+    name: str
+    text: Callable
+    megabytes: float
+    seconds: float
+    status: int = 0
+
 
 FIXED, BIT, CHAR = b"\x00\x1f", b"\x01\x01", b"\x02\x01"
 ONE, TRUE, TEXT, SPAN = b"\x00" + FIXED + b"\x02", b"\x00" + BIT + b"\x01", b"\x00" + CHAR + b"x", b"\x00\x04\x00"
@@ -58,15 +72,16 @@ UNITS = {
 JUMPS = {"Jump": (b"", b"\x13"), "JumpZero": (TRUE, b"\x14"), "Advance": (b"", b"\x1c\x00")}
 
 DEVICES = b"\x04" + b"\x00\x01" + b"\x01\x01\x03" + b"\x02\x01" + FIXED + b"\x03\x01" + FIXED
-TABLES = b"PRL1" + DEVICES + b"\x01\x01" + b"\x01\x01v" + FIXED + b"\x08\x00" + b"\x01\x01\x05\x05"
+FRONT = b"PRL1" + DEVICES + b"\x01\x01" + b"\x01\x01v" + FIXED + b"\x08\x00"
+FORMATS, NO_SHAPES = b"\x01\x01\x05\x05", b"\x00"
 CELLS, DEPTH = b"\x03" + FIXED * 3, 8
 
 
-def whole(code, count, returns=b"", many=0):
+def whole(code, count, returns=b"", many=0, formats=FORMATS, shapes=NO_SHAPES):
     """An object whose task has this code of so many instructions, and an End; its procedure returns so many times more."""
     procedure = b"\x01\x00\x00" + b"\x00\x00" + number(many + 1) + returns + b"\x18" + b"\x00"
-    task = b"\x01\x01t\xff\x01\x00" + CELLS + number(DEPTH) + number(count + 1) + code + b"\x19" + b"\x00"
-    return TABLES + procedure + task
+    task = b"\x01\x01t\xff\x01\x00" + CELLS + number(DEPTH) + number(count + 1) + code + b"\x19" + shapes
+    return FRONT + formats + procedure + task
 
 
 def of_unit(part, instructions):
@@ -76,6 +91,16 @@ def of_unit(part, instructions):
 def of_jump(before, opcode):
     step = PARTS[before] + 1
     return lambda count: whole(b"".join(before + opcode + number(step * (i + 1)) for i in range(count)), step * count)
+
+
+def of_formats(one):
+    """An object of many formats."""
+    return lambda count: whole(b"", 0, formats=number(count) + one * count)
+
+
+def of_shape(count):
+    """An object with one shape, of so many operands where none may lie: at an End to which nothing leads."""
+    return whole(b"\x19", 1, shapes=b"\x01\x01" + number(count) + b"\x03" * count)
 
 
 def lines(text):
@@ -88,9 +113,17 @@ PLANT = ("MODULE(m);SYSTEM;i:INTERRUPT(1);t:TERMINAL(1);p:INPUT(1);PROBLEM;SPC i
          "SPC p DATION IN BASIC FIXED;takes:TASK MAIN;DCL a FIXED;REPEAT TAKE a FROM p;END;END;"
          "waits:TASK;DCL a FIXED;a:=1;END;MODEND;")
 
-OBJECTS = [(f"`{name}`", of_unit(*it), 560, 3) for name, it in UNITS.items()]
-OBJECTS += [(f"`{name}`", of_jump(*it), 560, 3) for name, it in JUMPS.items()]
-OBJECTS += [("`Return`", lambda count: whole(b"", 0, b"\x18" * count, count), 560, 3)]
-JOURNALS = [("`" + text.strip().replace("\n", "`, `") + "`" if text.strip() else "empty lines", lines(text), 10, 60)
+# What an object of 16 MiB may take: an instruction is at least one byte of it, and some 50 while it is read and validated; a
+# format is at least one byte, and some 90; a kind of a shape is at least one, and some 80. BAD_OBJECT refuses a shape so long.
+BAD_OBJECT = 3
+CODES = [Form(f"`{name}`", of_unit(*it), 900, 3) for name, it in UNITS.items()]
+CODES += [Form(f"`{name}`", of_jump(*it), 900, 3) for name, it in JUMPS.items()]
+CODES += [Form("`Return`", lambda count: whole(b"", 0, b"\x18" * count, count), 900, 3)]
+OBJECTS = CODES + [Form("formats without items", of_formats(b"\x00"), 1600, 3),
+                   Form("formats of one item", of_formats(b"\x01\x05\x05"), 1100, 3),
+                   Form("one stated shape", of_shape, 1500, 5, BAD_OBJECT)]
+# `list` asks no rule of the code.
+LISTED = [form._replace(status=0) for form in OBJECTS]
+JOURNALS = [Form("`" + text.strip().replace("\n", "`, `") + "`" if text.strip() else "empty lines", lines(text), 10, 60)
             for text in ("\n", "#\n", "run 1\n", "tick 1\n", "pass 1 1\n", "irpt 1\n", "chars 1 'x'\n", "line 1 'x'\n",
                          "value 1 5\n", "value 1 5\nrun 2\n", "turn waits\n", "state\n")]

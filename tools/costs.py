@@ -1,7 +1,8 @@
 #!/usr/bin/env python3
 """What a command costs: peak memory and time over generated sources, one form a row.
 
-usage: tools/costs.py COMMAND [--program PROGRAM] [--runs N] [--only WORD] [--seconds N] [--markdown] [--check]
+usage: tools/costs.py COMMAND [--program PROGRAM] [--runs N] [--only WORD].. [--seconds N] [--markdown] [--check]
+       tools/costs.py COMMAND --names
 
 COMMAND is `print`, `check`, `compile` or `run`: each source is one module that is filled with one thing up to 256 KiB or
 to 1 MiB, the longest source that is read, and run over the journal `run 1` (tools/cost_forms.py). Or it is `list` or
@@ -10,8 +11,13 @@ over journals of 16 MiB and 64 MiB of one line (tools/cost_objects.py).
 
 PROGRAM (default: crates/pearl/out/pearl beside this folder; `./pearl` builds it) is run N times for each file, and broken
 off after so many seconds (100) of a processor. Told are the greatest resident set of all runs, the least time of a
-processor, and the time for the longer file over that for the shorter one; of what was broken off `more than`. With --check
-the status is 1 where a figure is above its bound.
+processor, and the time for the longer file over that for the shorter one; of what was broken off `more than`. --only takes
+the forms whose names have a word in them, and may stand several times; --names tells the names and measures nothing.
+
+Behind a row stands what isn't as it should be: a run that ended with another status than its form is marked with, for
+which the status is 1, and a figure above its bound, for which it is 1 with --check. The ratio may be up to 4.8, and is
+`noise` up to 6 where the shorter file takes less than 0.1 s; below 0.1 s for the longer one it isn't judged. With --markdown
+both are told on standard error.
 """
 
 import argparse
@@ -21,28 +27,36 @@ import signal
 import subprocess
 import sys
 import tempfile
+from dataclasses import dataclass
 
-from cost_forms import FORMS, STATUSES
+from cost_forms import FORMS
 from cost_objects import PLANT
 
 KIB = 1024
 SIZES = {"list": (4096 * KIB, 16384 * KIB), "exec": (4096 * KIB, 16384 * KIB), "journal": (16384 * KIB, 65536 * KIB)}
 SOURCES = (256 * KIB, 1024 * KIB)
 
-# The greatest ratio of times that counts as linear, for four times as much source.
-RATIO = 4.6
+# The greatest ratio of times that counts as linear for four times as much, the greatest where times are short, and which are.
+RATIO, NOISY, SHORT = 4.8, 6, 0.1
 
 
-def filled(form, size):
-    """The file of this form with as much as goes into `size` bytes, a text filled with line ends."""
-    low, high = 1, 2
-    while len(form(high)) <= size:
-        low, high = high, 2 * high
+def filled(text, size):
+    """The file of this form with as much as goes into `size` bytes, a text filled with line ends: where it must lie by the
+    lengths of a smaller and a larger one, or in the middle by turns."""
+    low, high, made, turn = 1, 2, text(1), True
+    while len(larger := text(high)) <= size:
+        low, high, made = high, 2 * high, larger
+    longest = len(larger)
     while high - low > 1:
-        count = (low + high) // 2
-        low, high = (count, high) if len(form(count)) <= size else (low, count)
-    text = form(low)
-    return text if isinstance(text, bytes) else (text + "\n" * (size - len(text))).encode("ascii")
+        count = low + (high - low) * (size - len(made)) // (longest - len(made)) if turn else (low + high) // 2
+        count = min(max(count, low + 1), high - 1)
+        here = text(count)
+        if len(here) <= size:
+            low, made = count, here
+        else:
+            high, longest = count, len(here)
+        turn = not turn
+    return made if isinstance(made, bytes) else (made + "\n" * (size - len(made))).encode("ascii")
 
 
 def run(words, most=None):
@@ -58,39 +72,83 @@ def run(words, most=None):
     return child.returncode, usage.ru_utime + usage.ru_stime, usage.ru_maxrss * KIB, said
 
 
+@dataclass
+class Cost:
+    """What the runs over one file took: the least seconds, the greatest peak in bytes, their statuses, and what they wrote."""
+
+    seconds: float
+    peak: int
+    statuses: set
+    said: bytes
+
+
+def words_of(args, folder, form, size):
+    """Writes the files of a form for this size: the words that run the program over them."""
+    file, journal = (os.path.join(folder, name) for name in ("file", "journal"))
+    made = filled(form.text, size)
+    contents = made, b"" if args.command == "exec" else b"run 1\n"
+    for path, content in zip((file, journal), (PLANT.encode("ascii"), made) if args.command == "journal" else contents):
+        with open(path, "wb") as written:
+            written.write(content)
+    command = "run" if args.command == "journal" else args.command
+    return [args.program, command, file, *([journal] if command in ("run", "exec") else [])]
+
+
 def measured(args, folder, form, size):
-    """The least time and the greatest peak of the runs over a source of this size, and what the last one wrote."""
-    files = [os.path.join(folder, name) for name in ("file", "journal")]
-    if args.command == "journal":
-        contents = PLANT.encode("ascii"), filled(form, size)
-    else:
-        contents = filled(form, size), b"" if args.command == "exec" else b"run 1\n"
-    for path, content in zip(files, contents):
-        with open(path, "wb") as file:
-            file.write(content)
-    words = ["run" if args.command == "journal" else args.command, *files]
-    words = words if words[0] in ("run", "exec") else words[:2]
-    seconds, peak = [], []
+    """What the runs of a form cost; one that is broken off is the last."""
+    words = words_of(args, folder, form, size)
+    cost = Cost(float("inf"), 0, set(), b"")
     for _ in range(args.runs):
-        status, spent, resident, said = run([args.program, *words], args.seconds)
+        status, seconds, peak, said = run(words, args.seconds)
+        cost.peak = max(cost.peak, peak)
         if status == -signal.SIGXCPU:
-            return float("inf"), resident, b"broken off"
-        if status not in STATUSES[args.command]:
-            sys.exit(f"a file of {size} bytes ended with status {status}: {said!r}")
-        seconds.append(spent)
-        peak.append(resident)
-    return min(seconds), max(peak), said
+            cost.seconds, cost.said = float("inf"), b"broken off"
+            return cost
+        cost.seconds, cost.said = min(cost.seconds, seconds), said
+        cost.statuses.add(status)
+    return cost
 
 
-def told(args, name, figures, note):
-    """One row: peaks in MB (10^6 bytes), times in seconds, and their ratio."""
-    peaks, times, ratio = figures[:2], figures[2:4], figures[4]
+def judged(form, small, large):
+    """What isn't as it should be: of how the runs ended, and of what they took."""
+    ends = [f"ENDED WITH {sorted(it.statuses)}, NOT {form.status}" for it in (small, large) if it.statuses - {form.status}]
+    ratio, above = ratio_of(small, large), []
+    if large.peak >= form.megabytes * 1e6 or large.seconds >= form.seconds:
+        above.append("ABOVE ITS BOUND")
+    if ratio > RATIO and large.seconds >= SHORT:
+        above.append("noise" if small.seconds < SHORT and ratio <= NOISY else "NOT LINEAR")
+    return ends, above
+
+
+def ratio_of(small, large):
+    """The time for the longer file over that for the shorter one."""
+    return large.seconds / small.seconds if 0 < small.seconds < float("inf") else float("inf")
+
+
+def told(args, name, small, large, notes):
+    """One row: peaks in MB (10^6 bytes), times in seconds, and their ratio; behind it the notes."""
+    peaks, times = [it.peak / 1e6 for it in (small, large)], [it.seconds for it in (small, large)]
+    ratio = ratio_of(small, large)
     if args.markdown:
         shown = [f"{peak:.0f} MB" for peak in peaks]
         shown += [f"{time:.2f} s" if time < float("inf") else f"more than {args.seconds} s" for time in times]
         print(f"| {name} | {' | '.join(shown)} | {f'{ratio:.1f}' if ratio < float('inf') else ''} |", flush=True)
+        if notes:
+            print(f"{name}: {'; '.join(notes)}", file=sys.stderr, flush=True)
     else:
-        print("{:66}{:9.1f}{:9.1f}{:9.3f}{:9.3f}{:8.2f}{}".format(name, *figures, note), flush=True)
+        said = large.said.decode("ascii", "replace").strip()[:40] if args.command in ("check", "run") else ""
+        figures = "{:9.1f}{:9.1f}{:9.3f}{:9.3f}{:8.2f}".format(*peaks, *times, ratio)
+        print(f"{name:82}{figures}  {'  '.join([said, *notes])}".rstrip(), flush=True)
+
+
+def head(args, sizes):
+    """The line above the rows."""
+    names = [f"{size // KIB // KIB} MiB" if size >= KIB * KIB else f"{size // KIB} KiB" for size in sizes]
+    if args.markdown:
+        print(f"| Form | Peak, {names[0]} | Peak, {names[1]} | Time, {names[0]} | Time, {names[1]} | Ratio |")
+        print("|---|---|---|---|---|---|")
+    else:
+        print(f"{'form':82}{f'MB {names[0]}':>9}{f'MB {names[1]}':>9}{f's {names[0]}':>9}{f's {names[1]}':>9}{'ratio':>8}")
 
 
 def main():
@@ -99,36 +157,29 @@ def main():
     parser.add_argument("command", choices=sorted(FORMS))
     parser.add_argument("--program", default=os.path.join(here, "crates", "pearl", "out", "pearl"))
     parser.add_argument("--runs", type=int, default=3)
-    parser.add_argument("--only", default="", help="forms whose name has this in it")
+    parser.add_argument("--only", action="append", default=[], help="forms whose name has this in it, or another such word")
+    parser.add_argument("--names", action="store_true", help="the names of the forms alone")
     parser.add_argument("--seconds", type=int, default=100, help="a run is broken off after so many")
     parser.add_argument("--markdown", action="store_true", help="rows of a table for docs/evidence.md")
     parser.add_argument("--check", action="store_true", help="status 1 where a bound is passed")
     args = parser.parse_args()
+    forms = [form for form in FORMS[args.command] if not args.only or any(word in form.name for word in args.only)]
+    if args.names:
+        print("\n".join(form.name for form in forms))
+        return
     if not os.access(args.program, os.X_OK):
         sys.exit(f"{args.program} is no program: build it first, or name one by --program")
 
     sizes = SIZES.get(args.command, SOURCES)
-    names = [f"{size // KIB // KIB} MiB" if size >= KIB * KIB else f"{size // KIB} KiB" for size in sizes]
-    if args.markdown:
-        print(f"| Form | Peak, {names[0]} | Peak, {names[1]} | Time, {names[0]} | Time, {names[1]} | Ratio |")
-        print("|---|---|---|---|---|---|")
-    else:
-        print(f"{'form':66}{f'MB {names[0]}':>9}{f'MB {names[1]}':>9}{f's {names[0]}':>9}{f's {names[1]}':>9}{'ratio':>8}")
-    passed = True
+    head(args, sizes)
+    right = True
     with tempfile.TemporaryDirectory() as folder:
-        for name, form, most_bytes, most_seconds in FORMS[args.command]:
-            if args.only not in name:
-                continue
-            small, small_peak, _ = measured(args, folder, form, sizes[0])
-            large, large_peak, said = measured(args, folder, form, sizes[1])
-            ratio = large / small if 0 < small < float("inf") else float("inf")
-            figures = (small_peak / 1e6, large_peak / 1e6, small, large, ratio)
-            # (a time of some hundredths of a second has no ratio to speak of)
-            fits = figures[1] < most_bytes and large < most_seconds and (figures[4] <= RATIO or large < 0.1)
-            passed = passed and fits
-            note = "  " + said.decode("ascii", "replace").strip()[:40] if args.command in ("check", "run") else ""
-            told(args, name, figures, note if fits else note + "  ABOVE ITS BOUND")
-    sys.exit(0 if passed or not args.check else 1)
+        for form in forms:
+            small, large = (measured(args, folder, form, size) for size in sizes)
+            ends, above = judged(form, small, large)
+            right = right and not ends and not (args.check and set(above) - {"noise"})
+            told(args, form.name, small, large, [*ends, *above])
+    sys.exit(0 if right else 1)
 
 
 if __name__ == "__main__":

@@ -1,7 +1,7 @@
 #!/usr/bin/env python3
 """Lets each call that the program makes outside itself fail in turn, and judges what it answers then.
 
-usage: tools/faults.py [--program PROGRAM] [--only WORD] [--kinds KIND,..] [--most N] [--part K/N]
+usage: tools/faults.py [--program PROGRAM] [--only WORD] [--kinds KIND,..] [--most N] [--part K/N] [--jobs N] [--minutes N]
        tools/faults.py --kit NUMBER,.. [--kinds alloc,io,short]
 
 PROGRAM (default: crates/pearl/out/pearl beside this folder; `./pearl` builds it) is run with every command over the plants
@@ -16,18 +16,24 @@ Kinds of calls: `alloc` an allocation, `open` and `read` those of files, `write`
 spread evenly. What is right is told beside each kind below (`after_..`). Where nothing else is said, nothing comes on
 standard error, and the program ends by itself.
 
+So many workers as the machine has processors, or --jobs, deal with shares of a command's faults, each of them every 16th one,
+first the first share of every command, so that what --minutes breaks off has tried some of all. Each share asks the command
+again without faults, which has to answer the same each time.
+
 Each difference is told with what reproduces it. At the end stands a table of what was tried. The status is 1 where an
 answer wasn't right.
 """
 
 import argparse
 import glob
+import multiprocessing
 import os
 import shutil
 import struct
 import subprocess
 import sys
 import tempfile
+import time
 from collections import Counter
 from dataclasses import dataclass, field
 
@@ -42,6 +48,8 @@ KIT = {"alloc": "--fail-alloc", "io": "--fail-io", "short": "--short-io"}
 # What tools/faults.c tells: counts by kind, hits, bytes given, bytes written, files, allocations before each file, a name.
 TOLD = struct.Struct("6q 4q 8q 256s")
 SECONDS = 300
+# The faults of a command are dealt with in so many shares.
+SHARES = 16
 
 
 @dataclass(frozen=True)
@@ -71,10 +79,11 @@ class Hit:
 class Runner:
     """Runs the program behind the library."""
 
-    def __init__(self, program, folder):
+    def __init__(self, program, folder, library=None):
         self.program, self.told = program, os.path.join(folder, "told")
-        self.library = os.path.join(folder, "faults.so")
-        subprocess.run(["cc", "-O1", "-shared", "-fPIC", "-o", self.library, os.path.join(HERE, "faults.c")], check=True)
+        self.library = library or os.path.join(folder, "faults.so")
+        if not library:
+            subprocess.run(["cc", "-O1", "-shared", "-fPIC", "-o", self.library, os.path.join(HERE, "faults.c")], check=True)
 
     def run(self, words, fault=None):
         """The answer and what was told."""
@@ -287,27 +296,62 @@ def refused(folder):
         yield words
 
 
+def name_of(words):
+    """A command by the names of its files."""
+    return " ".join(os.path.basename(word) for word in words) or "(no words)"
+
+
+# The runner of a worker.
+WORKER = {}
+
+
+def begun(program, library):
+    """Gives a worker a runner with a folder of its own."""
+    WORKER["runner"] = Runner(program, tempfile.mkdtemp(dir=os.path.dirname(library)), library)
+
+
+def share(work):
+    """Tries one share of a command's faults: the command, how it is without them, how many, and what wasn't right."""
+    words, number, kinds, most = work
+    runner, row = WORKER["runner"], Counter()
+    whole = Whole(runner, words)
+    if whole.answer.status is None:
+        return words, None, row, [("nothing", "it didn't end in time, and none of this share was tried")]
+    problems = []
+    if number == 0:
+        row["commands"] += 1
+        problems.append(("nothing", without_faults(whole)))
+    for fault in list(faults(whole, kinds, most))[number::SHARES]:
+        answer, hit = runner.run(words, fault)
+        row[fault.kind] += 1
+        row["went on"] += fault.kind == "alloc" and answer == whole.answer
+        problems.append((fault, judged(whole, fault, answer, hit)))
+    return words, (whole.answer, whole.hit.calls), row, [(str(fault), why) for fault, why in problems if why]
+
+
+def shares(args, commands):
+    """The shares of the chosen commands, the first of each first."""
+    chosen = [words for words in commands if args.only in name_of(words)]
+    return [(words, number, args.kinds, args.most) for number in range(SHARES) for words in chosen]
+
+
 def tried(runner, args, folder):
     """Tries all faults of all commands: for each command and kind how many, how they ended, and what wasn't right."""
-    counts, wrong = {}, 0
     part, parts = args.part
-    for words in [*plants(runner, folder), *refused(folder)][part - 1::parts]:
-        name = " ".join(os.path.basename(word) for word in words) or "(no words)"
-        if args.only not in name:
-            continue
-        whole = Whole(runner, words)
-        row = counts.setdefault(words[0] if is_command(words) else "no command", Counter())
-        problems = [("nothing", without_faults(whole))]
-        row["commands"] += 1
-        for fault in faults(whole, args.kinds, args.most):
-            answer, hit = runner.run(words, fault)
-            row[fault.kind] += 1
-            row["went on"] += fault.kind == "alloc" and answer == whole.answer
-            problems.append((fault, judged(whole, fault, answer, hit)))
-        for fault, why in problems:
-            if why:
+    work = shares(args, [*plants(runner, folder), *refused(folder)][part - 1::parts])
+    counts, wholes, wrong, done, ends = {}, {}, 0, 0, time.monotonic() + 60 * args.minutes
+    with multiprocessing.Pool(args.jobs, begun, (runner.program, runner.library)) as pool:
+        for words, whole, row, problems in pool.imap_unordered(share, work):
+            done += 1
+            counts.setdefault(words[0] if is_command(words) else "no command", Counter()).update(row)
+            if whole and wholes.setdefault(tuple(words), whole) != whole:
+                problems.append(("nothing", "it isn't the same each time"))
+            for fault, why in problems:
                 wrong += 1
-                print(f"{name}: {fault}: {why}\n    words: {' '.join(words)}", flush=True)
+                print(f"{name_of(words)}: {fault}: {why}\n    words: {' '.join(words)}", flush=True)
+            if args.minutes and time.monotonic() > ends:
+                print(f"broken off: {done} of {len(work)} shares", flush=True)
+                break
     return counts, wrong
 
 
@@ -385,6 +429,8 @@ def main():
     parser.add_argument("--part", type=lambda text: [int(it) for it in text.split("/")], default=(1, 1),
                         help="as 2/8: the second of eight parts of the commands")
     parser.add_argument("--most", type=int, default=0, help="so many faults of a kind for a command; 0: all")
+    parser.add_argument("--jobs", type=int, default=os.cpu_count(), help="so many workers")
+    parser.add_argument("--minutes", type=float, default=0, help="broken off after so many; 0: never")
     args = parser.parse_args()
     args.kinds = args.kinds or (tuple(KIT) if args.kit else KINDS)
     if args.kit:

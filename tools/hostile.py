@@ -1,8 +1,9 @@
 #!/usr/bin/env python3
 """Gives the program random and damaged files for every command, and judges what it answers.
 
-usage: tools/hostile.py [--program PROGRAM | --try] [--count N] [--seed S] [--from K] [--only SORT]
-                        [--other PROGRAM [--each N]] [--keep FOLDER]
+usage: tools/hostile.py [--program PROGRAM | --try] [--count N] [--seed S] [--from K] [--share I/J] [--only SORT]
+                        [--jobs N] [--copies] [--seconds N] [--summary FILE] [--other PROGRAM [--each N]] [--keep FOLDER]
+       tools/hostile.py --sum FILE ..
 
 PROGRAM (default: crates/pearl/out/pearl beside this folder; `./pearl` builds it) gets N inputs, the K-th on, each made of
 the seed and its number alone, from the plants of crates/pearl_examples/data, their journals and their objects:
@@ -18,36 +19,49 @@ Each answer has to be one that the command may have (tools/reading/answers.py), 
 together: `check`, `print`, `compile` and `run` refuse a source with one line, `exec` of an object does what `run` of its
 source does, `watch` ends as `exec` does or refuses the name that `list` shows to be wrong, `save` refuses what `exec` does,
 `resume` goes on as `exec` of both parts does, `list` and `exec` refuse the same bytes at the same place, the text of a text
-is itself. With --other another
-implementation is asked for each N-th input, run with the same words, and has to answer the same status and bytes; only the
-bytes of an object may be others, which it then lists and executes as well. Each run has ten seconds and 4 GiB.
+is itself. With --other another implementation is asked for each N-th input, run with the same words, and has to answer the
+same status and bytes; only the bytes of an object may be others, which it then lists and executes as well.
+
+Each run has ten seconds (--seconds) and 4 GiB, and is a process of its own. An input with a run that didn't end in time is
+tried again when all others were, alone, with as many seconds of a processor. --jobs tries N inputs at once. With --copies
+(tools/copies.c, which `cc` builds) the program is loaded once for a hundred inputs, and each run begins in a copy of the
+loaded process, which costs less. --share tries the I-th of J parts of the numbers alone.
 
 With --try it is the program's text that runs, by `rt try --cases`, which takes some minutes for each command before it
 begins: the answers are judged one by one.
 
-Each difference is told with its seed and number, and kept in FOLDER. The status is 1 where there is one. Where it is
-ended by a signal, what was tried so far is told.
+Each difference is told with its seed and number, behind the hundred inputs that it is one of, and kept in FOLDER. The
+status is 1 where there is one, or an input that is still to be tried again. Where it is ended by a signal, what was tried
+so far is told. FILE has the counts, after each hundred inputs; --sum adds such files up, and writes the runs as a table.
 """
 
 import argparse
 import glob
+import multiprocessing
 import os
 import random
 import re
 import resource
+import shutil
 import signal
 import sys
 import tempfile
-from collections import Counter
+from contextlib import contextmanager
 
 from reading import damage
-from reading.answers import (BAD_NAME, BAD_OBJECT, DONE, NO_WORDS, Answer, asked, by_try, disagreement, is_command, leaves,
-                             gone_on, refused_name, unlawful)
+from reading.answers import (BAD_NAME, BAD_OBJECT, DONE, NO_WORDS, Answer, by_try, disagreement, gone_on, is_command, leaves,
+                             refused_name, unlawful)
+from reading.asking import Copies, Runs, library
+from reading.tally import Tally, summed
 
 TOP = os.path.dirname(os.path.dirname(os.path.abspath(__file__)))
 DATA = os.path.join(TOP, "crates", "pearl_examples", "data")
 SORTS = ("source", "source", "source", "object", "object", "journal", "journal", "snapshot", "snapshot", "words")
-SECONDS, MEMORY = 10, 4 << 30
+MEMORY = 4 << 30
+# So many inputs are tried between two words of how far it has come.
+SPAN = 100
+# Where the files of an input stand: in memory where there is such a place, unless TMPDIR names one.
+SHELF = None if "TMPDIR" in os.environ or not os.path.isdir("/dev/shm") else "/dev/shm"
 
 
 def read(path):
@@ -64,14 +78,15 @@ def written(folder, name, data):
 
 
 class Plants:
-    """The plants, each with its source, its journals and its object, as bytes."""
+    """The plants, each with its source, its journals and its object, as bytes, and how many slots its leaves have."""
 
-    def __init__(self, compiled):
+    def __init__(self, compiled, listed):
         self.paths = sorted(glob.glob(os.path.join(DATA, "*.pearl")))
         self.sources = [read(path) for path in self.paths]
         self.logs = [[damage.bounded(read(log)) for log in sorted(glob.glob(f"{path[:-len('.pearl')]}*.journal"))]
                      for path in self.paths]
         self.objects = [compiled(path) for path in self.paths]
+        self.slots = [leaves(listed(made)) for made in self.objects]
 
     def any(self, dice, place, files):
         """The file of this plant, or sometimes another one's; files are lists of one or more for each plant."""
@@ -89,26 +104,46 @@ def sort_of(dice, only):
     return dice.choice(sorts or SORTS)
 
 
+def spent():
+    """The seconds of a processor of this process and of those that it has waited for."""
+    return sum(sum(resource.getrusage(who)[:2]) for who in (resource.RUSAGE_SELF, resource.RUSAGE_CHILDREN))
+
+
 class Judge:
-    """Runs one input after the other, and tells what isn't right."""
+    """Runs one input after the other, and tells what isn't right; alone each run has its seconds of a processor."""
 
-    def __init__(self, args, folder):
-        self.args, self.folder = args, folder
-        self.plants = Plants(lambda path: self.ask(["compile", path]).out)
-        self.counts, self.runs, self.compared, self.wrong = Counter(), Counter(), 0, 0
-        self.problems = []
+    def __init__(self, args, alone=False):
+        self.args, self.alone = args, alone
+        self.files, self.problems, self.tally = {}, [], Tally()
 
-    def ask(self, words):
-        return asked([self.args.program, *words], SECONDS)
+    def __enter__(self):
+        self.shelf = tempfile.TemporaryDirectory(dir=SHELF)
+        self.folder = self.shelf.name
+        self.runs = Copies(self.args.program, self.args.library) if self.args.copies else Runs()
+        self.plants = Plants(lambda path: self.ask(["compile", path], True).out,
+                             lambda made: self.ask(["list", self.file("object", made)], True).out)
+        return self
+
+    def __exit__(self, *_):
+        self.runs.close()
+        self.shelf.cleanup()
+
+    def file(self, name, data):
+        """The path of a file of this input with these bytes."""
+        self.files[name] = data
+        return written(self.folder, name, data)
+
+    def ask(self, words, alone):
+        return self.runs.asked([self.args.program, *words], self.args.seconds, alone)
 
     def answer(self, words, compare):
         """The answer of a command, judged by itself and beside the other's."""
-        answer = self.ask(words)
-        self.runs[words[0] if is_command(words) else "no command", answer.status] += 1
+        answer = self.ask(words, self.alone)
+        self.tally.ran(words[0] if is_command(words) else "no command", answer)
         why = unlawful(words, answer)
         if compare and answer.status != NO_WORDS:
-            other = asked([self.args.other, *words], 30 * SECONDS)
-            self.compared += 1
+            other = self.runs.asked([self.args.other, *words], 30 * self.args.seconds)
+            self.tally.compared += 1
             free = (words[:1], answer.status) == (["compile"], DONE)
             if other.status != answer.status or other.out != answer.out and not free:
                 why = why or f"it has {answer.shown()}, the other {other.shown()}"
@@ -120,17 +155,17 @@ class Judge:
         """All commands over a source, and over what they make of it."""
         place = dice.randrange(len(self.plants.paths))
         data = damage.source(dice, self.plants.sources[place], dice.choice(self.plants.sources))
-        path = written(self.folder, "source", data)
-        log = written(self.folder, "journal", dice.choice(self.plants.logs[place]))
+        path = self.file("source", data)
+        log = self.file("journal", dice.choice(self.plants.logs[place]))
         answers = {name: self.answer([name, path], compare) for name in ("check", "print", "compile")}
         answers["run"] = self.answer(["run", path, log], compare)
         if answers["compile"].status == DONE:
-            made = written(self.folder, "object", answers["compile"].out)
+            made = self.file("object", answers["compile"].out)
             answers["exec"] = self.answer(["exec", made, log], compare)
             if self.answer(["list", made], compare).status != DONE:
                 self.problems.append("list refuses what compile made")
         if answers["print"].status == DONE:
-            text = written(self.folder, "text", answers["print"].out)
+            text = self.file("text", answers["print"].out)
             if self.answer(["print", text], compare) != answers["print"]:
                 self.problems.append("the text of a text isn't itself")
             self.sizes_are_kept(self.answer(["check", text], compare), answers["check"])
@@ -145,18 +180,17 @@ class Judge:
         """An object, over a journal of the plant that it comes of."""
         place = dice.randrange(len(self.plants.paths))
         data = damage.made(dice, self.plants.objects[place], self.plants.any(dice, place, self.plants.objects))
-        path = written(self.folder, "object", data)
-        log = written(self.folder, "journal", dice.choice(self.plants.logs[place]))
+        path = self.file("object", data)
+        log = self.file("journal", dice.choice(self.plants.logs[place]))
         listed, run = self.answer(["list", path], compare), self.answer(["exec", path, log], compare)
         if (listed.status == BAD_OBJECT) != bool(re.fullmatch(rb"error object \d+\n", run.out)):
             self.problems.append(f"list has {listed.shown()}, exec {run.shown()}")
         if listed.status == BAD_OBJECT and listed != run:
             self.problems.append(f"list has {listed.shown()}, exec {run.shown()}")
-        self.watch(dice, compare, (path, log), listed, run)
+        self.watch(dice, compare, (path, log), leaves(listed.out), run)
 
-    def watch(self, dice, compare, files, listed, run):
-        """A monitor of some leaves of an object, which is listed so, over a journal over which it runs so."""
-        slots = leaves(listed.out)
+    def watch(self, dice, compare, files, slots, run):
+        """A monitor of some leaves of an object, which have these slots, over a journal over which it runs so."""
         names = damage.names(dice, sorted(slots))
         watched = self.answer(["watch", *files, *names], compare)
         if not is_command(["watch", *files, *names]):
@@ -170,24 +204,23 @@ class Judge:
         """A journal, over a plant and over its object."""
         place = dice.randrange(len(self.plants.paths))
         data, other = dice.choice(self.plants.logs[place]), self.plants.any(dice, place, self.plants.logs)
-        log = written(self.folder, "journal", damage.journal(dice, data, other))
-        made = written(self.folder, "object", self.plants.objects[place])
+        log = self.file("journal", damage.journal(dice, data, other))
+        made = self.file("object", self.plants.objects[place])
         one = self.answer(["run", self.plants.paths[place], log], compare)
         two = self.answer(["exec", made, log], compare)
         if one != two:
             self.problems.append(f"run has {one.shown()}, exec of the object {two.shown()}")
-        self.watch(dice, compare, (made, log), self.answer(["list", made], False), two)
-
+        self.watch(dice, compare, (made, log), self.plants.slots[place], two)
         self.parts(dice, compare, made, read(log), two)
 
     def parts(self, dice, compare, made, data, whole):
         """A journal in two parts, over an object that does this over the whole: saved behind the first, then gone on with."""
         *both, lines = damage.parted(dice, data)
-        first, rest = (written(self.folder, name, part) for name, part in zip(("first", "rest"), both))
+        first, rest = (self.file(name, part) for name, part in zip(("first", "rest"), both))
         saved, run = self.answer(["save", made, first], compare), self.answer(["exec", made, first], False)
         self.problems += filter(None, [disagreement({"exec": run, "save": saved})])
         if saved.status == DONE and run.status == DONE:
-            path, nothing = written(self.folder, "snapshot", saved.out), written(self.folder, "nothing", b"")
+            path, nothing = self.file("snapshot", saved.out), self.file("nothing", b"")
             closing, on = self.answer(["resume", path, nothing], compare), self.answer(["resume", path, rest], compare)
             has_clock = re.search(rb"^[ \t]*clock", both[1], re.M)
             self.problems += filter(None, [None if has_clock else gone_on(whole, run, closing, on, lines)])
@@ -195,120 +228,229 @@ class Judge:
     def snapshot(self, dice, compare):
         """A damaged snapshot of a plant over a front of its journal; what is taken is gone on with."""
         place = dice.randrange(len(self.plants.paths))
-        made = written(self.folder, "object", self.plants.objects[place])
+        made = self.file("object", self.plants.objects[place])
         first, rest, _ = damage.parted(dice, dice.choice(self.plants.logs[place]))
-        saved = self.answer(["save", made, written(self.folder, "first", first)], compare)
+        saved = self.answer(["save", made, self.file("first", first)], compare)
         if saved.status == DONE:
-            path = written(self.folder, "snapshot", damage.snapshot(dice, saved.out, saved.out))
-            self.answer(["resume", path, written(self.folder, "rest", rest)], compare)
+            path = self.file("snapshot", damage.snapshot(dice, saved.out, saved.out))
+            self.answer(["resume", path, self.file("rest", rest)], compare)
 
     def words(self, dice, compare):
         """Words, among them paths."""
         self.answer(damage.words(dice, [*self.plants.paths[:2], self.folder, os.path.join(self.folder, "missing")]), compare)
 
     def go(self, number):
-        """Tries the input of this number."""
-        dice, self.problems = dice_of(self.args.seed, number), []
+        """What comes of the input of this number, which is late where a run of it didn't end in time."""
+        dice, self.problems, self.files, self.tally = dice_of(self.args.seed, number), [], {}, Tally()
         sort = sort_of(dice, self.args.only)
-        self.counts[sort] += 1
         getattr(self, sort)(dice, bool(self.args.other) and number % self.args.each == 0)
-        for problem in self.problems:
-            self.wrong += 1
-            print(f"seed {self.args.seed} number {number}, {sort}: {problem}", flush=True)
+        if not self.alone and any(status == "None" for _, status in self.tally.runs):
+            return Tally(late=[number])
+        self.tally.inputs[sort] += 1
+        self.tally.wrong = [f"seed {self.args.seed} number {number}, {sort}: {problem}" for problem in self.problems]
         if self.problems and self.args.keep:
             os.makedirs(self.args.keep, exist_ok=True)
-            for name in os.listdir(self.folder):
-                written(self.args.keep, f"{self.args.seed}-{number}-{name}", read(os.path.join(self.folder, name)))
+            for name, data in self.files.items():
+                written(self.args.keep, f"{self.args.seed}-{number}-{name}", data)
+        return self.tally
+
+    def tried(self, numbers):
+        """What comes of the inputs of these numbers."""
+        before, whole = spent(), Tally()
+        for number in numbers:
+            whole.add(self.go(number))
+        self.runs.end()
+        whole.seconds = spent() - before
+        return whole
 
 
-def shown(counts, runs):
-    """What was tried."""
-    print("inputs: " + ", ".join(f"{count:,} {sort}" for sort, count in sorted(counts.items())))
-    for command in sorted({command for command, _ in runs}):
-        ends = sorted((status, count) for (name, status), count in runs.items() if name == command)
-        print(f"{command}: " + ", ".join(f"{count:,} with status {status}" for status, count in ends))
+def work(args, spans, sender):
+    """What a worker does: it sends what comes of these spans of numbers, one after the other."""
+    signal.signal(signal.SIGINT, signal.SIG_IGN)
+    signal.signal(signal.SIGTERM, lambda *_: sys.exit(1))
+    with Judge(args) as judge:
+        for span in spans:
+            sender.send(judge.tried(span))
+
+
+def by_workers(args, spans):
+    """What comes of each span of numbers, in order; the workers take turns in them."""
+    context, workers = multiprocessing.get_context("fork"), []
+    try:
+        for place in range(args.jobs):
+            receiver, sender = context.Pipe(duplex=False)
+            workers.append((context.Process(target=work, args=(args, spans[place::args.jobs], sender)), receiver))
+            workers[-1][0].start()
+            sender.close()
+        for place in range(len(spans)):
+            yield workers[place % args.jobs][1].recv()
+        for process, _ in workers:
+            process.join()
+    except EOFError:
+        sys.exit("a worker ended before its numbers were tried")
+    finally:
+        for process, receiver in workers:
+            process.terminate()
+            process.join()
+            receiver.close()
+
+
+def tallies(args, spans):
+    """What comes of each span of numbers, in order."""
+    if args.jobs > 1:
+        yield from by_workers(args, spans)
+    else:
+        with Judge(args) as judge:
+            yield from map(judge.tried, spans)
+
+
+def again(args, numbers):
+    """What comes of the inputs of these numbers where each is tried alone."""
+    with Judge(args, alone=True) as judge:
+        tally = judge.tried(numbers)
+    tally.again = len(numbers)
+    return tally
+
+
+@contextmanager
+def limited():
+    """Each process that is begun has so much memory and writes so much at most, and SIGTERM breaks off."""
+    limits = {limit: resource.getrlimit(limit) for limit in (resource.RLIMIT_AS, resource.RLIMIT_FSIZE)}
+    before = signal.signal(signal.SIGTERM, signal.default_int_handler)
+    try:
+        for limit, (_, most) in limits.items():
+            resource.setrlimit(limit, (MEMORY, most))
+        yield
+    finally:
+        signal.signal(signal.SIGTERM, before)
+        for limit, kept in limits.items():
+            resource.setrlimit(limit, kept)
+
+
+def told(args, whole, tally, behind):
+    """Adds what came of some inputs, and tells it; the numbers below this one were tried."""
+    whole.add(tally)
+    for line in tally.wrong:
+        print(line, flush=True)
+    if args.summary:
+        whole.write(args.summary, {"seed": args.seed, "only": args.only, "from": args.begin, "behind": behind})
 
 
 def by_program(args):
     """Tries them with a program; how many answers weren't right."""
-    before = resource.getrlimit(resource.RLIMIT_AS)
-    resource.setrlimit(resource.RLIMIT_AS, (MEMORY, before[1]))
-    signal.signal(signal.SIGTERM, signal.default_int_handler)
+    end, size = args.begin + args.count, max(1, min(SPAN, -(-args.count // args.jobs)))
+    spans = [range(begin, min(begin + size, end)) for begin in range(args.begin, end, size)]
+    whole, behind = Tally(), args.begin
     try:
-        with tempfile.TemporaryDirectory() as folder:
-            judge = Judge(args, folder)
-            for number in range(args.begin, args.begin + args.count):
-                judge.go(number)
+        with limited():
+            for tally in tallies(args, spans):
+                behind = min(behind + size, end)
+                told(args, whole, tally, behind)
+            late, whole.late = whole.late, []
+            if late:
+                told(args, whole, again(args, late), behind)
     except KeyboardInterrupt:
-        print(f"broken off in number {number}")
-    finally:
-        resource.setrlimit(resource.RLIMIT_AS, before)
-    shown(judge.counts, judge.runs)
-    print(f"{sum(judge.counts.values()):,} inputs, {sum(judge.runs.values()):,} runs, "
-          f"{judge.compared:,} of them beside another implementation: {judge.wrong} not right")
-    return judge.wrong
+        print(f"broken off behind number {behind - 1}")
+    print("\n".join(whole.lines()))
+    return len(whole.wrong) + len(whole.late)
+
+
+def forms_of(source, log):
+    """For each command the sort of its input, its words, in which `{}` is the input, and the files that stand beside it."""
+    return {"check": ("source", ["check", "{}"], {}), "print": ("source", ["print", "{}"], {}),
+            "compile": ("source", ["compile", "{}"], {}), "list": ("object", ["list", "{}"], {}),
+            "exec": ("object", ["exec", "{}", "j"], {"j": log}), "run": ("journal", ["run", "s", "{}"], {"s": source}),
+            "watch": ("object", ["watch", "{}", "j", "Wert", "Stand"], {"j": log})}
+
+
+def by_command(args, shelf, make, sort, words, data):
+    """What comes of inputs that are made so, where the program's text is given them with these words."""
+    for name in os.listdir(shelf):
+        os.remove(os.path.join(shelf, name))
+    for number in range(args.begin, args.begin + args.count):
+        written(shelf, f"i{number}", make(dice_of(args.seed, number)))
+    flags = [it for name, path in data.items() for it in ("--data", f"{name}={path}")]
+    answers, tally = by_try(shelf, flags, words), Tally()
+    for name in os.listdir(shelf):
+        answer = answers.get(name, Answer(None, b""))
+        paths = [os.path.join(shelf, name) if word == "{}" else data.get(word, word) for word in words]
+        why = unlawful(paths, answer)
+        tally.inputs[sort] += 1
+        tally.ran(words[0], answer)
+        if why:
+            tally.wrong.append(f"seed {args.seed} number {name[1:]}, {words[0]}: {why}")
+    return tally
 
 
 def by_text(args):
     """Tries them with the program's text; how many answers weren't right."""
-    wrong, runs = 0, Counter()
+    whole, plants = Tally(), sorted(glob.glob(os.path.join(DATA, "*.pearl")))
     with tempfile.TemporaryDirectory() as folder:
-        plants = sorted(glob.glob(os.path.join(DATA, "*.pearl")))
         shelf = os.path.join(folder, "cases")
         logs = [damage.bounded(read(path)) for path in sorted(glob.glob(os.path.join(DATA, "*.journal")))]
-        source, log = plants[0], written(folder, "journal", logs[0])
+        log, sources = written(folder, "journal", logs[0]), [read(plant) for plant in plants]
         os.makedirs(shelf)
-        for place, plant in enumerate(plants):
-            written(shelf, f"i{place}", read(plant))
+        for place, plant in enumerate(sources):
+            written(shelf, f"i{place}", plant)
         objects = [answer.out for answer in by_try(shelf, [], ["compile", "{}"]).values()]
-        forms = {"check": ("source", ["check", "{}"], {}), "print": ("source", ["print", "{}"], {}),
-                 "compile": ("source", ["compile", "{}"], {}), "list": ("object", ["list", "{}"], {}),
-                 "exec": ("object", ["exec", "{}", "j"], {"j": log}), "run": ("journal", ["run", "s", "{}"], {"s": source}),
-                 "watch": ("object", ["watch", "{}", "j", "Wert", "Stand"], {"j": log})}
-        sources = [read(plant) for plant in plants]
         makers = {"source": lambda dice: damage.source(dice, dice.choice(sources), dice.choice(sources)),
                   "object": lambda dice: damage.made(dice, dice.choice(objects), dice.choice(objects)),
                   "journal": lambda dice: damage.journal(dice, logs[0], dice.choice(logs))}
-        for command, (sort, words, data) in forms.items():
-            if args.only not in (sort, ""):
-                continue
-            for name in os.listdir(shelf):
-                os.remove(os.path.join(shelf, name))
-            for number in range(args.begin, args.begin + args.count):
-                written(shelf, f"i{number}", makers[sort](dice_of(args.seed, number)))
-            flags = [it for name, path in data.items() for it in ("--data", f"{name}={path}")]
-            answers = by_try(shelf, flags, words)
-            for name in os.listdir(shelf):
-                answer = answers.get(name, Answer(None, b""))
-                paths = [os.path.join(shelf, name) if word == "{}" else data.get(word, word) for word in words]
-                why = unlawful(paths, answer)
-                runs[command, answer.status] += 1
-                wrong += bool(why)
-                if why:
-                    print(f"seed {args.seed} number {name[1:]}, {command}: {why}", flush=True)
-    shown(Counter(), runs)
-    print(f"{sum(runs.values()):,} runs by rt try: {wrong} not right")
-    return wrong
+        for sort, words, data in forms_of(plants[0], log).values():
+            if args.only in (sort, ""):
+                told(args, whole, by_command(args, shelf, makers[sort], sort, words, data), args.begin + args.count)
+    print("\n".join(whole.lines()))
+    return len(whole.wrong)
 
 
-def main():
+def by_files(paths):
+    """Adds up what the files of parts have; how many answers weren't right."""
+    try:
+        whole = summed(paths)
+    except ValueError as error:
+        sys.exit(str(error))
+    print("\n".join([*whole.wrong, *whole.lines(), f"{whole.seconds:,.0f} s of a processor", "", *whole.table()]))
+    return len(whole.wrong) + len(whole.late)
+
+
+def options():
+    """What the words ask for."""
     parser = argparse.ArgumentParser(description=__doc__.splitlines()[0])
     parser.add_argument("--program", default=os.path.join(TOP, "crates", "pearl", "out", "pearl"))
     parser.add_argument("--try", dest="by_try", action="store_true", help="the program's text, by `rt try`")
     parser.add_argument("--count", type=int, default=1000)
     parser.add_argument("--seed", default="1")
     parser.add_argument("--from", dest="begin", type=int, default=1)
+    parser.add_argument("--share", type=lambda text: [int(it) for it in text.split("/")], default=(1, 1),
+                        help="as 2/8: the second of eight parts of the numbers")
     parser.add_argument("--only", default="", help="source, object, journal, snapshot or words")
+    parser.add_argument("--jobs", type=int, default=1, help="so many inputs at once")
+    parser.add_argument("--copies", action="store_true", help="load the program once for many runs")
+    parser.add_argument("--seconds", type=int, default=10, help="so many for each run")
+    parser.add_argument("--summary", help="a file for the counts")
+    parser.add_argument("--sum", nargs="+", help="files of counts, which are added up")
     parser.add_argument("--other", help="another implementation's program")
     parser.add_argument("--each", type=int, default=1, help="with --other each N-th input is compared")
     parser.add_argument("--keep", help="a folder for inputs that are not answered right")
     args = parser.parse_args()
-    if args.by_try:
-        sys.exit(1 if by_text(args) else 0)
+    (part, parts), begin, count = args.share, args.begin, args.count
+    args.begin = begin + count * (part - 1) // parts
+    args.count = begin + count * part // parts - args.begin
+    return args
+
+
+def main():
+    args = options()
+    if args.sum or args.by_try:
+        sys.exit(1 if (by_files(args.sum) if args.sum else by_text(args)) else 0)
     if not os.access(args.program, os.X_OK):
         sys.exit(f"{args.program} is no program: build it first, or name one by --program")
+    if args.copies and not shutil.which("cc"):
+        sys.exit("--copies asks for cc, which isn't there")
     args.program = os.path.abspath(args.program)
-    sys.exit(1 if by_program(args) else 0)
+    with tempfile.TemporaryDirectory() as folder:
+        args.library = library(folder) if args.copies else None
+        sys.exit(1 if by_program(args) else 0)
 
 
 if __name__ == "__main__":

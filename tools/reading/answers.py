@@ -4,6 +4,7 @@ import os
 import re
 import subprocess
 from dataclasses import dataclass
+from functools import lru_cache
 
 from . import objects, snapshot
 from .tokens import TOP
@@ -17,6 +18,8 @@ FILES = {"run": ("source", "journal"), "compile": ("source",), "exec": ("object"
          "resume": ("snapshot", "journal"), "bench": ()}
 # So many names may stand behind the files of `watch`, and so many slots may be watched.
 NAMES, SLOTS = 64, 1024
+# A byte of a word that is no UTF-8.
+NO_TEXT = re.compile("[\udc80-\udcff]")
 
 NUMBER = r"(?:0|[1-9]\d*)"
 KIND = r"(?:FIXED\(\d+\)|BIT\(\d+\)|CHAR\(\d+\)|CLOCK|DURATION)"
@@ -124,6 +127,12 @@ def is_too_long(words):
     return any(length is not None and length > LIMITS[sort] for sort, length in lengths.items())
 
 
+@lru_cache(8)
+def matched(form, out):
+    """How all that was written is of this form, or None. The last ones are kept, since commands often write the same."""
+    return re.fullmatch(form, out.decode("latin-1"), re.A)
+
+
 def unlawful(words, answer):
     """Why these words can't have this answer where nothing outside fails and memory is there, or None."""
     if answer.status is None:
@@ -132,7 +141,7 @@ def unlawful(words, answer):
         return f"it was ended by signal {-answer.status}"
     if answer.told:
         return f"standard error has {answer.told[:80]!r}"
-    if any("\udc80" <= letter <= "\udcff" for word in words for letter in word):
+    if any(map(NO_TEXT.search, words)):
         return None if (answer.status, answer.out) == (NO_WORDS, b"") else f"words that aren't UTF-8 have {answer.shown()}"
     if not is_command(words):
         right = (answer.status, answer.out) == (USAGE, b"error usage\n")
@@ -140,12 +149,11 @@ def unlawful(words, answer):
     files = words[1:1 + len(FILES[words[0]])]
     if answer.status == READ_FAULT and any(length_of(path) is None for path in files):
         before = {"watch": VALUES, "save": ""}.get(words[0], EVENTS)
-        right = re.fullmatch(rf"{before}error read\n", answer.out.decode("latin-1"), re.A)
-        return None if right else "`error read` isn't all"
+        return None if matched(rf"{before}error read\n", answer.out) else "`error read` isn't all"
     form = FORMS.get((words[0], answer.status))
     if form is None:
         return f"{words[0]} has status {answer.status}"
-    found = re.fullmatch(form, answer.out.decode("latin-1"), re.A)
+    found = matched(form, answer.out)
     if not found:
         return f"{words[0]} has {answer.shown()}"
     if answer.status == TOO_LONG and not is_too_long(words):
@@ -205,7 +213,9 @@ def last_line(answer):
 def gone_on(whole, first, closing, rest, lines):
     """Why a run doesn't go on from its snapshot as it should, or None: over both journals and over the first one the object
     is run so, and from the snapshot over nothing and over the second one; the first journal has so many lines."""
-    out = re.sub(rb"(?<=^error journal )\d+", lambda found: b"%d" % (int(found[0]) + lines), rest.out, flags=re.M)
+    out = rest.out
+    if rest.status == BAD_JOURNAL:
+        out = re.sub(rb"(?<=^error journal )\d+", lambda found: b"%d" % (int(found[0]) + lines), out, flags=re.M)
     if closing.status != DONE or not first.out.endswith(closing.out):
         return f"exec has {first.shown()}, resume of its snapshot {closing.shown()}"
     if (rest.status, first.out.removesuffix(closing.out) + out) != (whole.status, whole.out):

@@ -1,6 +1,7 @@
 """Random and damaged files for the program: sources, objects, journals and words, each made of a seed."""
 
 import re
+from functools import lru_cache
 
 from .objects import Reader
 
@@ -77,11 +78,18 @@ def by_parts(dice, parts, others):
     if change == 5 and len(back) > 1:
         at = dice.randrange(len(back))
         return front + back[at:at + 1] + part[1:] + back[:at] + part[:1] + back[at + 1:]
-    return [number(dice) if re.fullmatch(rb"\d+", it) and not dice.randrange(6) else it for it in parts]
+    return [number(dice) if it.isdigit() and not dice.randrange(6) else it for it in parts]
 
 
+@lru_cache(64)
 def tokens(data):
     return TOKEN.findall(data)
+
+
+@lru_cache(64)
+def no_blanks(data):
+    """The tokens that aren't blanks."""
+    return [it for it in tokens(data) if it.strip()]
 
 
 def lines(data):
@@ -93,7 +101,7 @@ def source(dice, data, other):
     sort = dice.randrange(12)
     if sort == 0:
         return noise(dice)
-    pool = [it for it in tokens(other) if it.strip()]
+    pool = no_blanks(other)
     if sort == 1:
         return b" ".join(dice.choice(pool) for _ in range(dice.randrange(60)))
     for _ in range(dice.choice([1, 1, 1, 2, 3, 8])):
@@ -160,14 +168,14 @@ def journal(dice, data, other):
         elif sort < 8:
             data = b"".join(by_parts(dice, lines(data), lines(other) or [b"\n"]))
         else:
-            data = b"".join(by_parts(dice, tokens(data), [it for it in tokens(other) if it.strip()] or [b"1"]))
+            data = b"".join(by_parts(dice, tokens(data), no_blanks(other) or [b"1"]))
     return bounded(data)
 
 
 def parted(dice, data):
     """A journal in two parts, the first of which ends with a line end: at a line, or within a `run`, `tick` or `pass`; and how
     many of its lines are before the second part's first one."""
-    parts = lines(data if data[-1:] == b"\n" else data + b"\n")
+    parts = re.findall(rb"[^\n]*\n", data if data[-1:] == b"\n" else data + b"\n")
     at = dice.randrange(len(parts) + 1)
     before, after = parts[:at], parts[at:]
     found = re.fullmatch(rb"(run|tick|pass) (\d{1,9})( \d+)?\r?\n", after[0]) if after else None

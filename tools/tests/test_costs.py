@@ -1,5 +1,6 @@
 """The sources, objects and journals of tools/costs.py: how long they are, and that the built program takes them."""
 
+import argparse
 import os
 import subprocess
 import tempfile
@@ -18,11 +19,17 @@ class Files(unittest.TestCase):
     """Each form is filled up to a length."""
 
     def test_lengths(self):
+        for command in ("print", "check", "list", "journal"):
+            for form in cost_forms.FORMS[command]:
+                made = costs.filled(form.text, SIZE)
+                least = SIZE if command != "list" else SIZE - 39
+                self.assertTrue(least <= len(made) <= SIZE, (command, form.name, len(made)))
+
+    def test_names(self):
+        """A form is chosen by its name, so no two of a command have the same one."""
         for command, forms in cost_forms.FORMS.items():
-            for name, form, _, _ in forms:
-                made = costs.filled(form, SIZE)
-                whole = command not in ("list", "exec")
-                self.assertTrue(len(made) == SIZE if whole else SIZE - 40 < len(made) <= SIZE, (command, name, len(made)))
+            names = [form.name for form in forms]
+            self.assertEqual(len(set(names)), len(names), command)
 
     def test_names_of_one_hash(self):
         """They differ, and some letters by which one of them was found lead where all lead."""
@@ -41,7 +48,45 @@ class Files(unittest.TestCase):
 
     def test_every_opcode_is_there(self):
         """The 73 opcodes, Const and Drop in one form."""
-        self.assertEqual(len(cost_objects.OBJECTS), 72)
+        self.assertEqual(len(cost_objects.CODES), 72)
+
+
+class Judged(unittest.TestCase):
+    """What is told of a form besides its figures."""
+
+    def told(self, small, large, statuses=(0, 0), form=cost_forms.Form("a", str, 560, 3)):
+        costs_of = (costs.Cost(seconds, peak, {status}, b"") for (seconds, peak), status in zip((small, large), statuses))
+        return costs.judged(form, *costs_of)
+
+    def test_bounds(self):
+        self.assertEqual(self.told((0.5, 1e8), (2.4, 5.5e8)), ([], []))
+        for small, large, above in (((1, 1e8), (3.1, 1e8), "ABOVE ITS BOUND"), ((1, 1e8), (2, 5.7e8), "ABOVE ITS BOUND"),
+                                    ((0.5, 1e8), (2.5, 1e8), "NOT LINEAR"), ((0.05, 1e8), (0.29, 1e8), "noise"),
+                                    ((0.05, 1e8), (0.31, 1e8), "NOT LINEAR"), ((0.5, 1e8), (float("inf"), 1e8), "NOT LINEAR")):
+            self.assertIn(above, self.told(small, large)[1], (small, large))
+        self.assertEqual(self.told((0.01, 1e8), (0.09, 1e8)), ([], []))
+
+    def test_statuses(self):
+        refused = cost_forms.Form("a", str, 560, 3, cost_forms.REFUSED)
+        self.assertEqual(self.told((1, 1), (1, 1), (2, 2), refused)[0], [])
+        self.assertEqual(self.told((1, 1), (1, 1), (2, 0), refused)[0], ["ENDED WITH [0], NOT 2"])
+        self.assertEqual(self.told((1, 1), (1, 1), (7, 7))[0], ["ENDED WITH [7], NOT 0"] * 2)
+
+    def test_what_is_broken_off(self):
+        """A run that is broken off has no status and no time; what the runs before it ended with is still told."""
+        with tempfile.TemporaryDirectory() as folder:
+            program = os.path.join(folder, "program")
+            with open(program, "w", encoding="ascii") as file:
+                file.write(f"#!/bin/sh\nif [ -e {folder}/once ]; then while :; do :; done; fi\ntouch {folder}/once\nexit 7\n")
+            os.chmod(program, 0o755)
+            form = cost_forms.Form("a", lambda count: "a" * count, 560, 3)
+            args = argparse.Namespace(command="check", program=program, runs=2, seconds=1)
+            cost = costs.measured(args, folder, form, 100)
+            self.assertEqual((cost.seconds, cost.statuses, cost.said), (float("inf"), {7}, b"broken off"))
+
+    def test_names_alone(self):
+        status, out, _ = tool.run("costs.py", "check", "--names", "--only", "BEGINs", "--only", "one CASE")
+        self.assertEqual((status, len(out.splitlines())), (0, 5), out)
 
 
 class Taken(unittest.TestCase):
@@ -65,25 +110,33 @@ class Taken(unittest.TestCase):
 
     def test_objects(self):
         none = self.written("journal", b"")
-        for name, form, _, _ in cost_objects.OBJECTS:
-            path = self.written("object", form(5))
-            self.assertEqual(self.ends("exec", path, none), (0, [b"0 close"]), name)
-            self.assertEqual(self.ends("list", path)[0], 0, name)
+        for form in cost_objects.OBJECTS:
+            path = self.written("object", form.text(5))
+            status, last = self.ends("exec", path, none)
+            self.assertEqual((status, last == [b"0 close"]), (form.status, not form.status), form.name)
+            self.assertEqual(self.ends("list", path)[0], 0, form.name)
 
     def test_journals(self):
         plant = self.written("plant", cost_objects.PLANT)
-        for name, form, _, _ in cost_objects.JOURNALS:
-            status, last = self.ends("run", plant, self.written("journal", form(5)))
-            self.assertEqual((status, last[0].split()[1:]), (0, [b"close"]), name)
+        for form in cost_objects.JOURNALS:
+            status, last = self.ends("run", plant, self.written("journal", form.text(5)))
+            self.assertEqual((status, last[0].split()[1:]), (0, [b"close"]), form.name)
 
     def test_sources(self):
-        for name, form, _, _ in cost_forms.PRINTED:
-            self.assertEqual(self.ends("print", self.written("source", form(3)))[0], 0, name)
-        for name, form, _, _ in cost_forms.COMPILED:
-            path = self.written("source", form(3))
+        """A short text of a form may be accepted where its long one is refused, and not the other way round."""
+        for form in cost_forms.PRINTED:
+            self.assertEqual(self.ends("print", self.written("source", form.text(3)))[0], form.status, form.name)
+        for form in cost_forms.CHECKED:
+            path = self.written("source", form.text(3))
             check = self.ends("check", path)
-            self.assertIn(check[0], (0, 2), name)
-            self.assertEqual(self.ends("compile", path)[0], check[0], name)
+            self.assertIn(check[0], (0, form.status), form.name)
+            self.assertEqual(self.ends("compile", path)[0], check[0], form.name)
+
+    def test_refused_sources(self):
+        """What is marked as refused is so at a length above which it stays so, and what isn't marked isn't."""
+        for form in cost_forms.CHECKED:
+            path = self.written("source", costs.filled(form.text, 4 * SIZE))
+            self.assertEqual(self.ends("check", path)[0], form.status, form.name)
 
 
 if __name__ == "__main__":

@@ -1,11 +1,13 @@
 """tools/faults.py, over a program in tests/faults that stands for the real one, and what a command may answer."""
 
+import argparse
 import glob
 import os
 import shutil
 import subprocess
 import tempfile
 import unittest
+from collections import Counter
 
 import tool
 import faults
@@ -58,6 +60,31 @@ class Faults(unittest.TestCase):
                             "line": {"open", "read"}, "says": {"alloc"}, "faults": {"alloc"}, "silent": {"alloc"},
                             "late": {"whole", "alloc"}}.items():
             self.assertEqual(self.wrong(run, does), kinds, does)
+
+    def test_shares_leave_nothing_out(self):
+        """The shares of a command try each fault once, find what is wrong, and agree on what it does without faults."""
+        run = ["run", self.small, self.journal]
+        all_of = Counter(fault.kind for fault in faults.faults(faults.Whole(self.runner, run), faults.KINDS, 0))
+        faults.WORKER["runner"] = self.runner
+        for does, kinds in ({"": set(), "seam": {"short"}, "ends": {"write", "nothing"}, "late": {"alloc", "nothing"}}).items():
+            os.environ["WRONG"] = does
+            try:
+                made = [faults.share((run, number, faults.KINDS, 0)) for number in range(faults.SHARES)]
+            finally:
+                del os.environ["WRONG"]
+            tried = sum((row for _, _, row, _ in made), Counter())
+            found = {why[0].split()[0] for _, _, _, problems in made for why in problems}
+            self.assertEqual(found, kinds, does)
+            self.assertEqual(tried["commands"], 1)
+            if not does:
+                self.assertEqual({kind: tried[kind] for kind in faults.KINDS}, dict(all_of))
+            self.assertEqual(len({repr(whole) for _, whole, _, _ in made}), 1)
+
+    def test_first_shares_come_first(self):
+        args = argparse.Namespace(only="check", kinds=("read",), most=3)
+        work = faults.shares(args, [["check", "a"], ["print", "a"], ["check", "b"]])
+        self.assertEqual([(words[1], number) for words, number, _, _ in work[:3]], [("a", 0), ("b", 0), ("a", 1)])
+        self.assertEqual(len(work), 2 * faults.SHARES)
 
     def test_all_calls_are_counted(self):
         """Of each kind all calls fail once, and those of memory and writing also with all later ones."""

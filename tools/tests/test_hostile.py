@@ -1,13 +1,19 @@
 """tools/hostile.py, over a script in tests/hostile that stands for the program, and what damaged files are."""
 
+import glob
 import os
 import random
 import re
+import shutil
+import signal
+import subprocess
+import sys
 import tempfile
+import time
 import unittest
 
 import tool
-from reading import damage
+from reading import asking, damage, tally
 
 PROGRAM = os.path.join(tool.HERE, "hostile", "program")
 SOURCE, JOURNAL = tool.data("crossing.pearl"), tool.data("crossing.journal")
@@ -21,8 +27,8 @@ def read(path):
 class Hostile(unittest.TestCase):
     """Random and damaged inputs for a small program."""
 
-    def tried(self, *options, does=""):
-        return tool.run("hostile.py", "--program", PROGRAM, "--count", "12", *options, variables={"WRONG": does})
+    def tried(self, *options, does="", mark=""):
+        return tool.run("hostile.py", "--program", PROGRAM, "--count", "12", *options, variables={"WRONG": does, "MARK": mark})
 
     def test_a_right_program(self):
         status, out, told = self.tried("--count", "30")
@@ -51,6 +57,88 @@ class Hostile(unittest.TestCase):
             self.assertIn("seed 1 number 12, object: 'list object': it has ", out)
             self.assertEqual(sorted(os.listdir(kept)), ["1-12-journal", "1-12-object"])
 
+    def test_workers_and_copies(self):
+        """Several workers, and copies of the loaded program, answer what one worker does."""
+        one = self.tried("--count", "40")
+        self.assertEqual(self.tried("--count", "40", "--jobs", "3"), one)
+        wrong = self.tried(does="close")
+        self.assertEqual(self.tried("--jobs", "2", does="close"), wrong)
+        if shutil.which("cc"):
+            self.assertEqual(self.tried("--count", "40", "--copies", "--jobs", "2"), one)
+            self.assertEqual(self.tried("--copies", does="close"), wrong)
+            self.assertIn("it was ended by signal 9", self.tried("--copies", does="killed")[1])
+
+    def test_parts_add_up(self):
+        """Shares have the counts of the whole together, and none is added twice."""
+        with tempfile.TemporaryDirectory() as folder:
+            parts = [os.path.join(folder, f"{part}") for part in range(4)]
+            self.tried("--count", "50", "--from", "7", "--summary", parts[3], does="name")
+            for part in (1, 2, 3):
+                self.tried("--count", "50", "--from", "7", "--share", f"{part}/3", "--summary", parts[part - 1], does="name")
+            status, out, told = tool.run("hostile.py", "--sum", *parts[:3])
+            self.assertEqual((status, told), (1, ""))
+            whole, sums = tally.summed(parts[3:]), tally.summed(parts[:3])
+            self.assertEqual((sums.inputs.total(), len(sums.wrong) > 0), (50, True))
+            for one, other in ((whole.inputs, sums.inputs), (whole.runs, sums.runs), (whole.wrong, sums.wrong)):
+                self.assertEqual(one, other)
+            for line in (*whole.lines(), *whole.table(), *whole.wrong):
+                self.assertIn(f"{line}\n", out)
+            self.assertRegex(tool.run("hostile.py", "--sum", *parts[2:])[0], " have the same numbers$")
+
+    def test_what_is_late(self):
+        """An input with a run that doesn't end in time is tried again alone, and told where it doesn't then."""
+        options = ("--only", "snapshot", "--count", "2", "--seconds", "1")
+        for more in ((), ("--copies",)) if shutil.which("cc") else ((),):
+            with tempfile.TemporaryDirectory() as folder:
+                status, out, _ = self.tried(*options, *more, does="busy", mark=os.path.join(folder, "mark"))
+            self.assertEqual(status, 0, out)
+            self.assertRegex(out, r"[12] tried again alone, 0 still to be\n2 inputs, 4 runs")
+        status, out, _ = self.tried(*options, "--count", "1", does="endless")
+        self.assertEqual(status, 1)
+        self.assertIn("seed 1 number 1, snapshot: 'resume snapshot rest': it didn't end in time", out)
+
+    def test_a_signal_breaks_off(self):
+        """What was tried so far is told, and no file is left."""
+        with tempfile.TemporaryDirectory() as folder:
+            summary, variables = os.path.join(folder, "summary"), {**os.environ, "WRONG": "", "TMPDIR": folder}
+            words = [sys.executable, os.path.join(tool.TOOLS, "hostile.py"), "--program", PROGRAM, "--count", "100000",
+                     "--jobs", "2", "--summary", summary]
+            with subprocess.Popen(words, env=variables, stdout=subprocess.PIPE) as run:
+                while not os.path.exists(summary):
+                    time.sleep(0.05)
+                run.send_signal(signal.SIGTERM)
+                out = run.communicate()[0].decode()
+            behind = int(re.search(r"^broken off behind number (\d+)$", out, re.M)[1])
+            self.assertEqual((run.returncode, behind % 100), (0, 0))
+            self.assertEqual(tally.summed([summary]).inputs.total(), behind)
+            self.assertIn(f"\n{behind:,} inputs, ", out)
+            self.assertEqual(glob.glob(os.path.join(folder, "*")), [summary])
+
+
+class Asking(unittest.TestCase):
+    """What a program answers that is run again and again."""
+
+    def setUp(self):
+        self.runs = asking.Runs()
+        self.addCleanup(self.runs.close)
+
+    def asked(self, script, *more):
+        answer = self.runs.asked(["sh", "-c", script], *more)
+        return answer.status, answer.out, answer.told
+
+    def test_all_is_told(self):
+        """Each answer has its own status and bytes, however many."""
+        for _ in range(2):
+            long = self.asked("printf %0200000d 7; echo told >&2; exit 3", 10)
+            self.assertEqual(long, (3, b"0" * 199999 + b"7", b"told\n"))
+            self.assertEqual(self.asked("cat; printf out; kill -11 $$", 10), (-11, b"out", b""))
+
+    def test_time_is_bounded(self):
+        """By the clock, or alone by a processor's time, of which waiting takes none."""
+        for script, alone, status in (("while :; do :; done", True, None), ("exec sleep 5", False, None),
+                                      ("sleep 1.2", True, 0)):
+            self.assertEqual(self.asked(f"printf out; {script}", 1, alone), (status, b"out", b""))
+
 
 class Damage(unittest.TestCase):
     """Files that are made of a seed."""
@@ -68,7 +156,7 @@ class Damage(unittest.TestCase):
 
     def test_parts_are_the_whole(self):
         """A journal in two parts has its lines, of which one may be two that do as much."""
-        for data in (read(JOURNAL), b"run 7", b"", b"tick 3\npass 2 9\n"):
+        for data in (read(JOURNAL), b"run 7", b"", b"tick 3\npass 2 9\n", b"# a\rb\nrun 5\r\n"):
             halves = 0
             for number in range(200):
                 first, rest, before = damage.parted(random.Random(number), data)
@@ -76,7 +164,7 @@ class Damage(unittest.TestCase):
                 self.assertTrue(not first or first.endswith(b"\n"))
                 cut = whole.split() != data.split()
                 halves += cut
-                self.assertEqual(len(first.splitlines()) - cut, before)
+                self.assertEqual(first.count(b"\n") - cut, before)
                 totals = [sum(int(it) for it in re.findall(rb"^(?:run|tick|pass) (\d+)", text, re.M)) for text in (whole, data)]
                 self.assertEqual(totals[0], totals[1])
             self.assertTrue(halves > 20 or not data)
