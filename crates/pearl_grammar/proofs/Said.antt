@@ -15,6 +15,7 @@ use Rattle.pearl_tree.specs.Standing.{HasWord, HasSymbol, IsName, SpellsName, Sp
 use Rattle.pearl_tree.specs.Formats.{SpellsFmt}
 use Rattle.pearl_grammar.specs.Rules.{Spells}
 use Rattle.pearl_tree.specs.Statements.{SpellsAfter, SpellsValue, SpellsPeriodEnd, SpellsPeriod, SpellsStart, SpellsOnce}
+use Rattle.pearl_tree.specs.Statements.{SpellsFor, SpellsBodyDecl}
 use Rattle.pearl_grammar.specs.Laws.{IsSaid, LengthsAreSaid, TypesAreSaid, VariablesAreSaid, SpecificationsAreSaid, Empties}
 use Rattle.pearl_grammar.specs.Laws.{Exits, Assigns, Calls, Returns, Activates, Continues, Resumes, TasksAreActedOn}
 use Rattle.pearl_grammar.specs.Laws.{SemasAreActedOn, InterruptsAreActedOn, Puts, Gets, Sends, Takes}
@@ -230,3 +231,11 @@ semas_said depth tokens from x to = (
     h.1.2.2.1,
   ),
 )
+
+-- ---- parts of statements that hold others
+
+pub for_said : IsSaid SpellsFor statement.for_rule statement.for_parts
+for_said = search rules
+
+pub body_declaration_said : IsSaid SpellsBodyDecl statement.body_declaration_rule statement.body_declaration_parts
+body_declaration_said = search rules

@@ -18,6 +18,7 @@ use Rattle.pearl_tree.specs.declared.statement.SemaWord.{SemaWord}
 use Rattle.pearl_tree.specs.declared.statement.SemaWord.TheVariants.{Request, Release}
 use Rattle.pearl_tree.specs.declared.statement.InterruptWord.{InterruptWord}
 use Rattle.pearl_tree.specs.declared.statement.InterruptWord.TheVariants.{Enable, Disable, Trigger}
+use Rattle.pearl_tree.specs.declared.statement.BodyDecl.{BodyDecl}
 use Rattle.pearl_tree.specs.declared.statement.PeriodEnd.{PeriodEnd}
 use Rattle.pearl_tree.specs.declared.statement.PeriodEnd.TheVariants.{Until, During}
 use Rattle.pearl_tree.specs.declared.statement.Start.{Start}
@@ -30,9 +31,11 @@ use Rattle.pearl_tree.specs.declared.format.FreeCode.TheVariants.{A}
 use Rattle.pearl_tree.specs.declared.format.Fmt.TheVariants.{Free, Wide}
 use Rattle.pearl_tree.specs.Standing.{Spelling, what_at, IsAt, SpellsBracketedNumber}
 use Rattle.pearl_tree.specs.Formats.{free_text, wide_text, SpellsFmt}
+use Rattle.pearl_tree.specs.Declarations.{SpellsItem}
 use Rattle.pearl_tree.specs.Expressions.{SpellsWhole, SpellsOwnRef, SpellsTerms}
 use Rattle.pearl_tree.specs.Statements.{task_word, sema_word, interrupt_word, SpellsAfter, SpellsValue, SpellsPeriodEnd}
-use Rattle.pearl_tree.specs.Statements.{SpellsPeriod, SpellsStart, SpellsOnce, SpellsMaybeList, SpellsStmt}
+use Rattle.pearl_tree.specs.Statements.{SpellsPeriod, SpellsStart, SpellsOnce, SpellsMaybeList, SpellsFor, SpellsBodyDecl}
+use Rattle.pearl_tree.specs.Statements.{SpellsStmt}
 use Rattle.pearl_tree.specs.Stops.{BeginAlike}
 use Rattle.pearl_parse_expr.proofs.Offered as local
 use Rattle.pearl_parse_expr.proofs.Offered.{Kept, parts_of, boxed, token_of, after_of, list_long, letter_token, letter_lawful}
@@ -48,6 +51,7 @@ use Rattle.pearl_grammar.proofs.Walk.{Walk}
 use Rattle.pearl_grammar.proofs.Alternatives.{OfKind, of_one_kind}
 use Rattle.pearl_grammar.proofs.Leaves as leaf
 use Rattle.pearl_grammar.proofs.DeclarationFacts.{close_facts, bracketed_number}
+use Rattle.pearl_grammar.proofs.TypeFacts.{item}
 use Rattle.pearl_grammar.proofs.Said as said
 use Rattle.pearl_grammar.proofs.Productions as production
 
@@ -324,6 +328,10 @@ empty_facts = close_facts
 pub empty_keeps : (depth : ℕ) → Kept 1 (λ tokens from x to. SpellsStmt tokens depth from (Empty x) to)
 empty_keeps = kind_keeps Empty rule.empty_rule rule.empty_parts said.empty_said empty_facts (omega arith, tt) (omega arith)
 
+pub empty_begins : Begins Empty rule.empty_rule empty_facts
+empty_begins = whole_kind_begins Empty rule.empty_rule rule.empty_parts said.empty_said empty_facts (omega arith, tt)
+    (λ h. h.0) (λ h. refl)
+
 abbrev pub exit_facts : Facts rule.exit_rule
 exit_facts = (omega arith, close_facts)
 
@@ -525,3 +533,30 @@ take_keeps = kind_keeps Take rule.take_rule (λ x. rule.take_parts x.value) said
 pub take_begins : Begins Take rule.take_rule take_facts
 take_begins = whole_kind_begins Take rule.take_rule (λ x. rule.take_parts x.value) said.take_said take_facts (omega arith, tt)
     (λ h. boxed (record { target = h.1.0; dation = h.1.1.0; place = h.0 })) (λ h. refl)
+
+-- ---- parts of statements that hold others
+
+abbrev pub for_facts : Facts rule.for_rule
+for_facts = (omega arith, (leaf.id, tt))
+
+abbrev pub for_name : Leaf SpellsFor
+for_name = production.whole_leaf SpellsFor rule.for_rule rule.for_parts said.for_said for_facts tt (λ h. h.0) (λ h. refl)
+
+abbrev pub body_declaration_facts : Facts rule.body_declaration_rule
+body_declaration_facts = (omega arith, (item, close_facts))
+
+pub body_declaration_start : production.Start 24 SpellsBodyDecl rule.body_declaration_rule body_declaration_facts
+body_declaration_start = production.starts SpellsBodyDecl rule.body_declaration_rule rule.body_declaration_parts
+    said.body_declaration_said body_declaration_facts (omega arith, tt) 24 (omega arith)
+    (λ others from to small h.
+    let items = h.1.1.1 in
+    let few : length h.0.1.0 < 2 ^ 63 = omega (
+      arith,
+      list_long others (SpellsItem others)
+          (λ at x end g. omega (arith, after_of 2 SpellsItem item.kept others at x end g)) (from + 1) h.0.1.0 items.0
+          items.1,
+      items.2.1,
+      small,
+    ) in
+    let part : BodyDecl = record { items = parts_of h.0.1.0 few; place = h.0.0 } in
+    (part, (said.body_declaration_said others from part to).1 h.1))

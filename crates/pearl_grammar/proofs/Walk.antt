@@ -32,13 +32,18 @@ pub record Walk {X : Type 0} (room : ℕ) (whole : List Token → Spelling X) (t
   pub near : from ≤ stop
   pub inside : stop ≤ length tokens
 
--- a part was read behind what was stopped at `low`
-pub record Took {Y : Type 0} (inner : ℕ) (spells : List Token → Spelling Y) (extends : Option What → Bool)
-    (tokens : List Token) (at low : ℕ) (y : Y) (end stop : ℕ) : Type 0 where
+-- a part was read behind what was stopped at `low`; `other` is how all is told that begins where it does
+pub record TookAs {Y Z : Type 0} (inner : ℕ) (spells : List Token → Spelling Y) (other : List Token → Spelling Z)
+    (extends : Option What → Bool) (tokens : List Token) (at low : ℕ) (y : Y) (end stop : ℕ) : Type 0 where
   pub spelled : spells tokens at y end
-  pub longest : IsLongest spells extends tokens at end stop
+  pub longest : IsLongest other extends tokens at end stop
   pub bounds : StopsWithin tokens at low end stop
   pub least : GoesBehind inner spells tokens at low end stop
+
+-- told by the same words
+abbrev pub Took : {Y : Type 0} → ℕ → (List Token → Spelling Y) → (Option What → Bool) → List Token → ℕ → ℕ → Y → ℕ → ℕ →
+    Type 0
+Took inner spells extends tokens at low y end stop = TookAs inner spells spells extends tokens at low y end stop
 
 -- no part was read there
 pub record Lacks {Y : Type 0} (inner : ℕ) (spells : List Token → Spelling Y) (tokens : List Token) (at low : ℕ)
@@ -191,6 +196,39 @@ module _ {X : Type 0} {room : ℕ} {whole : List Token → Spelling X} {tokens :
     before = state_as room whole tokens from low (Left (Then part rest)) (Next (SpellsPart part) (Left rest)) at at stop stop
         a.level (omega arith) a.level.inside (inl refl) (λ others alike to h. ((h.0, h.3.0), (h.1, h.2, h.3.1)))
 
+    -- it has one end, since no token that goes on with it begins what is left, with which other words tell it
+    pub part_read_as : {Z : Type 0} {other : List Token → Spelling Z} {inner : ℕ} {extends : Option What → Bool}
+        {y : Value part} {end new : ℕ} → TookAs inner (SpellsPart part) other extends tokens at stop y end new →
+        ((others : List Token) (x : Value part) (m to : ℕ) → SpellsPart part others at x m → Left rest others m to →
+        (z : Z) × other others at z m) → AllAnswer false extends (firsts_of rest facts.1) → 1 ≤ least_of rest facts.1 →
+        inner + fill_of rest facts.1 + 8 * from ≤ room + 8 * at → fill_of rest facts.1 ≤ room →
+        Walk room whole tokens from low rest facts.1 early end new
+    part_read_as {Z} {other} {inner} {extends} {y} {end} {new} t told none solid fits few = record {
+      goes = λ others agree x to h. by others agree to
+          (a.goes others (shorter tokens others stop new (omega (arith, t.bounds)) agree) x to h);
+      level = states.past_part room whole tokens from low (fill_of rest facts.1) inner (SpellsPart part)
+          (Left rest) (part_is_local part facts.0) (rule_fills rest facts.1 a.firm) few at stop fits before y end new
+          t.spelled (omega (arith, t.bounds)) (omega (arith, t.bounds)) t.least;
+      firm = a.firm;
+      near = omega (arith, t.bounds, a.near);
+      inside = omega (arith, t.bounds);
+    }
+      where
+        met : (others : List Token) (m to : ℕ) → Left rest others m to → (m ≡ end) ⊎ EndsEarly extends others end m →
+            Left rest others end to
+        met others m to g (inl same) = subst (λ k. Left rest others k to) same g
+        met others m to g (inr e) = absurd (clash _ e.1 (answers false extends (firsts_of rest facts.1) (what_at others m)
+            none (rule_begins rest facts.1 a.firm solid others m g.0 to g.1)))
+
+        by : (others : List Token) → BeginAlike tokens others new → (to : ℕ) →
+            Left (Then part rest) others at to ⊎ EndsEarly early others at to →
+            Left rest others end to ⊎ EndsEarly early others end to
+        by others agree to (inl g) =
+            let left : Left rest others g.1.0 to = (g.0.1, g.1.2) in
+            let z = told others g.0.0 g.1.0 to g.1.1 left in
+            inl (met others g.1.0 to left (t.longest others agree z.0 g.1.0 z.1))
+        by others agree to (inr e) = inr (omega (arith, e.0, t.bounds), e.1)
+
     module _ {inner : ℕ} {extends : Option What → Bool} {y : Value part} {end new : ℕ}
         (t : Took inner (SpellsPart part) extends tokens at stop y end new) where
       behind_part : inner + fill_of rest facts.1 + 8 * from ≤ room + 8 * at → fill_of rest facts.1 ≤ room →
@@ -217,30 +255,10 @@ module _ {X : Type 0} {room : ℕ} {whole : List Token → Spelling X} {tokens :
           by (inl g) = inl (met g.1.0 (g.0.1, g.1.2) (t.longest others agree g.0.0 g.1.0 g.1.1))
           by (inr e) = inr (omega (arith, e.0, t.bounds), e.1)
 
-      -- it has one end, since no token that goes on with it begins what is left
       pub part_read : AllAnswer false extends (firsts_of rest facts.1) → 1 ≤ least_of rest facts.1 →
           inner + fill_of rest facts.1 + 8 * from ≤ room + 8 * at → fill_of rest facts.1 ≤ room →
           Walk room whole tokens from low rest facts.1 early end new
-      part_read none solid fits few = record {
-        goes = λ others agree x to h. by others to (shorter_or others agree x to h);
-        level = behind_part fits few;
-        firm = a.firm;
-        near = omega (arith, t.bounds, a.near);
-        inside = omega (arith, t.bounds);
-      }
-        where
-          one : (others : List Token) (to : ℕ) →
-              Left rest others end to ⊎ ((m : ℕ) × Left rest others m to × EndsEarly extends others end m) →
-              Left rest others end to
-          one others to (inl g) = g
-          one others to (inr g) = absurd (clash _ g.2.1 (answers false extends (firsts_of rest facts.1) (what_at others g.0)
-              none (rule_begins rest facts.1 a.firm solid others g.0 g.1.0 to g.1.1)))
-
-          by : (others : List Token) (to : ℕ) →
-              (Left rest others end to ⊎ ((m : ℕ) × Left rest others m to × EndsEarly extends others end m)) ⊎
-              EndsEarly early others end to → Left rest others end to ⊎ EndsEarly early others end to
-          by others to (inl g) = inl (one others to g)
-          by others to (inr e) = inr e
+      part_read = part_read_as t (λ others x m to h g. (x, h))
 
       -- what is left may be empty: then a whole may end where the part does
       pub part_taken : AllAnswer false extends (firsts_of rest facts.1) →

@@ -1,6 +1,9 @@
--- The productions of statements that hold no others, and how a tree holds their parts.
+-- The productions of statements that hold no others, of parts of those that do, and how a tree holds their parts.
 use Rattle.std.specs.Prelude.{◌≡◌, ℕ, ◌+◌, List}
+use Rattle.pearl_tree.specs.declared.name.Name.{Name}
+use Rattle.pearl_tree.specs.declared.declaration.Item.{Item}
 use Rattle.pearl_tree.specs.declared.token.Token.{Token}
+use Rattle.pearl_tree.specs.declared.statement.BodyDecl.{BodyDecl}
 use Rattle.pearl_tree.specs.declared.statement.PeriodEnd.{PeriodEnd}
 use Rattle.pearl_tree.specs.declared.statement.PeriodEnd.TheVariants.{Until, During}
 use Rattle.pearl_tree.specs.declared.statement.Period.{Period}
@@ -30,6 +33,7 @@ use Rattle.pearl_tree.specs.declared.statement.Take.{Take}
 use Rattle.pearl_tree.specs.Expressions.{SpellsWhole, SpellsOwnRef}
 use Rattle.pearl_tree.specs.Standing.{Spelling}
 use Rattle.pearl_tree.specs.Formats.{SpellsFmt}
+use Rattle.pearl_tree.specs.Declarations.{SpellsItem}
 use Rattle.pearl_tree.specs.Statements.{task_word, sema_word, interrupt_word, SpellsValue, SpellsAfter, SpellsPeriodEnd}
 use Rattle.pearl_tree.specs.Statements.{SpellsPeriod, SpellsStart, SpellsOnce, HasBecomes}
 use Rattle.pearl_tree.specs.declared.symbol.TheConstants as s
@@ -132,9 +136,17 @@ call_rule = Mark (Then (Flag w.CALL) (Then id (Then (MaybeBracketed expression) 
 abbrev pub call_parts : Call → Held call_rule
 call_parts x = (x.place, (x.call, (x.name, (x.arguments.items.items, tt))))
 
+-- ACTIVATE id [ PRIO expr ] ";"
+abbrev pub activation_rule : Rule
+activation_rule = word w.ACTIVATE (Then id (Then (Maybe (after w.PRIO)) close))
+
+-- [ all ] ACTIVATE id [ PRIO expr ] ";"
+abbrev pub begun_rule : Rule
+begun_rule = Then (Maybe period) activation_rule
+
 -- [ start ] ACTIVATE id [ PRIO expr ] ";"
 abbrev pub activate_rule : Rule
-activate_rule = Mark (Then (Maybe (One Start SpellsStart)) (word w.ACTIVATE (Then id (Then (Maybe (after w.PRIO)) close))))
+activate_rule = Mark (Then (Maybe (One Start SpellsStart)) activation_rule)
 
 abbrev pub activate_parts : Activate → Held activate_rule
 activate_parts x = (x.place, (x.start, (x.task, (x.priority, tt))))
@@ -223,3 +235,19 @@ return_rule = Mark (word w.RETURN (Then (Maybe (One Expr SpellsValue)) close))
 
 abbrev pub return_parts : Return → Held return_rule
 return_parts x = (x.place, (x.value, tt))
+
+-- ---- parts of statements that hold others
+
+-- FOR id
+abbrev pub for_rule : Rule
+for_rule = word w.FOR (Then id End)
+
+abbrev pub for_parts : Name → Held for_rule
+for_parts x = (x, tt)
+
+-- DCL item { "," item } ";"
+abbrev pub body_declaration_rule : Rule
+body_declaration_rule = Mark (word w.DCL (Then (Listed (One Item SpellsItem)) close))
+
+abbrev pub body_declaration_parts : BodyDecl → Held body_declaration_rule
+body_declaration_parts x = (x.place, (x.items.items.items, tt))

@@ -88,3 +88,9 @@ pub fn statements_are_said()
     ensures continue_ { Continues }
     ensures resume { Resumes }
 {}
+
+/// Those of the parts of statements that hold others do.
+pub fn inner_parts_are_said()
+    ensures control { IsSaid statements.SpellsFor parts.for_rule parts.for_parts }
+    ensures declaration { IsSaid statements.SpellsBodyDecl parts.body_declaration_rule parts.body_declaration_parts }
+{}

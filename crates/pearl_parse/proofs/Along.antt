@@ -1,42 +1,42 @@
 -- What the contracts of this crate's readers say of a part, as it is taken into a rule, and what they say where a
 -- token or a part of a rule is missing.
-use Rattle.std.proofs.Common.{◌≡◌, ℕ, ◌+◌, ◌*◌, ◌<◌, ◌≤◌, ◌⊎◌, inl, inr, max, Bool, true, false, ◌||◌, List, length}
+use Rattle.std.proofs.Common.{◌≡◌, ℕ, ◌+◌, ◌*◌, ◌<◌, ◌≤◌, ◌^◌, ◌⊎◌, inl, inr, max, Bool, true, false, List, length}
 use Rattle.std.proofs.Common.{Option}
 use Rattle.std.proofs.Common.{Some, None, Result, Ok, Err, refl, sym, ap, subst, ◌∙◌, arith}
 use Rattle.std.specs.Result.{IsErr, IsErrAnd}
 use Rattle.pearl_tree.specs.declared.name.Name.{Name}
 use Rattle.pearl_tree.specs.declared.token.What.{What}
 use Rattle.pearl_tree.specs.declared.token.Token.{Token}
-use Rattle.pearl_tree.specs.Standing.{Spelling, what_at, IsName, SpellsMaybe}
-use Rattle.pearl_tree.specs.Stops.{BeginAlike}
+use Rattle.pearl_tree.specs.Standing.{Spelling, what_at, IsName}
 use Rattle.pearl_parse_expr.specs.declared.reading.Halt.{Halt}
 use Rattle.pearl_parse_expr.specs.declared.reading.Halt.TheVariants.{Refused, NoMemory}
 use Rattle.pearl_parse_expr.specs.declared.reading.Reading.{Reading}
 use Rattle.pearl_parse_expr.specs.Stops.{EndsEarly, IsHalted}
 use Rattle.pearl_parse_expr.specs.Least.{HaltsIn}
 use Rattle.pearl_parse_expr.specs.Reads.{ReadsOnly, ReadsOnlyMaybe}
-use Rattle.pearl_parse_expr.proofs.Offered.{order, residual, shorter, clash, or_first, or_second}
-use Rattle.pearl_grammar.specs.Rules.{Part, Maybe, Rule, End, Then, Value, SpellsPart}
+use Rattle.pearl_parse_expr.proofs.Offered.{residual, shorter, clash}
+use Rattle.pearl_grammar.specs.Rules.{Part, Maybe, Rule, End, Then, Value, SpellsPart, Spells}
 use Rattle.pearl_grammar.specs.Declarations.{id}
 use Rattle.pearl_grammar.specs.Reached.{HaltsBehind, IsStopped, never}
-use Rattle.pearl_grammar.proofs.Offered.{Facts, AllAnswer, least_of, fill_of, firsts_of, Walk, Took, Lacks, one_read}
+use Rattle.pearl_grammar.proofs.Offered.{Facts, IsFirm, AllAnswer, least_of, fill_of, firsts_of, Walk, TookAs, Took, Lacks, one_read}
 use Rattle.pearl_grammar.proofs.Offered.{Left, answers, rule_begins, part_missing_as, none_only, Ends, moved, done}
+use Rattle.pearl_grammar.proofs.Offered.{opened, part_read_as}
 use Rattle.pearl_grammar.proofs.Offered as walk
 use Rattle.pearl_parse.specs.Stops.{IsMissing, SpellsOptional}
 use Rattle.pearl_parse.specs.Reads.{ReadsBehind, ReadsOnlyBehind}
 
 -- ---- parts that were read, no earlier stopped than what stands before them
 
-module _ {Y : Type 0} {inner : ℕ} {spells : List Token → Spelling Y} {tokens : List Token} {at first low : ℕ}
-    {x : Reading Y} (near : at ≤ first) where
-  pub took_behind : {extends : Option What → Bool} → ReadsBehind inner spells spells spells extends tokens at first low
-      (Ok x) → Took inner spells extends tokens at low x.part x.end x.stop
-  took_behind read = record {
-    spelled = read.spells;
-    longest = read.longest;
-    bounds = omega (arith, read.bounds, near);
-    least = read.least;
-  }
+pub took_as : {Y Z : Type 0} {inner : ℕ} {spells : List Token → Spelling Y} {other : List Token → Spelling Z}
+    {extends : Option What → Bool} {tokens : List Token} {at first low : ℕ} {x : Reading Y} → at ≤ first →
+    ReadsBehind inner spells other spells extends tokens at first low (Ok x) →
+    TookAs inner spells other extends tokens at low x.part x.end x.stop
+took_as near read = record {
+  spelled = read.spells;
+  longest = read.longest;
+  bounds = omega (arith, read.bounds, near);
+  least = read.least;
+}
 
 pub lacks_behind : {Y : Type 0} {inner : ℕ} {spells : List Token → Spelling Y} {tokens : List Token} {at first low : ℕ}
     {extends : Option What → Bool} {halt : Halt} → ReadsBehind inner spells spells spells extends tokens at first low
@@ -60,66 +60,25 @@ took_only_behind read near y spelled = record {
   least = read.least;
 }
 
--- a part that may be missing, where a token that may begin one begins one
-module _ {Y : Type 0} {inner : ℕ} (begins : Option What → Bool) {spells : List Token → Spelling Y} {tokens : List Token}
-    {at low : ℕ} {x : Reading (Option Y)} where
-  pub took_optional : (new : ℕ) → ReadsOnlyMaybe inner (λ tokens. SpellsMaybe (spells tokens)) (SpellsOptional begins
-      spells) (λ tokens. SpellsMaybe (spells tokens)) tokens at (Ok x) → new ≡ max x.stop low → low ≤ length tokens →
-      Took inner (λ tokens. SpellsMaybe (spells tokens)) begins tokens at low x.part x.end new
-  took_optional new read is within = record {
-    spelled = read.spells;
-    longest = λ others agree y to h.
-        by others (shorter tokens others x.stop new (omega (arith, is)) agree) y to h (begins (what_at others at)) refl
-        (order at x.end);
-    bounds = omega (arith, read.bounds, is, within);
-    least = (x.stop, omega (arith, read.bounds), read.least, is);
-  }
-    where
-      by : (others : List Token) → BeginAlike tokens others x.stop → (y : Option Y) (to : ℕ) →
-          SpellsMaybe (spells others) at y to → (b : Bool) → begins (what_at others at) ≡ b → (at < x.end) ⊎
-          (x.end ≤ at) →
-          (to ≡ x.end) ⊎ EndsEarly begins others x.end to
-      by others agree (Some y) to h b is o = inl (read.only others agree (Some y) to h)
-      by others agree None to h false is o = inl (read.only others agree None to (h, is))
-      by others agree None to h true is (inl ahead) =
-          inr (omega (arith, h), subst (λ k. begins (what_at others k) ≡ true) (sym h) is)
-      by others agree None to h true is (inr same) = inl (omega (arith, h, same, read.bounds))
-
--- one that a token of `extends` may go on with
-module _ {Y : Type 0} {inner : ℕ} (begins : Option What → Bool) {extends : Option What → Bool}
-    {spells : List Token → Spelling Y} {tokens : List Token} {at first low : ℕ} {x : Reading (Option Y)}
-    (near : at ≤ first) where
-  pub took_optional_behind : ReadsBehind inner (λ tokens. SpellsMaybe (spells tokens)) (SpellsOptional begins spells)
-      (λ tokens. SpellsMaybe (spells tokens)) extends tokens at first low (Ok x) →
-      Took inner (λ tokens. SpellsMaybe (spells tokens)) (λ token. begins token || extends token) tokens at low x.part
-      x.end x.stop
-  took_optional_behind read = record {
-    spelled = read.spells;
-    longest = λ others agree y to h. by others agree y to h (begins (what_at others at)) refl (order at x.end);
-    bounds = omega (arith, read.bounds, near);
-    least = read.least;
-  }
-    where
-      later : (others : List Token) (to : ℕ) → (to ≡ x.end) ⊎ EndsEarly extends others x.end to →
-          (to ≡ x.end) ⊎ EndsEarly (λ token. begins token || extends token) others x.end to
-      later others to (inl same) = inl same
-      later others to (inr e) = inr (e.0, or_second (begins (what_at others to)) (extends (what_at others to)) e.1)
-
-      by : (others : List Token) → BeginAlike tokens others x.stop → (y : Option Y) (to : ℕ) →
-          SpellsMaybe (spells others) at y to → (b : Bool) → begins (what_at others at) ≡ b → (at < x.end) ⊎
-          (x.end ≤ at) →
-          (to ≡ x.end) ⊎ EndsEarly (λ token. begins token || extends token) others x.end to
-      by others agree (Some y) to h b is o = later others to (read.longest others agree (Some y) to h)
-      by others agree None to h false is o =
-          later others to (read.longest others agree None to (h, is))
-      by others agree None to h true is (inl ahead) = inr (
-        omega (arith, h, ahead),
-        or_first (begins (what_at others to)) (extends (what_at others to))
-            (subst (λ k. begins (what_at others k) ≡ true) (sym h) is),
-      )
-      by others agree None to h true is (inr same) = inl (omega (arith, h, same, read.bounds, near))
+-- a part that may be missing, read for itself
+pub took_optional : {Y Z : Type 0} {inner : ℕ} {spells : List Token → Spelling Y} {other : List Token → Spelling Z}
+    {tokens : List Token} {at low new : ℕ} {x : Reading Y} → ReadsOnlyMaybe inner spells other spells tokens at (Ok x) →
+    new ≡ max x.stop low → low ≤ length tokens → TookAs inner spells other never tokens at low x.part x.end new
+took_optional {tokens = tokens} {new = new} {x = x} read is within = record {
+  spelled = read.spells;
+  longest = λ others agree y to h. inl (read.only others (shorter tokens others x.stop new (omega (arith, is)) agree) y to h);
+  bounds = omega (arith, read.bounds, is, within);
+  least = (x.stop, omega (arith, read.bounds), read.least, is);
+}
 
 -- ---- a rule's readers
+
+-- a reader of a rule's parts begins, behind what was stopped at `low`
+pub parts_begun : {room : ℕ} (rule : Rule) (facts : Facts rule) → IsFirm rule facts → {tokens : List Token}
+    {from low stop : ℕ} → from ≤ length tokens → low ≤ length tokens → stop ≡ max from low → length tokens < 2 ^ 55 →
+    room ≤ 2 ^ 55 → Walk room (Spells rule) tokens from low rule facts never from stop
+parts_begun rule facts firm inside within is few small = opened {rule = rule} {facts = facts} firm
+    (λ others from to small h. h) (λ others agree x to h. (x, h)) inside within is few small
 
 module _ {X : Type 0} {room : ℕ} {whole : List Token → Spelling X} {tokens : List Token} {from low : ℕ} where
   -- a token is missing, where it is told no earlier than at `told`, which is as good as the stop
@@ -138,31 +97,37 @@ module _ {X : Type 0} {room : ℕ} {whole : List Token → Spelling X} {tokens :
   lacks_token {rule} {facts} {at} {stop} halt wanted a absent all solid few =
       lacks_token_at stop halt wanted a absent refl all solid few
 
-  -- a part that may be missing begins, and isn't read
-  pub optional_stopped : (inner : ℕ) {part : Part} {rest : Rule} {facts : Facts (Then (Maybe part) rest)} {at stop : ℕ}
-      (begins : Option What → Bool) (halt : Halt) →
-      Walk room whole tokens from low (Then (Maybe part) rest) facts never at stop →
+-- a part that may be missing, where a token that may begin one begins one, and none that begins what is left
+module _ {X : Type 0} {room : ℕ} {whole : List Token → Spelling X} {tokens : List Token} {from low : ℕ} {part : Part}
+    {rest : Rule} {facts : Facts (Then (Maybe part) rest)} {at stop : ℕ} (begins : Option What → Bool)
+    (a : Walk room whole tokens from low (Then (Maybe part) rest) facts never at stop)
+    (other : AllAnswer false begins (firsts_of rest facts.1)) (solid : 1 ≤ least_of rest facts.1) where
+  told : (others : List Token) (x : Option (Value part)) (m to : ℕ) → SpellsPart (Maybe part) others at x m →
+      Left rest others m to → (y : Option (Value part)) × SpellsOptional begins (SpellsPart part) others at y m
+  told others (Some x) m to h g = (Some x, h)
+  told others None m to h g = (
+    None,
+    (
+      h,
+      ap (λ k. begins (what_at others k)) (sym h) ∙ answers false begins
+          (firsts_of rest facts.1) (what_at others m) other (rule_begins rest facts.1 a.firm solid others m g.0 to g.1),
+    ),
+  )
+
+  pub optional_read : {inner : ℕ} {extends : Option What → Bool} {y : Option (Value part)} {end new : ℕ} →
+      TookAs inner (SpellsPart (Maybe part)) (SpellsOptional begins (SpellsPart part)) extends tokens at stop y end new →
+      AllAnswer false extends (firsts_of rest facts.1) → inner + fill_of rest facts.1 + 8 * from ≤ room + 8 * at →
+      fill_of rest facts.1 ≤ room → Walk room whole tokens from low rest facts.1 never end new
+  optional_read t none fits few = part_read_as a t told none solid fits few
+
+  pub optional_stopped : (inner : ℕ) (halt : Halt) →
       IsStopped (SpellsOptional begins (SpellsPart part)) tokens at stop halt →
-      HaltsBehind inner (SpellsPart (Maybe part)) tokens at stop halt → AllAnswer false begins
-      (firsts_of rest facts.1) → 1 ≤ least_of rest facts.1 → inner + fill_of rest facts.1 + 8 * from ≤ room + 8 * at →
-      fill_of rest facts.1 ≤ room → Lacks room whole tokens from low halt
-  optional_stopped inner {part} {rest} {facts} {at} {stop} begins halt a refused least other solid fits few =
-      part_missing_as (SpellsOptional begins (SpellsPart part)) inner a told refused least fits few
-    where
-      told : (others : List Token) (x : Option (Value part)) (m to : ℕ) → SpellsPart (Maybe part) others at x m →
-          Left rest others m to →
-          (y : Option (Value part)) × (k : ℕ) × SpellsOptional begins (SpellsPart part) others at y k
-      told others (Some x) m to h g = (Some x, m, h)
-      told others None m to h g = (
-        None,
-        m,
-        (
-          h,
-          ap (λ k. begins (what_at others k)) (sym h) ∙ answers false begins
-              (firsts_of rest facts.1) (what_at others m) other (rule_begins rest facts.1 a.firm solid others m g.0 to
-              g.1),
-        ),
-      )
+      HaltsBehind inner (SpellsPart (Maybe part)) tokens at stop halt →
+      inner + fill_of rest facts.1 + 8 * from ≤ room + 8 * at → fill_of rest facts.1 ≤ room →
+      Lacks room whole tokens from low halt
+  optional_stopped inner halt refused least fits few =
+      part_missing_as (SpellsOptional begins (SpellsPart part)) inner a
+      (λ others x m to h g. let y = told others x m to h g in (y.0, m, y.1)) refused least fits few
 
 module _ {X : Type 0} {room : ℕ} {whole : List Token → Spelling X} {tokens : List Token} {from : ℕ} where
   pub name_read : {rest : Rule} {facts : Facts (Then id rest)} {early : Option What → Bool} {low at stop next : ℕ}
@@ -170,7 +135,7 @@ module _ {X : Type 0} {room : ℕ} {whole : List Token → Spelling X} {tokens :
       at name → at < length tokens → Walk room whole tokens from low rest facts.1 early next stop
   name_read a is here within = one_read a (λ others k x to h. h.1) is (here, refl) within
 
-  -- the same of one that is read for itself
+  -- a part that may be missing begins, is read for itself, and isn't read
   pub optional_missing : {inner : ℕ} {part : Part} {rest : Rule} {facts : Facts (Then (Maybe part) rest)} {at stop : ℕ}
       (begins : Option What → Bool) (halt : Halt) →
       Walk room whole tokens from 0 (Then (Maybe part) rest) facts never at stop →
@@ -179,8 +144,8 @@ module _ {X : Type 0} {room : ℕ} {whole : List Token → Spelling X} {tokens :
       inner + fill_of rest facts.1 + 8 * from ≤ room + 8 * at → fill_of rest facts.1 ≤ room →
       Lacks room whole tokens from 0 halt
   optional_missing {inner} {part} {rest} {facts} {at} {stop} begins halt a none below other solid fits few =
-      optional_stopped inner begins halt a (stopped halt none.refused) (halts halt none.refused none.least) other solid
-      fits few
+      optional_stopped begins a other solid inner halt (stopped halt none.refused) (halts halt none.refused none.least) fits
+      few
     where
       stopped : (e : Halt) → IsHalted (SpellsOptional begins (SpellsPart part)) tokens at e →
           IsStopped (SpellsOptional begins (SpellsPart part)) tokens at stop e

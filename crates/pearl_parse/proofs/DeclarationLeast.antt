@@ -1,20 +1,17 @@
 -- Declarations of bodies, tasks and procedures: what completes them behind their first parts.
-use Rattle.std.proofs.Common.{◌≡◌, ℕ, ◌+◌, ◌<◌, ◌≤◌, ◌^◌, ◌⊎◌, inl, inr, max, false, List, [], ◌∷◌, length, Option}
+use Rattle.std.proofs.Common.{◌≡◌, ℕ, ◌+◌, ◌<◌, ◌≤◌, ◌^◌, ◌⊎◌, inl, inr, max, List, [], length, Option}
 use Rattle.std.proofs.Common.{Result, Ok, Err, refl, arith}
-use Rattle.pearl_tree.specs.declared.declaration.Item.{Item}
 use Rattle.pearl_tree.specs.declared.declaration.Param.{Param}
 use Rattle.pearl_tree.specs.declared.name.Name.{Name}
-use Rattle.pearl_tree.specs.declared.name.Names.TheVariants.{One}
 use Rattle.pearl_tree.specs.declared.statement.Body.{Body}
 use Rattle.pearl_tree.specs.declared.tree.TaskHead.{TaskHead}
 use Rattle.pearl_tree.specs.declared.typing.Basic.{Basic}
-use Rattle.pearl_tree.specs.declared.typing.Typing.TheVariants as typing
 use Rattle.pearl_tree.specs.declared.token.Token.{Token}
 use Rattle.pearl_tree.specs.declared.limit.TheConstants as limit
-use Rattle.pearl_tree.specs.Standing.{Spelling, HasWord, HasSymbol, IsName, SpellsName, SpellsList}
+use Rattle.pearl_tree.specs.Standing.{Spelling, HasWord, HasSymbol, IsName, SpellsName}
 use Rattle.pearl_tree.specs.Standing.{SpellsMaybeBracketed}
-use Rattle.pearl_tree.specs.Declarations.{SpellsItem, SpellsParam}
-use Rattle.pearl_tree.specs.Statements.{SpellsBodyDecl, SpellsWholeBody}
+use Rattle.pearl_tree.specs.Declarations.{SpellsParam}
+use Rattle.pearl_tree.specs.Statements.{SpellsWholeBody}
 use Rattle.pearl_tree.specs.Modules.{SpellsTaskHead, SpellsReturns, SpellsBlock, SpellsDecl}
 use Rattle.pearl_tree.specs.declared.symbol.TheConstants as s
 use Rattle.pearl_tree.specs.declared.word_code.TheConstants as w
@@ -23,26 +20,26 @@ use Rattle.pearl_parse_expr.specs.declared.reading.Halt.TheVariants.{Refused, No
 use Rattle.pearl_parse_expr.specs.declared.reading.Reading.{Reading}
 use Rattle.pearl_parse_expr.specs.Stops.{IsHalted, is_word, is_symbol}
 use Rattle.pearl_parse_expr.specs.Least.{ReachesIn, GoesIn, HaltsIn, IsLeastIn}
-use Rattle.pearl_parse_expr.proofs.Offered.{IsLocal, parts_of}
+use Rattle.pearl_parse_expr.proofs.Offered.{IsLocal}
 use Rattle.pearl_parse_decl.specs.Readings.{behind}
-use Rattle.pearl_parse_decl.proofs.Offered.{local_of, list_keeps, maybe_keeps, maybe_bracketed_keeps, item_keeps}
+use Rattle.pearl_parse_decl.proofs.Offered.{local_of, maybe_keeps, maybe_bracketed_keeps}
 use Rattle.pearl_parse_decl.proofs.Offered.{param_keeps, task_head_keeps, returns_keep}
 use Rattle.pearl_parse.specs.Stops.{IsMissing}
 use Rattle.pearl_parse.specs.Bodies.{SpellsInner}
 use Rattle.pearl_grammar.specs.Reached.{GoesBehind, HaltsBehind}
 use Rattle.pearl_grammar.proofs.Offered.{Rest, Ends, Next, Fills, Makes, fills_as, State, first, raised, past_part}
-use Rattle.pearl_grammar.proofs.Offered.{halt_part, done, goes_in_told}
+use Rattle.pearl_grammar.proofs.Offered.{halt_part, done}
 use Rattle.pearl_parse.proofs.LocalModules.{block_keeps}
 use Rattle.pearl_parse.proofs.LocalRests.{inner_keeps}
 use Rattle.pearl_parse.proofs.Comes.{BehindWord, BehindSymbol, Maybe, fills_word}
-use Rattle.pearl_parse.proofs.Comes.{fills_symbol, fills_name, fills_maybe}
-use Rattle.pearl_parse.proofs.Made.{semicolon, body_declaration_made}
+use Rattle.pearl_parse.proofs.Comes.{fills_symbol, fills_maybe}
+use Rattle.pearl_parse.proofs.Made.{semicolon}
 use Rattle.pearl_parse.proofs.ModulesMade.{block_made, task_made, procedure_made}
 use Rattle.pearl_parse.proofs.NestedRests.{closing_rest}
-use Rattle.pearl_parse.proofs.Tails.{semicolon_fills, name_fills, end_fills, inner_fills, block_fills}
+use Rattle.pearl_parse.proofs.Tails.{semicolon_fills, end_fills, inner_fills, block_fills}
 use Rattle.pearl_parse.proofs.NestedLeast.{inner_of}
 use Rattle.pearl_parse.proofs.States.{past_word, past_symbol, past_name, past_first}
-use Rattle.pearl_parse.proofs.States.{halt_token, halt_first}
+use Rattle.pearl_parse.proofs.States.{halt_token}
 
 -- ---- more room
 
@@ -87,80 +84,6 @@ as_rest room whole tokens from low rest other at stop makes a = record {
   few = a.few;
   small = a.small;
 }
-
--- ---- DCL item { "," item } ";"
-
-abbrev pub Items : List Token → Spelling (List Item)
-Items tokens = SpellsList tokens (SpellsItem tokens)
-
-items_are_local : IsLocal Items
-items_are_local = local_of 2 Items (λ tokens others k alike. list_keeps tokens others k alike 2 SpellsItem
-    (item_keeps tokens others k alike))
-
--- id id ";"
-items_fill : Fills 3 (Next Items semicolon)
-items_fill =
-    fills_as 3 (Next SpellsName (Next SpellsName semicolon)) (fills_name 2 (Next SpellsName semicolon) name_fills)
-    (Next Items semicolon)
-    (λ others k to h.
-    let second = h.3 in (
-      record {
-        names = One h.0;
-        bounds = parts_of [] (omega arith);
-        inv = false;
-        typing = typing.Named second.0;
-        init =
-            parts_of [] (omega arith);
-        place = h.0.place;
-      } ∷ [],
-      second.1,
-      (second.1, (h.1, h.1, h.1, second.1, h.2.0.1, h.2, refl, refl, second.2, refl), refl),
-      second.3,
-    ))
-
-module _ (tokens : List Token) (from : ℕ) (inside : from ≤ length tokens) (few : length tokens < 2 ^ 55) where
-  abbrev pub Declaring : Rest → ℕ → ℕ → Type 0
-  Declaring = State 24 SpellsBodyDecl tokens from 0
-
-  body_declaration_first : Declaring (BehindWord w.DCL (Next Items semicolon)) from from
-  body_declaration_first = first 24 SpellsBodyDecl tokens from 0 (BehindWord w.DCL (Next Items semicolon)) from from
-      body_declaration_made (omega arith) (omega arith) (omega arith) inside few
-
-  pub no_dcl : (halt : Halt) → IsMissing tokens (is_word w.DCL) from from halt →
-      HaltsBehind 24 SpellsBodyDecl tokens from 0 halt
-  no_dcl halt h =
-      halt_token 24 SpellsBodyDecl tokens from 0 4 (BehindWord w.DCL (Next Items semicolon))
-      (fills_word 3 (Next Items semicolon) items_fill w.DCL (omega arith)) (omega arith) (is_word w.DCL) from from halt
-      body_declaration_first h
-
-  module _ (here : HasWord tokens from w.DCL) (within : from < length tokens) where
-    items_begun : Declaring (Next Items semicolon) (from + 1) from
-    items_begun = past_word 24 SpellsBodyDecl tokens from 0 w.DCL (Next Items semicolon) from from (from + 1)
-        (omega arith) body_declaration_first here within
-
-    pub items_halt : (halt : Halt) → IsHalted Items tokens (from + 1) halt → HaltsIn 16 Items tokens (from + 1) halt →
-        HaltsBehind 24 SpellsBodyDecl tokens from 0 halt
-    items_halt halt h r =
-        halt_first 24 SpellsBodyDecl tokens from 0 1 16 Items semicolon items_are_local semicolon_fills (omega arith)
-        (from + 1) from (omega arith) items_begun Items halt (omega arith) h r
-
-    pub past_items : (xs : List Item) (end stop : ℕ) → Items tokens (from + 1) xs end → from + 1 ≤ end → end ≤ stop →
-        stop ≤ length tokens → GoesIn 16 Items tokens (from + 1) end stop → Declaring semicolon end stop
-    past_items xs end stop h ahead near reach g =
-        past_first 24 SpellsBodyDecl tokens from 0 1 16 Items semicolon items_are_local semicolon_fills (omega arith)
-        (from + 1) from (omega arith) items_begun xs end stop h ahead reach (omega arith) near g
-
-  pub no_end : (at stop : ℕ) → Declaring semicolon at stop → (halt : Halt) →
-      IsMissing tokens (is_symbol s.SEMICOLON) at stop halt → HaltsBehind 24 SpellsBodyDecl tokens from 0 halt
-  no_end at stop a halt h = halt_token 24 SpellsBodyDecl tokens from 0 1 semicolon semicolon_fills (omega arith)
-      (is_symbol s.SEMICOLON) at stop halt a h
-
-  pub declared_goes : (at stop new : ℕ) → Declaring semicolon at stop → HasSymbol tokens at s.SEMICOLON →
-      at < length tokens → new ≡ max stop (at + 1) → GoesIn 24 SpellsBodyDecl tokens from (at + 1) new
-  declared_goes at stop new a here within is =
-      goes_in_told 24 SpellsBodyDecl tokens from 0 (omega arith) (at + 1) new (omega (arith, a.near))
-      (done 24 SpellsBodyDecl tokens from 0 (at + 1) stop new (past_symbol 24 SpellsBodyDecl tokens from 0 s.SEMICOLON
-      Ends at stop (at + 1) (omega arith) a here within) is)
 
 -- ---- ";" body END ";"
 

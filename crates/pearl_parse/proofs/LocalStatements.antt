@@ -15,7 +15,7 @@ use Rattle.pearl_tree.specs.Standing.{what_at, place_at, IsName, SpellsMaybe, Sp
 use Rattle.pearl_tree.specs.Expressions.{SpellsWhole}
 use Rattle.pearl_tree.specs.Declarations.{SpellsItem}
 use Rattle.pearl_tree.specs.Statements.{SpellsAfter, SpellsFor}
-use Rattle.pearl_tree.specs.Statements.{SpellsPeriodEnd, SpellsPeriod, SpellsStart, SpellsOnce, SpellsBodyDecl}
+use Rattle.pearl_tree.specs.Statements.{SpellsPeriodEnd, SpellsBodyDecl}
 use Rattle.pearl_tree.specs.Statements.{SpellsStmt, SpellsStmts, SpellsAlternatives, SpellsMoreAlternatives}
 use Rattle.pearl_tree.specs.Statements.{SpellsOtherwise, SpellsBranch, SpellsBody, SpellsWholeBody}
 use Rattle.pearl_tree.specs.declared.word_code.TheConstants as w
@@ -55,15 +55,6 @@ module _ (tokens others : List Token) (k : ℕ) (alike : AlikeBefore tokens othe
 
   pub period_end_keeps : Keeps tokens others k 2 SpellsPeriodEnd
   period_end_keeps = by_rule.period_end.kept tokens others k alike
-
-  pub period_keeps : Keeps tokens others k 2 SpellsPeriod
-  period_keeps = by_rule.period.kept tokens others k alike
-
-  pub start_keeps : Keeps tokens others k 2 SpellsStart
-  start_keeps = by_rule.start.kept tokens others k alike
-
-  pub once_keeps : Keeps tokens others k 2 SpellsOnce
-  once_keeps = by_rule.once.kept tokens others k alike
 
   pub body_declaration_keeps : Keeps tokens others k 2 SpellsBodyDecl
   body_declaration_keeps from x to h near =

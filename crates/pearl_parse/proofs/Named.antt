@@ -35,7 +35,7 @@ use Rattle.pearl_grammar.proofs.Offered.{call_facts, call_starts}
 use Rattle.pearl_parse.specs.Stops.{SpellsOwnNamed}
 use Rattle.pearl_parse.specs.Calls.{is_becomes}
 use Rattle.pearl_parse.specs.Reads.{ReadsBehind}
-use Rattle.pearl_parse.proofs.Along.{took_behind, name_read}
+use Rattle.pearl_parse.proofs.Along.{took_as, name_read}
 use Rattle.pearl_parse.proofs.ByFirst.{group, of_kind}
 
 -- ---- the name and the arguments of a call, as a reference
@@ -165,7 +165,7 @@ module _ (tokens : List Token) (depth from : ℕ) (inside : from < length tokens
     pub past_value : is_becomes (what_at tokens x.end) ≡ true → HasBecomes tokens x.end → x.end < length tokens →
         {y : Reading Expr} → ReadsBehind 16 SpellsWhole SpellsWhole SpellsWhole extends_expression tokens (x.end + 1)
         (x.end + 1 + 1) x.stop (Ok y) → At close assign_facts.1.1.1 y.end y.stop
-    past_value is here within value = part_read (past_becomes is here within) (took_behind (omega arith) value)
+    past_value is here within value = part_read (past_becomes is here within) (took_as (omega arith) value)
         (refl, tt) (omega arith) (omega (arith, read.ahead)) (omega arith)
 
     -- id, where the reference ends before no `:=`

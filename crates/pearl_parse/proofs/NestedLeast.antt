@@ -24,7 +24,6 @@ use Rattle.pearl_grammar.specs.Reached.{GoesBehind, HaltsBehind}
 use Rattle.pearl_grammar.proofs.Offered.{Rest, Ends, Next, Makes, ends_fill, fills_as, state_reaches, State, first}
 use Rattle.pearl_grammar.proofs.Offered.{raised, past_part, halt_part, done, goes_in_told}
 use Rattle.pearl_parse.proofs.StatementRests.{Spelled}
-use Rattle.pearl_parse.proofs.StatementLeast.{by_rule}
 use Rattle.pearl_parse.proofs.LocalStatements.{stmt_keeps, branch_keeps, body_declaration_keeps}
 use Rattle.pearl_parse.proofs.LocalRests.{statements_keep, inner_keeps, condition_keeps, heads_keep}
 use Rattle.pearl_parse.proofs.Comes.{BehindWord, Maybe, come_made}
@@ -37,6 +36,13 @@ use Rattle.pearl_parse.proofs.ScheduleMade.{After}
 use Rattle.pearl_parse.proofs.ScheduleLeast.{after_is_local}
 use Rattle.pearl_parse.proofs.States.{past_word, past_first, halt_first}
 use Rattle.pearl_parse.proofs.States.{told_as, some_reaches}
+
+-- ---- the beginning
+
+module _ (tokens : List Token) (depth from : ℕ) (inside : from < length tokens) (few : length tokens < 2 ^ 55) where
+  by_rule : (rest : Rest) → Makes (Spelled depth) rest → State 24 (Spelled depth) tokens from 0 rest from from
+  by_rule rest makes = first 24 (Spelled depth) tokens from 0 rest from from makes (omega arith) (omega arith)
+      (omega arith) (omega arith) few
 
 -- ---- what the parts depend on
 

@@ -6,7 +6,7 @@ use Rattle.pearl_tree.specs.declared.parts.Parts.{Parts}
 use Rattle.pearl_tree.specs.declared.expression.Expr.{Expr}
 use Rattle.pearl_tree.specs.declared.statement.Body.{Body}
 use Rattle.pearl_tree.specs.declared.statement.Branch.{Branch}
-use Rattle.pearl_tree.specs.declared.statement.Stmt.{Stmt, Empty, If', Case', Repeat', Begin', items-the_row-Stmt}
+use Rattle.pearl_tree.specs.declared.statement.Stmt.{Stmt, If', Case', Repeat', Begin', items-the_row-Stmt}
 use Rattle.pearl_tree.specs.declared.statement.Stmt as stmt
 use Rattle.pearl_tree.specs.declared.statement.Repeat.{Repeat}
 use Rattle.pearl_tree.specs.declared.statement.Begin.{Begin}
@@ -24,7 +24,7 @@ use Rattle.pearl_tree.specs.declared.word_code.TheConstants as w
 use Rattle.pearl_tree.proofs.Offered.{group_of, spells_if, spells_case, spells_begin, spells_repeat}
 use Rattle.pearl_parse_expr.specs.declared.reading.Halt.{Halt}
 use Rattle.pearl_parse_expr.specs.declared.reading.Halt.TheVariants.{Refused, NoMemory}
-use Rattle.pearl_parse_expr.specs.Stops.{IsOnly, IsHalted, is_word}
+use Rattle.pearl_parse_expr.specs.Stops.{IsHalted, is_word}
 use Rattle.pearl_parse_expr.proofs.Offered.{clash}
 use Rattle.pearl_parse.specs.declared.loops.Heads.{Heads}
 use Rattle.pearl_grammar.specs.Reached.{IsStopped}
@@ -37,14 +37,6 @@ use Rattle.pearl_parse.proofs.Steps.{Avoids, Goes}
 use Rattle.pearl_parse.proofs.StatementRests.{Spelled}
 use Rattle.pearl_parse.proofs.Words.{one_holds}
 use Rattle.pearl_parse.proofs.RowLists.{statements_listed, choices_listed, otherwise_listed}
-
--- THEN
-abbrev pub then_word : Rest
-then_word others at to = HasWord others at w.THEN × (to ≡ at + 1)
-
-pub condition_goes : (tokens : List Token) (from : ℕ) →
-    Goes SpellsCondition tokens from (Next (λ tokens. SpellsAfter tokens w.IF) then_word) from from
-condition_goes tokens from = λ others agree x to h. (x, h.0, h.1, (h.2, h.3))
 
 -- word ";"
 abbrev pub closing_rest : ℕ → Rest
@@ -215,18 +207,6 @@ module _ (tokens : List Token) (depth from : ℕ) where
       Goes (Spelled depth) tokens from (repeat_rest (depth - 1)) from from
   repeat_goes here = λ others agree a to h.
       (only_repeat others depth from (ap (is_one loop_words) (sym (agree from (omega arith))) ∙ here) a to h).1
-
--- ";"
-pub empty_is_only : (tokens : List Token) (depth from : ℕ) → HasSymbol tokens from s.SEMICOLON →
-    IsOnly (Spelled depth) tokens from (from + 1) (from + 1)
-empty_is_only tokens depth from here = λ others agree a to h.
-    by others a to (of_kind others depth from 0 (what.Symbol s.SEMICOLON) (sym (agree from (omega arith)) ∙ here) refl a
-    to h) h
-  where
-    by : (others : List Token) (a : Stmt) (to : ℕ) → T (eqb (group a) 0) → SpellsStmt others depth from a to →
-        to ≡ from + 1
-    by others (Empty p) to e h = h.2
-    by others a to e h = absurd e
 
 -- what was read, put together
 module _ (tokens : List Token) (depth from place : ℕ) (here : IsAt tokens from place) (deep : 0 < depth) where

@@ -8,19 +8,20 @@ use Rattle.pearl_tree.specs.declared.statement.SemaWord.{SemaWord}
 use Rattle.pearl_tree.specs.declared.statement.SemaWord.TheVariants.{Request, Release}
 use Rattle.pearl_tree.specs.declared.statement.InterruptWord.{InterruptWord}
 use Rattle.pearl_tree.specs.declared.statement.InterruptWord.TheVariants.{Enable, Disable, Trigger}
-use Rattle.pearl_tree.specs.declared.statement.Stmt.{Stmt, Exit, Return, OnTask, OnSemas, OnInterrupt, Put, Get, Send, Take}
+use Rattle.pearl_tree.specs.declared.statement.Stmt.{Stmt, Empty, Exit, Return, OnTask, OnSemas, OnInterrupt, Put, Get, Send, Take}
 use Rattle.pearl_tree.specs.declared.token.What.TheVariants as what
 use Rattle.pearl_tree.specs.declared.token.Token.{Token}
-use Rattle.pearl_tree.specs.Standing.{HasWord}
+use Rattle.pearl_tree.specs.Standing.{HasWord, HasSymbol}
 use Rattle.pearl_tree.specs.Stops.{BeginAlike}
 use Rattle.pearl_tree.specs.Statements.{SpellsStmt, SpellsValue, task_word, sema_word, interrupt_word}
+use Rattle.pearl_tree.specs.declared.symbol.TheConstants as s
 use Rattle.pearl_tree.specs.declared.word_code.TheConstants as w
 use Rattle.pearl_tree.proofs.Offered.{group_of, no_expr_at}
-use Rattle.pearl_grammar.specs.Rules.{One, Maybe, Listed, MaybeListed, Rule, Then, word}
+use Rattle.pearl_grammar.specs.Rules.{One, Maybe, Listed, MaybeListed, Rule, End, Then, word}
 use Rattle.pearl_grammar.specs.Declarations.{id, close}
 use Rattle.pearl_grammar.specs.Reached.{never}
 use Rattle.pearl_grammar.specs.Statements as rule
-use Rattle.pearl_grammar.proofs.Offered.{Facts, Walk, mark_read, token_read, one_read, exit_facts, exit_begins}
+use Rattle.pearl_grammar.proofs.Offered.{Facts, Walk, mark_read, token_read, one_read, empty_begins, exit_facts, exit_begins}
 use Rattle.pearl_grammar.proofs.Offered.{return_facts}
 use Rattle.pearl_grammar.proofs.Offered.{return_begins, on_task_facts, on_task_begins, on_semas_facts, on_semas_begins}
 use Rattle.pearl_grammar.proofs.Offered.{on_interrupt_facts, on_interrupt_begins, send_facts, send_begins, take_facts}
@@ -32,7 +33,7 @@ use Rattle.pearl_parse_expr.specs.Reads.{Reads}
 use Rattle.pearl_grammar.proofs.Offered.{part_read, took_longest}
 use Rattle.pearl_parse.specs.Reads.{ReadsBehind, ReadsUnless}
 use Rattle.pearl_parse_expr.proofs.Offered.{clash}
-use Rattle.pearl_parse.proofs.Along.{took_behind}
+use Rattle.pearl_parse.proofs.Along.{took_as}
 use Rattle.pearl_parse.proofs.Unless.{took_unless}
 use Rattle.pearl_parse.proofs.ByFirst.{group, of_kind}
 
@@ -40,6 +41,10 @@ use Rattle.pearl_parse.proofs.ByFirst.{group, of_kind}
 abbrev pub AllOf : {X : Type 0} → (X → Stmt) → ℕ → Type 0
 AllOf {X} kind n = (others : List Token) (depth from : ℕ) (a : Stmt) (to : ℕ) → T (eqb (group a) n) →
     SpellsStmt others depth from a to → (x : X) × SpellsStmt others depth from (kind x) to
+
+pub empties : AllOf Empty 0
+empties others depth from (Empty part) to e h = (part, h)
+empties others depth from a to e h = absurd e
 
 pub exits : AllOf Exit 6
 exits others depth from (Exit part) to e h = (part, h)
@@ -111,6 +116,12 @@ module _ (tokens : List Token) (depth from : ℕ) (inside : from < length tokens
       all others depth from a to (of_kind others depth from n (what.Word code) (sym (agree from (omega arith)) ∙ here)
       known a to h) h
 
+  pub empty_begun : HasSymbol tokens from s.SEMICOLON → At End tt (from + 1) from
+  empty_begun here =
+      token_read (mark_read (empty_begins depth tokens from (omega arith) few (λ others agree a to h.
+      empties others depth from a to (of_kind others depth from 0 (what.Symbol s.SEMICOLON)
+      (sym (agree from (omega arith)) ∙ here) refl a to h) h))) refl here inside
+
   pub exit_begun : HasWord tokens from w.EXIT → At close exit_facts.1 (from + 1) from
   exit_begun here =
       token_read (mark_read (exit_begins depth tokens from (omega arith) few (begun Exit 6 w.EXIT exits refl here)))
@@ -172,7 +183,7 @@ module _ (tokens : List Token) (depth from : ℕ) (inside : from < length tokens
       ReadsBehind 16 SpellsWhole SpellsWhole SpellsWhole extends_expression tokens (from + 1) (from + 1 + 1) from
       (Ok x) → At (word w.TO rule.station) send_facts.1.1 x.end x.stop
   past_sent here read =
-      part_read (send_begun here) (took_behind (omega arith) read) (refl, tt) (omega arith) (omega arith) (omega arith)
+      part_read (send_begun here) (took_as (omega arith) read) (refl, tt) (omega arith) (omega arith) (omega arith)
 
   -- TAKE ref
   pub past_taken : HasWord tokens from w.TAKE → {x : Reading Ref} →

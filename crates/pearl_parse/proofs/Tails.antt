@@ -5,7 +5,7 @@ use Rattle.std.specs.Option.{option_map}
 use Rattle.pearl_tree.specs.declared.token.What.TheVariants as what
 use Rattle.pearl_tree.specs.declared.token.Token.{Token}
 use Rattle.pearl_tree.specs.Tokens.{IsLawfulWhat}
-use Rattle.pearl_tree.specs.Standing.{Spelling, SpellsName, SpellsEach, SpellsSome}
+use Rattle.pearl_tree.specs.Standing.{Spelling, SpellsEach, SpellsSome}
 use Rattle.pearl_tree.specs.Statements.{SpellsBranch}
 use Rattle.pearl_tree.specs.Modules.{SpellsBlock}
 use Rattle.pearl_tree.specs.declared.symbol.TheConstants as s
@@ -14,9 +14,8 @@ use Rattle.pearl_parse_expr.proofs.Offered.{placed, token_of, parts_of}
 use Rattle.pearl_parse.specs.Bodies.{SpellsStatements, SpellsInner}
 use Rattle.pearl_grammar.proofs.Offered.{Rest, Ends, Next, Fills, ends_fill, fills_as, fills_token}
 use Rattle.pearl_parse.proofs.Comes.{BehindWord, BehindSymbol, Maybe}
-use Rattle.pearl_parse.proofs.Comes.{fills_word, fills_symbol, fills_name, fills_maybe}
+use Rattle.pearl_parse.proofs.Comes.{fills_word, fills_symbol, fills_maybe}
 use Rattle.pearl_parse.proofs.Made.{semicolon}
-use Rattle.pearl_parse.proofs.ScheduleMade.{After, activation, continuation, resumption}
 use Rattle.pearl_parse.proofs.NestedRests.{closing_rest}
 
 module _ (n : ℕ) (rest : Rest) (fills : Fills n rest) where
@@ -50,24 +49,8 @@ module _ (n : ℕ) (rest : Rest) (fills : Fills n rest) where
 pub semicolon_fills : Fills 1 semicolon
 semicolon_fills = fills_symbol 0 Ends ends_fill s.SEMICOLON (omega arith)
 
-pub name_fills : Fills 2 (Next SpellsName semicolon)
-name_fills = fills_name 1 semicolon semicolon_fills
-
 pub bracket_fills : Fills 1 (BehindSymbol s.RIGHT_ROUND Ends)
 bracket_fills = fills_symbol 0 Ends ends_fill s.RIGHT_ROUND (omega arith)
-
--- ---- schedules
-
-pub activation_fills : Fills 3 activation
-activation_fills = fills_word 2 (Next SpellsName (Next (Maybe (After w.PRIO)) semicolon))
-    (fills_name 1 (Next (Maybe (After w.PRIO)) semicolon) (fills_maybe 1 semicolon semicolon_fills (After w.PRIO)))
-    w.ACTIVATE (omega arith)
-
-pub continuation_fills : Fills 3 continuation
-continuation_fills = fills_word 2 (Next SpellsName semicolon) name_fills w.CONTINUE (omega arith)
-
-pub resumption_fills : Fills 2 resumption
-resumption_fills = fills_word 1 semicolon semicolon_fills w.RESUME (omega arith)
 
 -- ---- statements with others in them
 

@@ -5,10 +5,9 @@ use Rattle.std.proofs.lemmas.Bool.{eqb-true}
 use Rattle.pearl_tree.specs.declared.token.What.{What}
 use Rattle.pearl_tree.specs.declared.token.What.TheVariants as what
 use Rattle.pearl_parse_expr.specs.Stops.{is_word}
-use Rattle.pearl_parse_expr.proofs.Offered.{or_first, or_second}
+use Rattle.pearl_parse_expr.proofs.Offered.{or_first}
 use Rattle.pearl_parse.specs.Stops.{is_among}
 use Rattle.pearl_parse.specs.Bodies.{is_one}
-use Rattle.pearl_parse.proofs.Steps.{itself}
 
 -- what holds of each of some words
 abbrev pub OfEach : (ℕ → Type 0) → List ℕ → Type 0
@@ -38,21 +37,6 @@ one_holds holds words (Some (what.Bits len value)) all h = absurd (true≢false 
 one_holds holds words (Some (what.Text text)) all h = absurd (true≢false (sym h))
 one_holds holds words (Some (what.Symbol symbol)) all h = absurd (true≢false (sym h))
 one_holds holds words None all h = absurd (true≢false (sym h))
-
-pub one_more : (word : ℕ) (words : List ℕ) (token : Option What) → is_one words token ≡ true →
-    is_one (word ∷ words) token ≡ true
-one_more word words (Some (what.Word code)) h = or_second (code == word) (is_among words code) h
-one_more word words (Some (what.Id text)) h = h
-one_more word words (Some (what.Number value)) h = h
-one_more word words (Some (what.Decimal whole thousandths)) h = h
-one_more word words (Some (what.Clock milliseconds)) h = h
-one_more word words (Some (what.Bits len value)) h = h
-one_more word words (Some (what.Text text)) h = h
-one_more word words (Some (what.Symbol symbol)) h = h
-one_more word words None h = h
-
-pub is_that : (word : ℕ) (words : List ℕ) → is_one (word ∷ words) (Some (what.Word word)) ≡ true
-is_that word words = or_first (word == word) (is_among words word) (itself word)
 
 -- a word is one word only
 pub word_holds : (holds : Option What → Type 0) (word : ℕ) (token : Option What) → holds (Some (what.Word word)) →

@@ -1,7 +1,5 @@
 -- Which tokens the parts of scheduled statements spell, where a token that may begin a part does.
 use Rattle.std.specs.Prelude.{◌≡◌, ℕ, ◌+◌, ◌||◌, Bool, true, false, List, Option}
-use Rattle.pearl_tree.specs.declared.name.Name.{Name}
-use Rattle.pearl_tree.specs.declared.expression.Expr.{Expr}
 use Rattle.pearl_tree.specs.declared.statement.PeriodEnd.{PeriodEnd}
 use Rattle.pearl_tree.specs.declared.statement.Period.{Period}
 use Rattle.pearl_tree.specs.declared.token.What.{What}
@@ -33,43 +31,19 @@ SpellsLongPeriod tokens from period to =
 abbrev pub SpellsOptionalPeriod : List Token → Spelling (Option Period)
 SpellsOptionalPeriod = SpellsOptional (is_word w.ALL) SpellsLongPeriod
 
--- [ PRIO expr ]
-abbrev pub SpellsOptionalPriority : List Token → Spelling (Option Expr)
-SpellsOptionalPriority = SpellsOptional (is_word w.PRIO) (λ tokens. SpellsAfter tokens w.PRIO)
-
--- ACTIVATE id [ PRIO expr ] ";"
-abbrev pub SpellsActivation : List Token → Spelling (Name × Option Expr)
-SpellsActivation tokens from part to =
-    (m : ℕ) × HasWord tokens from w.ACTIVATE × IsName tokens (from + 1) part.0 ×
-    SpellsOptionalPriority tokens (from + 2) part.1 m × HasSymbol tokens m s.SEMICOLON × (to ≡ m + 1)
-
--- the same, as it is read
+-- ACTIVATE id [ PRIO expr ] ";", as it is read
 abbrev pub SpellsActivated : List Token → Spelling Activation
-SpellsActivated tokens from activation to = SpellsActivation tokens from (activation.task, activation.priority) to
+SpellsActivated tokens from activation to =
+    (m : ℕ) × HasWord tokens from w.ACTIVATE × IsName tokens (from + 1) activation.task ×
+    SpellsMaybe (SpellsAfter tokens w.PRIO) (from + 2) activation.priority m × HasSymbol tokens m s.SEMICOLON ×
+    (to ≡ m + 1)
 
--- [ ALL expr [ UNTIL expr | DURING expr ] ] ACTIVATE id [ PRIO expr ] ";"
-abbrev pub SpellsBegun : List Token → Spelling (Option Period × (Name × Option Expr))
-SpellsBegun tokens from part to =
-    (m : ℕ) × SpellsOptionalPeriod tokens from part.0 m × SpellsActivation tokens m part.1 to
-
--- the same, as the rules of the grammar say it
-abbrev pub HasBegun : List Token → ℕ → Option Period → Name → Option Expr → ℕ → Type 0
-HasBegun tokens from period task priority to =
-    (m : ℕ) × SpellsMaybe (SpellsPeriod tokens) from period m × SpellsActivation tokens m (task, priority) to
-
--- as it is read
+-- [ ALL expr [ UNTIL expr | DURING expr ] ] ACTIVATE id [ PRIO expr ] ";", as it is read
 abbrev pub SpellsBeginning : List Token → Spelling Begun
-SpellsBeginning tokens from begun to = HasBegun tokens from begun.period begun.activation.task begun.activation.priority
-    to
-
-abbrev pub SpellsAnyBegun : List Token → Spelling (Option Period × (Name × Option Expr))
-SpellsAnyBegun tokens from part to = HasBegun tokens from part.0 part.1.0 part.1.1 to
+SpellsBeginning tokens from begun to =
+    (m : ℕ) × SpellsMaybe (SpellsPeriod tokens) from begun.period m × SpellsActivated tokens m begun.activation to
 
 -- AFTER, or AT
 abbrev pub time_word : Bool → ℕ
 time_word true = w.AFTER
 time_word false = w.AT
-
--- [ AFTER expr ]
-abbrev pub SpellsOptionalAfter : List Token → Spelling (Option Expr)
-SpellsOptionalAfter = SpellsOptional (is_word w.AFTER) (λ tokens. SpellsAfter tokens w.AFTER)

@@ -4,6 +4,8 @@ ghost use Rattle.std.specs.Prelude.{◌+◌, ◌<◌, ◌≤◌, length, ◌≡�
 ghost use Rattle.pearl_tree.specs.Standing.{what_at, HasWord, IsName, SpellsMaybe, IsAt};
 ghost use Rattle.pearl_tree.specs.Statements.{SpellsPeriod, SpellsAfter, SpellsStart, SpellsOnce, task_word, interrupt_word, sema_word};
 ghost use Rattle.pearl_parse_expr.specs.declared.reading.Halt.{Halt};
+ghost use Rattle.pearl_grammar.specs.Rules.{Spells};
+ghost use Rattle.pearl_grammar.specs.Statements.{activation_rule, begun_rule};
 ghost use Rattle.pearl_parse.specs.Reads.{ReadsOnlyBehind, ReadsStatement};
 ghost use Rattle.pearl_tree.specs.declared.token.Token.{Token};
 ghost use Rattle.pearl_parse_decl.specs.Readings.{by_comma, never};
@@ -47,7 +49,7 @@ fn activate(
 ) -> Result<Reading<Activation>, Halt>
     requires from { from ≤ length tokens.now }
     requires least_stop { (from ≤ least_stop) × (least_stop ≤ length tokens.now) }
-    ensures { ReadsOnlyBehind 16 schedules.SpellsActivated schedules.SpellsActivation schedules.SpellsActivation tokens.now from (from + 1) least_stop result }
+    ensures { ReadsOnlyBehind 16 schedules.SpellsActivated (Spells activation_rule) (Spells activation_rule) tokens.now from (from + 1) least_stop result }
 {
     word(tokens, from, least_stop, ACTIVATE)?;
     let task = name(tokens, from + 1, least_stop)?;
@@ -76,7 +78,7 @@ fn maybe_periodic(
 ) -> Result<Reading<Begun>, Halt>
     requires from { from ≤ length tokens.now }
     requires least_stop { (from ≤ least_stop) × (least_stop ≤ length tokens.now) }
-    ensures { ReadsOnlyBehind 24 schedules.SpellsBeginning schedules.SpellsBegun schedules.SpellsAnyBegun tokens.now from (from + 1) least_stop result }
+    ensures { ReadsOnlyBehind 24 schedules.SpellsBeginning (Spells begun_rule) (Spells begun_rule) tokens.now from (from + 1) least_stop result }
 {
     let period = maybe_period(alloc, tokens, from, least_stop)?;
     let activation = activate(alloc, tokens, period.end, period.stop)?;

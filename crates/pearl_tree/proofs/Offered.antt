@@ -8,14 +8,12 @@ pub use Rattle.pearl_tree.proofs.TypeLists.{spells_struct}
 pub use Rattle.pearl_tree.proofs.StatementLists.{spells_if, spells_case, spells_begin, spells_repeat}
 -- a tree that spells lawful tokens is lawful, and so is each part of one
 pub use Rattle.pearl_tree.proofs.SpelledLawful.{spelled_lawful}
--- parts that begin at the same token: where they end, from the tokens that follow them
-pub use Rattle.pearl_tree.proofs.Meeting.{same_word}
 -- two literals that begin at the same token end at the same, or the shorter one before a token that lengthens it
 pub use Rattle.pearl_tree.proofs.LiteralEnds.{literal_after}
 -- each expression ends behind the token at which it begins
 pub use Rattle.pearl_tree.proofs.ExpressionsForward.{monadics_after, terms_after, primary_after, selector_after}
--- what tokens spell is one item of a format, one time of a statement: the same, and up to the same token
-pub use Rattle.pearl_tree.proofs.OneSchedule.{no_expr_at, start_word, start_begins, once_word, once_begins}
+-- where no expression begins
+pub use Rattle.pearl_tree.proofs.OneSchedule.{no_expr_at}
 -- what tokens spell is one statement: the same, and up to the same token, wherever the parts lie in memory
 pub use Rattle.pearl_tree.proofs.OneStatement.{group_of}
 -- what tokens spell is one declaration, and one module

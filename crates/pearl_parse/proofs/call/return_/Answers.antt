@@ -4,8 +4,8 @@ use Rattle.pearl_tree.specs.declared.statement.Stmt.TheVariants as stmt
 use Rattle.pearl_tree.specs.declared.symbol.TheConstants as s
 use Rattle.pearl_parse_expr.specs.Stops.{is_symbol}
 use Rattle.pearl_parse_expr.proofs.Offered.{reading_is}
-use Rattle.pearl_grammar.proofs.Offered.{part_read, token_read, only}
-use Rattle.pearl_parse.proofs.Along.{took_optional, optional_missing, lacking, token_missing}
+use Rattle.pearl_grammar.proofs.Offered.{token_read, only}
+use Rattle.pearl_parse.proofs.Along.{took_optional, optional_read, optional_missing, lacking, token_missing}
 use Rattle.pearl_parse.proofs.Starts.{return_begun}
 use Rattle.pearl_parse.proofs.call.return_.Goals as goal
 
@@ -23,8 +23,9 @@ returns-in_err-symbol c = λ depth.
     let begun = return_begun c.args.tokens.now depth c.args.from c.requires.within few c.requires.word in
     let read = c.in_ok-value.ensures in
     token_missing c.in_err-symbol.field-0.0 c.from_residual-in_err-symbol.result c.from_residual-in_err-symbol.ensures
-    (is_symbol s.SEMICOLON) (part_read begun (took_optional (is_symbol s.LEFT_ROUND) c.in_ok-value.value.stop read
-    (omega (arith, read.bounds)) (omega arith)) (refl, tt) (omega arith) (omega arith) (omega arith))
+    (is_symbol s.SEMICOLON) (optional_read (is_symbol s.LEFT_ROUND) begun (refl, tt) (omega arith)
+    (took_optional {new = c.in_ok-value.value.stop} read (omega (arith, read.bounds)) (omega arith)) (refl, tt)
+    (omega arith) (omega arith))
     c.in_err-symbol.ensures.missing (refl, tt) (omega arith) (omega arith)
 
 pub returns : goal.returns
@@ -37,6 +38,6 @@ returns c = λ depth.
     let symbol = c.in_ok-symbol.ensures in
     rw (reading_is c.map.result (stmt.Return c.in_ok-boxed.field-0.part) to (max value.stop to) (search rules)
     (search rules) (search rules))
-    (only _ (token_read (part_read begun (took_optional (is_symbol s.LEFT_ROUND) value.stop read
-    (omega (arith, read.bounds)) (omega arith)) (refl, tt) (omega arith) (omega arith) (omega arith)) refl symbol.stands
-    symbol.within) refl (omega (arith, read.bounds)) (search rules))
+    (only _ (token_read (optional_read (is_symbol s.LEFT_ROUND) begun (refl, tt) (omega arith)
+    (took_optional {new = value.stop} read (omega (arith, read.bounds)) (omega arith)) (refl, tt) (omega arith)
+    (omega arith)) refl symbol.stands symbol.within) refl (omega (arith, read.bounds)) (search rules))

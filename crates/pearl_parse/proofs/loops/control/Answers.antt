@@ -4,7 +4,7 @@ use Rattle.pearl_parse_expr.specs.Stops.{is_name}
 use Rattle.pearl_parse.proofs.Steps.{err_told, missing_is_refused}
 use Rattle.pearl_tree.specs.Statements.{SpellsFor}
 use Rattle.pearl_parse.proofs.Comes.{Maybe}
-use Rattle.pearl_parse.proofs.LoopLeast.{no_control}
+use Rattle.pearl_parse.proofs.LoopHeads.{no_control}
 use Rattle.pearl_grammar.proofs.Offered.{halts_in}
 use Rattle.pearl_parse.proofs.Unread.{unread_only_maybe}
 use Rattle.pearl_parse.proofs.loops.control.Goals as goal

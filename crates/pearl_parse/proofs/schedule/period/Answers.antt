@@ -2,12 +2,12 @@
 use Rattle.std.proofs.Common.{◌<◌, ◌^◌, length, rules, arith}
 use Rattle.pearl_parse_expr.proofs.Offered.{reading_is}
 use Rattle.pearl_grammar.proofs.Offered.{Ends, Next, ends_fill, halt_part, past_part, done}
-use Rattle.pearl_parse.proofs.ScheduleRests.{period_stopped}
 use Rattle.pearl_tree.specs.Statements.{SpellsPeriodEnd, SpellsPeriod}
 use Rattle.pearl_tree.specs.declared.word_code.TheConstants as w
 use Rattle.pearl_parse.proofs.Comes.{Maybe}
 use Rattle.pearl_parse.proofs.ScheduleMade.{After}
 use Rattle.pearl_parse.proofs.ScheduleLeast.{after_is_local, maybe_end_is_local, end_fills, period_first, period_past}
+use Rattle.pearl_parse.proofs.ScheduleLeast.{period_stopped}
 use Rattle.pearl_parse.proofs.Unread.{unread_behind}
 use Rattle.pearl_parse.proofs.schedule.period.Goals as goal
 

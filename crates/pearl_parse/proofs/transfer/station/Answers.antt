@@ -16,16 +16,15 @@ use Rattle.pearl_grammar.specs.Rules.{Listed, Then, Spells}
 use Rattle.pearl_grammar.specs.Declarations.{close}
 use Rattle.pearl_grammar.specs.Reached.{never}
 use Rattle.pearl_grammar.specs.Statements.{fmt, transfer_rule}
-use Rattle.pearl_grammar.proofs.Offered.{Walk, opened, token_read, part_read, part_missing, took_list, lacks_past, transfer_facts}
+use Rattle.pearl_grammar.proofs.Offered.{Walk, token_read, part_read, part_missing, took_list, lacks_past, transfer_facts}
 use Rattle.pearl_parse.specs.Stops.{IsMissing}
-use Rattle.pearl_parse.proofs.Along.{name_read, lacks_token, lacks_token_at, lacking_behind, only_behind}
+use Rattle.pearl_parse.proofs.Along.{parts_begun, name_read, lacks_token, lacks_token_at, lacking_behind, only_behind}
 use Rattle.pearl_parse.proofs.transfer.station.Goals as goal
 
 module _ (tokens : List Token) (from low : ℕ) (inside : from ≤ length tokens) (few : length tokens < 2 ^ 55)
     (within : low ≤ length tokens) where
   begun : Walk 24 (Spells transfer_rule) tokens from low transfer_rule transfer_facts never from (max from low)
-  begun = opened {rule = transfer_rule} {facts = transfer_facts} tt (λ others from to small h. h)
-      (λ others agree x to h. (x, h)) inside within refl few (omega arith)
+  begun = parts_begun transfer_rule transfer_facts tt inside within refl few (omega arith)
 
   -- id BY
   past_by : (name : Name) → IsName tokens from name → from < length tokens → HasWord tokens (from + 1) w.BY →
