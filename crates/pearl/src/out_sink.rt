@@ -111,9 +111,9 @@ mod tests {
         let mut sink = OutSink::new(rt.alloc(), &rt);
         assert!(rt; matches!(sink.put(b"# a piece\n"), Ok(10)));
         assert!(rt; matches!(sink.put(b"# another\n"), Ok(10)));
-        assert_eq!(rt; sink.waiting.len(), 20);
+        assert!(rt; sink.waiting.len() == 20);
         assert!(rt; sink.flush().is_ok());
-        assert_eq!(rt; sink.waiting.len(), 0);
-        assert_eq!(rt; sink.faults, 0);
+        assert!(rt; sink.waiting.len() == 0);
+        assert!(rt; sink.faults == 0);
     }
 }

@@ -376,6 +376,6 @@ fn a_task_offers_what_its_instructions_mean(rt: HostRuntime) -> Result<(), Fail>
     if let Ok(code) = verify(alloc, object(alloc)?) {
         rows = rows_left(alloc, &code)?;
     }
-    assert_eq!(rt; rows, 0);
+    assert!(rt; rows == 0, "{rows} rows are left");
     Ok(())
 }

@@ -331,7 +331,9 @@ fn tables() -> [(&'static str, &'static [Row]); 24] {
 #[test]
 fn the_least_broken_rule_is_told(rt: HostRuntime) -> Result<(), Fail> {
     for (name, rows) in tables() {
-        assert_eq!(rt; first_other(rt.alloc(), rows)?, None, "{name}");
+        if let Some(number) = first_other(rt.alloc(), rows)? {
+            assert!(rt; false, "row {number} of {name}");
+        }
     }
     Ok(())
 }

@@ -5,9 +5,8 @@ use pearl_snap::fault::SnapFault;
 use pearl_snap::restore::{restore, save};
 use pearl_snap::state_rule::StateRule;
 use std::alloc::{AllocError as NoMemory, Global};
-use std::process::Abort;
 
-#[derive(Clone, Copy, PartialEq, Eq, Debug)]
+#[derive(Clone, Copy, PartialEq, Eq)]
 enum Verdict {
     /// No snapshot has the bytes.
     Bad(u32),
@@ -106,8 +105,9 @@ const N5: Verdict = Verdict::Breaks(StateRule::Stacks);
 
 const N6: Verdict = Verdict::Breaks(StateRule::References);
 
-// Instructions that break a rule of the validator, and bytes of an object that are none.
-const OBJECTS: [Row; 8] = rows! {
+// No edit, instructions that break a rule of the validator, and bytes of an object that are none.
+static OBJECTS: [Row; 9] = rows! {
+    0, 0: [] => LAWFUL;
     40, 1: [3] => N1;
     46, 1: [4] => N1;
     56, 1: [25] => N1;
@@ -119,7 +119,7 @@ const OBJECTS: [Row; 8] = rows! {
 };
 
 // Slots, counts, switches, terminals and inputs: how many there are, and what they hold.
-const PARTS: [Row; 22] = rows! {
+static PARTS: [Row; 22] = rows! {
     160, 4: [0] => N2;
     160, 4: [2, 0, 31, 14, 0, 31, 14] => N2;
     161, 1: [1] => N2;
@@ -145,7 +145,7 @@ const PARTS: [Row; 22] = rows! {
 };
 
 // The moment, the clock, who acted last, priorities and kept starts.
-const NUMBERS: [Row; 12] = rows! {
+static NUMBERS: [Row; 12] = rows! {
     156, 2: [129, 128, 128, 128, 128, 32] => N3;
     156, 2: [128, 128, 128, 128, 128, 32] => LAWFUL;
     158, 1: [128, 184, 153, 41] => N3;
@@ -161,7 +161,7 @@ const NUMBERS: [Row; 12] = rows! {
 };
 
 // What plans wait for, their lengths of time, their ends and their series.
-const PLANS: [Row; 17] = rows! {
+static PLANS: [Row; 17] = rows! {
     203, 1: [1, 0, 5, 0, 0, 1, 7, 0, 0] => N4;
     205, 1: [2] => N4;
     205, 1: [9] => N4;
@@ -182,7 +182,7 @@ const PLANS: [Row; 17] = rows! {
 };
 
 // Frames at other places, of other routines, with other cells; exchanged, missing, and one too many.
-const FRAMES: [Row; 24] = rows! {
+static FRAMES: [Row; 24] = rows! {
     183, 19: [0] => N5;
     183, 19: [1, 1, 12, 1, 0, 0, 31, 10, 0] => N5;
     183, 19: [1, 1, 13, 1, 0, 0, 31, 10, 0] => LAWFUL;
@@ -210,7 +210,7 @@ const FRAMES: [Row; 24] = rows! {
 };
 
 // Operands: those of the place, one missing, one of another kind, in another order, one too many.
-const OPERANDS: [Row; 9] = pairs! {
+static OPERANDS: [Row; 9] = pairs! {
     193, 1: [1] and 201, 1: [1, 1, 0, 31, 1, 0, 0] => LAWFUL;
     193, 1: [1] and 201, 1: [1, 0, 0, 31, 10] => N5;
     193, 1: [1] and 201, 1: [1, 1, 0, 30, 1, 0, 0] => N5;
@@ -223,7 +223,7 @@ const OPERANDS: [Row; 9] = pairs! {
 };
 
 // References of cells and of operands.
-const REFERENCES: [Row; 8] = pairs! {
+static REFERENCES: [Row; 8] = pairs! {
     198, 3: [0, 0] and 0, 0: [] => LAWFUL;
     198, 3: [0, 1] and 0, 0: [] => N6;
     199, 1: [1] and 0, 0: [] => N6;
@@ -235,7 +235,7 @@ const REFERENCES: [Row; 8] = pairs! {
 };
 
 // Two rules that are broken.
-const BOTH: [Row; 14] = pairs! {
+static BOTH: [Row; 14] = pairs! {
     118, 1: [24] and 161, 1: [5] => Verdict::Bad(161);
     118, 1: [24] and 165, 1: [128, 128, 128, 128, 8] => N1;
     118, 1: [24] and 193, 1: [1] => N1;
@@ -264,88 +264,69 @@ fn with_edits(alloc: Global, row: &Row) -> Result<Vec<u8>, NoMemory> {
     Ok(bytes)
 }
 
-fn tell(rt: &impl Abort, alloc: Global, rows: &[Row]) -> Result<(), NoMemory> {
-    for row in rows {
+// The first row whose verdict is another one.
+fn first_other(alloc: Global, rows: &[Row]) -> Result<Option<usize>, NoMemory> {
+    for (number, row) in rows.iter().enumerate() {
         let bytes = with_edits(alloc, row)?;
-        let first = row.first.from;
-        let second = row.second.from;
-        assert_eq!(rt;
-            judged(alloc, bytes.as_slice())?,
-            row.verdict,
-            "at {first} and {second}"
-        );
+        if judged(alloc, bytes.as_slice())? != row.verdict {
+            return Ok(Some(number));
+        }
     }
-    Ok(())
-}
-
-#[test]
-fn what_is_restored_is_saved_as_it_was(rt: HostRuntime) -> Result<(), NoMemory> {
-    assert_eq!(rt; judged(rt.alloc(), &EMPTY)?, LAWFUL);
-    assert_eq!(rt; judged(rt.alloc(), &PLANT)?, LAWFUL);
-    Ok(())
-}
-
-#[test]
-fn a_cut_snapshot_is_not_restored(rt: HostRuntime) -> Result<(), NoMemory> {
-    for len in 0..24usize {
-        assert_eq!(rt;
-            judged(rt.alloc(), &EMPTY[..len])?,
-            Verdict::Bad(len as u32)
-        );
-    }
-    for len in 0..254usize {
-        assert_eq!(rt;
-            judged(rt.alloc(), &PLANT[..len])?,
-            Verdict::Bad(len as u32)
-        );
-    }
-    Ok(())
-}
-
-#[test]
-fn objects_are_readable_and_valid(rt: HostRuntime) -> Result<(), NoMemory> {
-    tell(&rt, rt.alloc(), &OBJECTS)
-}
-
-#[test]
-fn all_parts_are_there(rt: HostRuntime) -> Result<(), NoMemory> {
-    tell(&rt, rt.alloc(), &PARTS)
-}
-
-#[test]
-fn moments_and_priorities_have_their_ranges(rt: HostRuntime) -> Result<(), NoMemory> {
-    tell(&rt, rt.alloc(), &NUMBERS)
-}
-
-#[test]
-fn plans_are_lawful(rt: HostRuntime) -> Result<(), NoMemory> {
-    tell(&rt, rt.alloc(), &PLANS)
-}
-
-#[test]
-fn frames_stand_where_their_code_says(rt: HostRuntime) -> Result<(), NoMemory> {
-    tell(&rt, rt.alloc(), &FRAMES)
-}
-
-#[test]
-fn operands_are_those_of_the_place(rt: HostRuntime) -> Result<(), NoMemory> {
-    tell(&rt, rt.alloc(), &OPERANDS)
-}
-
-#[test]
-fn references_name_what_is_there(rt: HostRuntime) -> Result<(), NoMemory> {
-    tell(&rt, rt.alloc(), &REFERENCES)
+    Ok(None)
 }
 
 #[test]
 fn the_least_broken_rule_is_told(rt: HostRuntime) -> Result<(), NoMemory> {
-    tell(&rt, rt.alloc(), &BOTH)
+    for (name, rows) in [
+        ("objects", OBJECTS.as_slice()),
+        ("parts", PARTS.as_slice()),
+        ("numbers", NUMBERS.as_slice()),
+        ("plans", PLANS.as_slice()),
+        ("frames", FRAMES.as_slice()),
+        ("operands", OPERANDS.as_slice()),
+        ("references", REFERENCES.as_slice()),
+        ("both", BOTH.as_slice()),
+    ] {
+        if let Some(number) = first_other(rt.alloc(), rows)? {
+            assert!(rt; false, "row {number} of {name}");
+        }
+    }
+    Ok(())
+}
+
+// The least length at which the bytes, cut, aren't bad at their length.
+fn first_other_cut(alloc: Global, bytes: &[u8]) -> Result<Option<u32>, NoMemory> {
+    let mut front = Vec::new(alloc);
+    let mut len: u32 = 0;
+    for byte in bytes {
+        if judged(alloc, front.as_slice())? != Verdict::Bad(len) {
+            return Ok(Some(len));
+        }
+        front.push(*byte)?;
+        len = len.saturating_add(1);
+    }
+    Ok(None)
 }
 
 #[test]
-fn rules_have_their_numbers(rt: HostRuntime) -> Result<(), NoMemory> {
-    assert_eq!(rt; StateRule::Validity.number(), 1);
-    assert_eq!(rt; StateRule::Parts.number(), 2);
-    assert_eq!(rt; StateRule::References.number(), 6);
+fn a_cut_snapshot_is_not_restored(rt: HostRuntime) -> Result<(), NoMemory> {
+    for (name, bytes) in [
+        ("the empty object", EMPTY.as_slice()),
+        ("the plant", PLANT.as_slice()),
+    ] {
+        if judged(rt.alloc(), bytes)? != LAWFUL {
+            assert!(rt; false, "{name}");
+        }
+        if let Some(len) = first_other_cut(rt.alloc(), bytes)? {
+            assert!(rt; false, "{name} cut at {len}");
+        }
+    }
     Ok(())
+}
+
+#[test]
+fn rules_have_their_numbers(rt: HostRuntime) {
+    assert!(rt; StateRule::Validity.number() == 1);
+    assert!(rt; StateRule::Parts.number() == 2);
+    assert!(rt; StateRule::References.number() == 6);
 }

@@ -109,12 +109,18 @@ fn what_goes_on_is_saved_as_it_was(rt: HostRuntime) -> Result<(), NoMemory> {
     Ok(())
 }
 
+fn writes_what_follows(alloc: Global, is_interrupted: bool) -> Result<bool, NoMemory> {
+    let mut sink = MemorySink::new(alloc, Vec::new(alloc), 4096);
+    Ok(run(alloc, &mut sink, is_interrupted)? && sink.bytes() == WRITTEN.as_bytes())
+}
+
 #[test]
 fn a_saved_run_writes_what_follows(rt: HostRuntime) -> Result<(), NoMemory> {
     for is_interrupted in [false, true] {
-        let mut sink = MemorySink::new(rt.alloc(), Vec::new(rt.alloc()), 4096);
-        assert!(rt; run(rt.alloc(), &mut sink, is_interrupted)?);
-        assert!(rt; sink.bytes() == WRITTEN.as_bytes(), "{is_interrupted}");
+        assert!(rt;
+            writes_what_follows(rt.alloc(), is_interrupted)?,
+            "{is_interrupted}"
+        );
     }
     Ok(())
 }

@@ -40,7 +40,7 @@ pub(crate) const PLANT: [u8; 254] = [
     2, 0, 0,
 ];
 
-// Bytes at a place of the plant's snapshot in place of one byte there, and the place of the fault.
+// Bytes at a place of a snapshot in place of the byte there, if any, and the place of the fault.
 struct Change {
     at: usize,
     bytes: &'static [u8],
@@ -54,7 +54,15 @@ macro_rules! changes {
     };
 }
 
-const CHANGES: [Change; 42] = changes! {
+// None, and a byte behind.
+static BEHIND_EMPTY: [Change; 2] = changes! {
+    24: [] => None;
+    24: [0] => Some(24);
+};
+
+// None, and those of one byte.
+static CHANGES: [Change; 43] = changes! {
+    254: [] => None;
     0: [81] => Some(0);
     4: [149] => Some(4);
     4: [151] => Some(4);
@@ -99,54 +107,62 @@ const CHANGES: [Change; 42] = changes! {
     249: [202, 1] => Some(249);
 };
 
-fn with_change(alloc: Global, change: &Change) -> Result<Vec<u8>, NoMemory> {
-    let mut bytes = Vec::new(alloc);
-    for (at, byte) in PLANT.iter().enumerate() {
+fn with_change(alloc: Global, bytes: &[u8], change: &Change) -> Result<Vec<u8>, NoMemory> {
+    let mut changed = Vec::new(alloc);
+    for (at, byte) in bytes.iter().enumerate() {
         if at == change.at {
-            bytes.extend_from_slice(change.bytes)?;
+            changed.extend_from_slice(change.bytes)?;
         } else {
-            bytes.push(*byte)?;
+            changed.push(*byte)?;
         }
     }
-    Ok(bytes)
-}
-
-#[test]
-fn snapshots_come_back(rt: HostRuntime) -> Result<(), NoMemory> {
-    assert_eq!(rt; fault(rt.alloc(), &EMPTY)?, None);
-    assert_eq!(rt; fault(rt.alloc(), &PLANT)?, None);
-    Ok(())
-}
-
-#[test]
-fn a_cut_snapshot_is_bad_at_its_length(rt: HostRuntime) -> Result<(), NoMemory> {
-    for len in 0..24usize {
-        assert_eq!(rt; fault(rt.alloc(), &EMPTY[..len])?, Some(len as u32));
+    if change.at >= bytes.len() {
+        changed.extend_from_slice(change.bytes)?;
     }
-    for len in 0..254usize {
-        assert_eq!(rt; fault(rt.alloc(), &PLANT[..len])?, Some(len as u32));
-    }
-    Ok(())
+    Ok(changed)
 }
 
-#[test]
-fn a_byte_behind_a_snapshot_is_bad(rt: HostRuntime) -> Result<(), NoMemory> {
-    let mut bytes = Vec::from_slice(rt.alloc(), &EMPTY)?;
-    bytes.push(0)?;
-    assert_eq!(rt; fault(rt.alloc(), bytes.as_slice())?, Some(24));
-    Ok(())
+// The first change of the bytes of which the fault is at another place.
+fn first_other(alloc: Global, bytes: &[u8], changes: &[Change]) -> Result<Option<usize>, NoMemory> {
+    for (number, change) in changes.iter().enumerate() {
+        let changed = with_change(alloc, bytes, change)?;
+        if fault(alloc, changed.as_slice())? != change.place {
+            return Ok(Some(number));
+        }
+    }
+    Ok(None)
+}
+
+// The least length at which the bytes, cut, aren't bad at their length.
+fn first_other_cut(alloc: Global, bytes: &[u8]) -> Result<Option<u32>, NoMemory> {
+    let mut front = Vec::new(alloc);
+    let mut len: u32 = 0;
+    for byte in bytes {
+        if fault(alloc, front.as_slice())? != Some(len) {
+            return Ok(Some(len));
+        }
+        front.push(*byte)?;
+        len = len.saturating_add(1);
+    }
+    Ok(None)
 }
 
 #[test]
 fn faults_of_snapshots_have_the_place_of_their_field(rt: HostRuntime) -> Result<(), NoMemory> {
-    for change in &CHANGES {
-        let bytes = with_change(rt.alloc(), change)?;
-        let at = change.at;
-        assert_eq!(rt;
-            fault(rt.alloc(), bytes.as_slice())?,
-            change.place,
-            "at {at}"
-        );
+    for (name, bytes, changes) in [
+        (
+            "the empty object",
+            EMPTY.as_slice(),
+            BEHIND_EMPTY.as_slice(),
+        ),
+        ("the plant", PLANT.as_slice(), CHANGES.as_slice()),
+    ] {
+        if let Some(number) = first_other(rt.alloc(), bytes, changes)? {
+            assert!(rt; false, "row {number} of {name}");
+        }
+        if let Some(len) = first_other_cut(rt.alloc(), bytes)? {
+            assert!(rt; false, "{name} cut at {len}");
+        }
     }
     Ok(())
 }

@@ -7,6 +7,7 @@ use crate::operands::is_number;
 use pearl_stack::stack::{Frame, Loaded, Parked};
 use pearl_value::cell::{Cell, Place};
 use pearl_value::kind::Kind;
+use std::alloc::{AllocError, Global};
 use std::test::Fail;
 
 /// A frame as a row of a table: where it stands, the numbers in its cells, and its operands from the first one pushed.
@@ -79,26 +80,21 @@ fn shows(stack: &Loaded, rows: &[Row]) -> bool {
     true
 }
 
-#[test]
-fn arguments_become_the_first_cells_in_order(rt: HostRuntime) -> Result<(), Fail> {
-    let mut stack = Parked::new(rt.alloc(), 8, 2)?.load();
+fn arguments_become_the_first_cells_in_order(alloc: Global) -> Result<bool, AllocError> {
+    let mut stack = Parked::new(alloc, 8, 2)?.load();
     stack.enter(4, 0, 1);
     stack.push(number(7));
     stack.push(number(8));
     stack.push(number(9));
     stack.enter(2, 2, 3);
-    assert!(rt;
-        shows(
-            &stack,
-            frames! { 4 at 0: [0] then [7]; 2 at 0: [8, 9, 0] then []; }
-        )
-    );
-    Ok(())
+    Ok(shows(
+        &stack,
+        frames! { 4 at 0: [0] then [7]; 2 at 0: [8, 9, 0] then []; },
+    ))
 }
 
-#[test]
-fn a_caller_is_left_as_it_was_at_its_call(rt: HostRuntime) -> Result<(), Fail> {
-    let mut stack = Parked::new(rt.alloc(), 8, 2)?.load();
+fn a_caller_is_left_as_it_was_at_its_call(alloc: Global) -> Result<bool, AllocError> {
+    let mut stack = Parked::new(alloc, 8, 2)?.load();
     stack.enter(4, 0, 1);
     stack.push(number(7));
     stack.push(number(8));
@@ -106,20 +102,16 @@ fn a_caller_is_left_as_it_was_at_its_call(rt: HostRuntime) -> Result<(), Fail> {
     stack.enter(2, 1, 2);
     stack.push(number(3));
     stack.go(6);
-    assert!(rt;
-        shows(
-            &stack,
-            frames! { 4 at 5: [0] then [7]; 2 at 6: [8, 0] then [3]; }
-        )
+    let is_above = shows(
+        &stack,
+        frames! { 4 at 5: [0] then [7]; 2 at 6: [8, 0] then [3]; },
     );
     stack.leave();
-    assert!(rt; shows(&stack, frames! { 4 at 5: [0] then [7]; }));
-    Ok(())
+    Ok(is_above && shows(&stack, frames! { 4 at 5: [0] then [7]; }))
 }
 
-#[test]
-fn a_parked_stack_keeps_all(rt: HostRuntime) -> Result<(), Fail> {
-    let mut stack = Parked::new(rt.alloc(), 8, 2)?.load();
+fn a_parked_stack_keeps_all(alloc: Global) -> Result<bool, AllocError> {
+    let mut stack = Parked::new(alloc, 8, 2)?.load();
     stack.enter(4, 0, 2);
     stack.set_cell(0, 1, number(-1));
     stack.push(number(7));
@@ -127,82 +119,86 @@ fn a_parked_stack_keeps_all(rt: HostRuntime) -> Result<(), Fail> {
     stack.go(9);
     stack.push(number(8));
     let stack = stack.park().load();
-    assert!(rt;
-        shows(
-            &stack,
-            frames! { 4 at 0: [0, -1] then []; 2 at 9: [7] then [8]; }
-        )
-    );
-    Ok(())
+    Ok(shows(
+        &stack,
+        frames! { 4 at 0: [0, -1] then []; 2 at 9: [7] then [8]; },
+    ))
 }
 
-#[test]
-fn a_cell_of_a_lower_frame_is_written(rt: HostRuntime) -> Result<(), Fail> {
-    let mut stack = Parked::new(rt.alloc(), 8, 3)?.load();
+fn a_cell_of_a_lower_frame_is_written(alloc: Global) -> Result<bool, AllocError> {
+    let mut stack = Parked::new(alloc, 8, 3)?.load();
     stack.enter(9, 0, 2);
     stack.enter(5, 0, 2);
     stack.enter(1, 0, 2);
     stack.set_cell(1, 1, number(6));
     stack.set_cell(0, 0, number(4));
-    assert!(rt;
-        shows(
-            &stack,
-            frames! { 9 at 0: [4, 0] then []; 5 at 0: [0, 6] then []; 1 at 0: [0, 0] then []; }
-        )
-    );
-    Ok(())
+    Ok(shows(
+        &stack,
+        frames! { 9 at 0: [4, 0] then []; 5 at 0: [0, 6] then []; 1 at 0: [0, 0] then []; },
+    ))
 }
 
-#[test]
-fn operands_are_popped_in_the_other_order(rt: HostRuntime) -> Result<(), Fail> {
-    let mut stack = Parked::new(rt.alloc(), 3, 1)?.load();
+fn operands_are_popped_in_the_other_order(alloc: Global) -> Result<bool, AllocError> {
+    let mut stack = Parked::new(alloc, 3, 1)?.load();
     stack.enter(0, 0, 0);
     stack.push(number(1));
     stack.push(number(2));
     stack.push(number(3));
-    assert!(rt; is_number(&stack.pop(), 3));
-    assert!(rt; is_number(&stack.pop(), 2));
-    assert!(rt; shows(&stack, frames! { 0 at 0: [] then [1]; }));
-    Ok(())
+    let top = is_number(&stack.pop(), 3);
+    let next = is_number(&stack.pop(), 2);
+    Ok(top && next && shows(&stack, frames! { 0 at 0: [] then [1]; }))
 }
 
-#[test]
-fn a_cleared_stack_has_its_whole_room(rt: HostRuntime) -> Result<(), Fail> {
-    let mut stack = Parked::new(rt.alloc(), 3, 1)?.load();
+fn a_cleared_stack_has_its_whole_room(alloc: Global) -> Result<bool, AllocError> {
+    let mut stack = Parked::new(alloc, 3, 1)?.load();
     stack.enter(0, 0, 2);
     stack.push(number(1));
     stack.clear();
-    assert!(rt; shows(&stack, frames! {}));
+    let is_clear = shows(&stack, frames! {});
     stack.enter(1, 0, 3);
-    assert!(rt; shows(&stack, frames! { 1 at 0: [0, 0, 0] then []; }));
-    Ok(())
+    Ok(is_clear && shows(&stack, frames! { 1 at 0: [0, 0, 0] then []; }))
 }
 
-#[test]
-fn cells_may_be_of_any_kind(rt: HostRuntime) -> Result<(), Fail> {
-    let mut stack = Parked::new(rt.alloc(), 2, 1)?.load();
+fn cells_may_be_of_any_kind(alloc: Global) -> Result<bool, AllocError> {
+    let mut stack = Parked::new(alloc, 2, 1)?.load();
     stack.enter(0, 0, 1);
     stack.set_cell(0, 0, Cell::Clock(5));
     stack.push(Cell::Ref {
         kind: Kind::Clock,
         place: Place::Cell(0, 0),
     });
-    assert!(rt; matches!(stack.cell(0, 0), Cell::Clock(5)));
-    assert!(rt;
-        matches!(
-            stack.operand(0, 0),
-            Cell::Ref {
-                place: Place::Cell(0, 0),
-                ..
-            }
-        )
+    let is_clock = matches!(stack.cell(0, 0), Cell::Clock(5));
+    let is_reference = matches!(
+        stack.operand(0, 0),
+        Cell::Ref {
+            place: Place::Cell(0, 0),
+            ..
+        }
     );
+    Ok(is_clock && is_reference)
+}
+
+fn a_stack_may_have_no_room(alloc: Global) -> Result<bool, AllocError> {
+    let stack = Parked::new(alloc, 0, 0)?.load();
+    Ok(stack.frames() == 0)
+}
+
+#[test]
+fn frames_are_entered_and_left(rt: HostRuntime) -> Result<(), Fail> {
+    let alloc = rt.alloc();
+    assert!(rt; arguments_become_the_first_cells_in_order(alloc)?);
+    assert!(rt; a_caller_is_left_as_it_was_at_its_call(alloc)?);
+    assert!(rt; a_parked_stack_keeps_all(alloc)?);
+    assert!(rt; a_cell_of_a_lower_frame_is_written(alloc)?);
     Ok(())
 }
 
 #[test]
-fn a_stack_may_have_no_room(rt: HostRuntime) -> Result<(), Fail> {
-    let stack = Parked::new(rt.alloc(), 0, 0)?.load();
-    assert!(rt; stack.frames() == 0);
+fn operands_are_pushed_and_popped(rt: HostRuntime) -> Result<(), Fail> {
+    let alloc = rt.alloc();
+    assert!(rt; operands_are_popped_in_the_other_order(alloc)?);
+    assert!(rt; a_cleared_stack_has_its_whole_room(alloc)?);
+    assert!(rt; cells_may_be_of_any_kind(alloc)?);
+    assert!(rt; a_stack_may_have_no_room(alloc)?);
     Ok(())
 }

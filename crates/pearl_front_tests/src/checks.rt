@@ -7,34 +7,32 @@ use pearl_check::fault::CheckFault;
 use std::alloc::{AllocError, Global};
 use std::test::Fail;
 
-fn modules() -> &'static [(&'static str, &'static str)] {
-    table![
-        "" => "0 0 0";
-        "DCL s(2) STRUCT [n FIXED,t(3) CHAR(2)];" => "0 0 8";
-        "DCL c CHAR(3);t:TASK;c:='ab';END;" => "1 0 1";
-        "DCL (a,b)(3) BIT,s SEMA;TYPE y STRUCT [u FIXED,v DURATION];DCL w y,z(2) y;" => "0 0 12";
-        "p:PROC(x FIXED);DCL a(9) FIXED;END;t:TASK;DCL b FIXED;CALL p(1);END;q:PROC;END;u:TASK;END;" => "2 2 0";
-        "DCL i INV FIXED INIT(1);t:TASK;FOR j TO i REPEAT END;END;" => "1 0 1";
-        "^p:PROC;CALL q;END;q:PROC;CALL p;END;" => "S28";
-        "p:PROC;CALL q;END;^q:PROC;CALL r;END;r:PROC;CALL s;END;s:PROC;CALL q;END;" => "S28";
-        "DCL a FIXED;p:PROC RETURNS(FIXED);RETURN(1);END;t:TASK;a:=p;CALL p;END;" => "1 1 1";
-        "DCL a(2) FIXED,b FIXED;^p:PROC RETURNS(FIXED);b:=LWB a(p);RETURN(1);END;" => "S28";
-        "DCL a(65535) FIXED,b FIXED;" => "0 0 65536";
-        "DCL a(65535) FIXED,b FIXED,^c FIXED;" => "S34";
-        "p:PROC;DCL u(4092) FIXED;END;t:TASK;CALL p;END;" => "1 1 0";
-        "p:PROC;DCL u(4093) FIXED;END;^t:TASK;CALL p;END;" => "S34";
-        "^p:PROC;DCL u(5000) FIXED;CALL p;END;" => "S28";
-        "p:PROC(x FIXED);DCL u(4093) FIXED;END;" => "0 1 0";
-        "^p:PROC(x FIXED);DCL u(4094) FIXED;END;" => "S34";
-        "DCL c CHAR(3);t:TASK;^c:='abcde';c:='abcdef';END;" => "S24";
-        "t:TASK;^x:=1;END;t:TASK;END;" => "S2";
-        "^p:PROC;CALL p;END;p:PROC;END;" => "S28";
-        "DCL (a,^a) FIXED;" => "S1";
-        "DCL ^k INV FIXED;" => "S8";
-        "DCL x FIXED;t:TASK;x:=x^+'a';END;" => "S15";
-        "DCL i INV FIXED INIT(1);t:TASK;^i:='a';END;" => "S24";
-    ]
-}
+static MODULES: [(&str, &str); 24] = table![
+    "" => "0 0 0";
+    "DCL s(2) STRUCT [n FIXED,t(3) CHAR(2)];" => "0 0 8";
+    "DCL c CHAR(3);t:TASK;c:='ab';END;" => "1 0 1";
+    "DCL (a,b)(3) BIT,s SEMA;TYPE y STRUCT [u FIXED,v DURATION];DCL w y,z(2) y;" => "0 0 12";
+    "p:PROC(x FIXED);DCL a(9) FIXED;END;t:TASK;DCL b FIXED;CALL p(1);END;q:PROC;END;u:TASK;END;" => "2 2 0";
+    "DCL i INV FIXED INIT(1);t:TASK;FOR j TO i REPEAT END;END;" => "1 0 1";
+    "^p:PROC;CALL q;END;q:PROC;CALL p;END;" => "S28";
+    "p:PROC;CALL q;END;^q:PROC;CALL r;END;r:PROC;CALL s;END;s:PROC;CALL q;END;" => "S28";
+    "DCL a FIXED;p:PROC RETURNS(FIXED);RETURN(1);END;t:TASK;a:=p;CALL p;END;" => "1 1 1";
+    "DCL a(2) FIXED,b FIXED;^p:PROC RETURNS(FIXED);b:=LWB a(p);RETURN(1);END;" => "S28";
+    "DCL a(65535) FIXED,b FIXED;" => "0 0 65536";
+    "DCL a(65535) FIXED,b FIXED,^c FIXED;" => "S34";
+    "p:PROC;DCL u(4092) FIXED;END;t:TASK;CALL p;END;" => "1 1 0";
+    "p:PROC;DCL u(4093) FIXED;END;^t:TASK;CALL p;END;" => "S34";
+    "^p:PROC;DCL u(5000) FIXED;CALL p;END;" => "S28";
+    "p:PROC(x FIXED);DCL u(4093) FIXED;END;" => "0 1 0";
+    "^p:PROC(x FIXED);DCL u(4094) FIXED;END;" => "S34";
+    "DCL c CHAR(3);t:TASK;^c:='abcde';c:='abcdef';END;" => "S24";
+    "t:TASK;^x:=1;END;t:TASK;END;" => "S2";
+    "^p:PROC;CALL p;END;p:PROC;END;" => "S28";
+    "DCL (a,^a) FIXED;" => "S1";
+    "DCL ^k INV FIXED;" => "S8";
+    "DCL x FIXED;t:TASK;x:=x^+'a';END;" => "S15";
+    "DCL i INV FIXED INIT(1);t:TASK;^i:='a';END;" => "S24";
+];
 
 // What there is of a module, and the place of its fault, if it has one.
 fn checked(alloc: Global, case: &[u8], text: &mut String) -> Result<Option<u32>, AllocError> {
@@ -71,7 +69,7 @@ fn shown(alloc: Global, case: &str) -> Result<String, AllocError> {
 
 #[test]
 fn sizes_or_first_rules_are_told(rt: HostRuntime) -> Result<(), Fail> {
-    for &(case, expected) in modules() {
+    for &(case, expected) in &MODULES {
         let found = shown(rt.alloc(), case)?;
         expect(&rt, found.as_str() == expected, case);
     }

@@ -20,185 +20,6 @@ use std::fmt;
 // Each case is read up to `|`, or not at all. It is read no further because of the token at `^`, where that isn't
 // the one at `|`.
 
-fn formats() -> &'static [&'static str] {
-    &[
-        "F(5)|",
-        "A|",
-        "A| 5",
-        "B4(2)|,",
-        "X|;",
-        "SKIP|(^x)",
-        "SKIP|(2^",
-        "T(8)|",
-        "D(26)|",
-        "F^",
-        "T ^8",
-        "D(^)",
-        "F(5^",
-        "^B5",
-        "^Q",
-        "^5",
-    ]
-}
-
-fn bounds() -> &'static [&'static str] {
-    &[
-        "1:5|",
-        "-1 : -2| x",
-        "5|",
-        "- 5|:^",
-        "1|:^",
-        "1|:-^",
-        "1|:- ^-",
-        "-^",
-        "^+ 1",
-        "^x",
-    ]
-}
-
-fn constants() -> &'static [&'static str] {
-    &[
-        "- 5 SEC|",
-        "+ 2 HRS| 3 ^x",
-        "'ab'|",
-        "- '1'B|",
-        "1:2:3|",
-        "- ^-",
-        "+^",
-        "1.5^",
-        "^a",
-    ]
-}
-
-fn items() -> &'static [&'static str] {
-    &[
-        "a FIXED|",
-        "a(1:3, -2:5) INV STRUCT [ x FIXED(15), (y, z) CHAR ] INIT(1, -2)|",
-        "(a, b) t|",
-        "a FIXED|(31^",
-        "a FIXED| INIT ^5",
-        "a DUR| INIT(1 MIN, ^)",
-        "a DUR| INIT(^)",
-        "(a ^b) FIXED",
-        "(^) FIXED",
-        "(a, ^) FIXED",
-        "a ^SEMA",
-        "a(1^",
-        "a(1, ^)",
-        "a STRUCT [ ^]",
-        "a STRUCT [ x FIXED ^; ]",
-        "a STRUCT ^x",
-        "a INV ^INV BIT",
-        "a^",
-    ]
-}
-
-fn declared() -> &'static [&'static str] {
-    &[
-        "s SEMA PRESET(1, 2)|",
-        "(s, t) SEMA|",
-        "s SEMA| PRESET(^x)",
-        "s SEMA| PRESET(1^",
-        "a CLOCK|",
-        "a ^;",
-        "^SEMA",
-    ]
-}
-
-fn specified() -> &'static [&'static str] {
-    &[
-        "i INTERRUPT|",
-        "(i, j) IRPT|",
-        "d DATION INOUT ALPHIC CONTROL(ALL)|",
-        "d DATION OUT BASIC CHAR(3)|",
-        "d DATION IN ALPHIC| CONTROL(^x",
-        "d DATION IN ALPHIC| CONTROLS",
-        "d DATION OUT BASIC CHAR|(^x)",
-        "d DATION ^ALPHIC",
-        "d DATION IN^",
-        "d DATION IN BASIC ^t",
-        "d ^FIXED",
-    ]
-}
-
-fn params() -> &'static [&'static str] {
-    &[
-        "a FIXED IDENT|",
-        "a DUR IDENTICAL|",
-        "(a, b) BIT(8)|",
-        "a ^STRUCT",
-        "a ^t",
-        "^5",
-    ]
-}
-
-fn heads() -> &'static [&'static str] {
-    &[
-        "PRIO 5 MAIN|",
-        "MAIN PRIO 5|",
-        "PRIO 5 MAIN| PRIO 5",
-        "MAIN| PRIO^",
-        "MAIN| PRIO ^x",
-        "PRIO 5|",
-        "|PRIO ^MAIN",
-        "MAIN|",
-        "|",
-    ]
-}
-
-fn results() -> &'static [&'static str] {
-    &[
-        "RETURNS(FIXED(15))|",
-        "|RETURNS(FIXED(15)^",
-        "|RETURNS ^FIXED",
-        "|RETURNS(^t)",
-        "|; RETURNS",
-    ]
-}
-
-fn devices() -> &'static [&'static str] {
-    &[
-        "t : TERMINAL(1);|",
-        "i : INTERRUPT(2);|",
-        "t ^TERMINAL(1);",
-        "t : ^5",
-        "t : OUTPUT ^1",
-        "t : OUTPUT(^x)",
-        "t : OUTPUT(1^;",
-        "t : OUTPUT(1) ^t",
-        "^INTERRUPT",
-    ]
-}
-
-fn declarations() -> &'static [&'static str] {
-    &[
-        "LENGTH CHAR(15);|",
-        "LENGTH ^CLOCK(15);",
-        "LENGTH FIXED^;",
-        "LENGTH BIT(8)^",
-        "TYPE t STRUCT [ a FIXED ];|",
-        "TYPE t u;|",
-        "TYPE ^FIXED;",
-        "TYPE t^;",
-        "DCL a FIXED, s SEMA;|",
-        "DCL a FIXED, b^;",
-        "DCL a FIXED(^x;",
-        "DCL ^;",
-        "SPC i IRPT, d DATION IN ALPHIC;|",
-        "SPC i IRPT ^d",
-        "SPC i IRPT, ^;",
-        "^MODEND",
-    ]
-}
-
-fn names() -> &'static [&'static str] {
-    &["a, b|, ^5", "a| b", "^5"]
-}
-
-fn numbers() -> &'static [&'static str] {
-    &["1, 2|", "1|, ^x"]
-}
-
 fn shown<T: Drop>(found: Result<Reading<T>, Halt>) -> (Option<usize>, usize) {
     match found {
         Ok(reading) => (Some(reading.end), reading.stop),
@@ -267,41 +88,182 @@ fn read(alloc: Global, tokens: &[Token], reader: Reader) -> (Option<usize>, usiz
     }
 }
 
-fn readers() -> &'static [Reader] {
-    &[
+// Sources by what reads them, each with a mark where what is read ends or stops.
+static CASES: [(Reader, &[&str]); 13] = [
+    (
         Reader::Format,
+        &[
+            "F(5)|",
+            "A|",
+            "A| 5",
+            "B4(2)|,",
+            "X|;",
+            "SKIP|(^x)",
+            "SKIP|(2^",
+            "T(8)|",
+            "D(26)|",
+            "F^",
+            "T ^8",
+            "D(^)",
+            "F(5^",
+            "^B5",
+            "^Q",
+            "^5",
+        ],
+    ),
+    (
         Reader::Bound,
+        &[
+            "1:5|",
+            "-1 : -2| x",
+            "5|",
+            "- 5|:^",
+            "1|:^",
+            "1|:-^",
+            "1|:- ^-",
+            "-^",
+            "^+ 1",
+            "^x",
+        ],
+    ),
+    (
         Reader::Constant,
+        &[
+            "- 5 SEC|",
+            "+ 2 HRS| 3 ^x",
+            "'ab'|",
+            "- '1'B|",
+            "1:2:3|",
+            "- ^-",
+            "+^",
+            "1.5^",
+            "^a",
+        ],
+    ),
+    (
         Reader::Item,
+        &[
+            "a FIXED|",
+            "a(1:3, -2:5) INV STRUCT [ x FIXED(15), (y, z) CHAR ] INIT(1, -2)|",
+            "(a, b) t|",
+            "a FIXED|(31^",
+            "a FIXED| INIT ^5",
+            "a DUR| INIT(1 MIN, ^)",
+            "a DUR| INIT(^)",
+            "(a ^b) FIXED",
+            "(^) FIXED",
+            "(a, ^) FIXED",
+            "a ^SEMA",
+            "a(1^",
+            "a(1, ^)",
+            "a STRUCT [ ^]",
+            "a STRUCT [ x FIXED ^; ]",
+            "a STRUCT ^x",
+            "a INV ^INV BIT",
+            "a^",
+        ],
+    ),
+    (
         Reader::Declared,
+        &[
+            "s SEMA PRESET(1, 2)|",
+            "(s, t) SEMA|",
+            "s SEMA| PRESET(^x)",
+            "s SEMA| PRESET(1^",
+            "a CLOCK|",
+            "a ^;",
+            "^SEMA",
+        ],
+    ),
+    (
         Reader::Specified,
+        &[
+            "i INTERRUPT|",
+            "(i, j) IRPT|",
+            "d DATION INOUT ALPHIC CONTROL(ALL)|",
+            "d DATION OUT BASIC CHAR(3)|",
+            "d DATION IN ALPHIC| CONTROL(^x",
+            "d DATION IN ALPHIC| CONTROLS",
+            "d DATION OUT BASIC CHAR|(^x)",
+            "d DATION ^ALPHIC",
+            "d DATION IN^",
+            "d DATION IN BASIC ^t",
+            "d ^FIXED",
+        ],
+    ),
+    (
         Reader::Param,
+        &[
+            "a FIXED IDENT|",
+            "a DUR IDENTICAL|",
+            "(a, b) BIT(8)|",
+            "a ^STRUCT",
+            "a ^t",
+            "^5",
+        ],
+    ),
+    (
         Reader::Head,
+        &[
+            "PRIO 5 MAIN|",
+            "MAIN PRIO 5|",
+            "PRIO 5 MAIN| PRIO 5",
+            "MAIN| PRIO^",
+            "MAIN| PRIO ^x",
+            "PRIO 5|",
+            "|PRIO ^MAIN",
+            "MAIN|",
+            "|",
+        ],
+    ),
+    (
         Reader::Result,
+        &[
+            "RETURNS(FIXED(15))|",
+            "|RETURNS(FIXED(15)^",
+            "|RETURNS ^FIXED",
+            "|RETURNS(^t)",
+            "|; RETURNS",
+        ],
+    ),
+    (
         Reader::Device,
+        &[
+            "t : TERMINAL(1);|",
+            "i : INTERRUPT(2);|",
+            "t ^TERMINAL(1);",
+            "t : ^5",
+            "t : OUTPUT ^1",
+            "t : OUTPUT(^x)",
+            "t : OUTPUT(1^;",
+            "t : OUTPUT(1) ^t",
+            "^INTERRUPT",
+        ],
+    ),
+    (
         Reader::Declaration,
-        Reader::Names,
-        Reader::Numbers,
-    ]
-}
-
-fn cases_of(reader: Reader) -> &'static [&'static str] {
-    match reader {
-        Reader::Format => formats(),
-        Reader::Bound => bounds(),
-        Reader::Constant => constants(),
-        Reader::Item => items(),
-        Reader::Declared => declared(),
-        Reader::Specified => specified(),
-        Reader::Param => params(),
-        Reader::Head => heads(),
-        Reader::Result => results(),
-        Reader::Device => devices(),
-        Reader::Declaration => declarations(),
-        Reader::Names => names(),
-        Reader::Numbers => numbers(),
-    }
-}
+        &[
+            "LENGTH CHAR(15);|",
+            "LENGTH ^CLOCK(15);",
+            "LENGTH FIXED^;",
+            "LENGTH BIT(8)^",
+            "TYPE t STRUCT [ a FIXED ];|",
+            "TYPE t u;|",
+            "TYPE ^FIXED;",
+            "TYPE t^;",
+            "DCL a FIXED, s SEMA;|",
+            "DCL a FIXED, b^;",
+            "DCL a FIXED(^x;",
+            "DCL ^;",
+            "SPC i IRPT, d DATION IN ALPHIC;|",
+            "SPC i IRPT ^d",
+            "SPC i IRPT, ^;",
+            "^MODEND",
+        ],
+    ),
+    (Reader::Names, &["a, b|, ^5", "a| b", "^5"]),
+    (Reader::Numbers, &["1, 2|", "1|, ^x"]),
+];
 
 // Whether the case is read up to its marks.
 fn is_read(alloc: Global, reader: Reader, case: &[u8]) -> bool {
@@ -313,8 +275,8 @@ fn is_read(alloc: Global, reader: Reader, case: &[u8]) -> bool {
 
 #[test]
 fn parts_end_where_the_grammar_says(rt: HostRuntime) -> Result<(), fmt::Error> {
-    for &reader in readers() {
-        for &case in cases_of(reader) {
+    for &(reader, cases) in &CASES {
+        for &case in cases {
             expect(&rt, is_read(rt.alloc(), reader, case.as_bytes()), case);
         }
     }

@@ -9,40 +9,38 @@ use std::alloc::{AllocError, Global};
 use std::test::Fail;
 
 // Each module with the rules that are broken at its marks, and its devices, as `shown` writes them.
-fn modules() -> &'static [(&'static str, &'static str)] {
-    table![
-        "MODULE;PROBLEM;MODEND" => "";
-        "MODULE;SYSTEM;a:^FOO(1);PROBLEM;MODEND" => "S11 ";
-        "MODULE;SYSTEM;a:^INPUT(0);PROBLEM;MODEND" => "S11 ";
-        "MODULE;SYSTEM;a:^OUTPUT(100);PROBLEM;MODEND" => "S11 ";
-        "MODULE;SYSTEM;a:IRPT(1);b:OUTPUT(99);PROBLEM;MODEND" => "";
-        "MODULE;SYSTEM;a:INPUT(1);^a:INPUT(2);PROBLEM;MODEND" => "S10 ";
-        "MODULE;SYSTEM;a:INPUT(1);^b:INPUT(1);PROBLEM;MODEND" => "S12 ";
-        "MODULE;SYSTEM;a:INPUT(1);^b:INPUT(01);PROBLEM;MODEND" => "S12 ";
-        "MODULE;SYSTEM;a:^FOO(1);^^a:^FOO(1);PROBLEM;MODEND" => "S11 S10 S12 S11 ";
-        "MODULE;SYSTEM;a:INTERRUPT(7);^b:IRPT(7);PROBLEM;MODEND" => "S12 ";
-        "MODULE;SYSTEM;a:INPUT(1);b:OUTPUT(1);PROBLEM;MODEND" => "";
-        "MODULE;PROBLEM;SPC ^a INTERRUPT;MODEND" => "S13 ";
-        "MODULE;SYSTEM;a:INPUT(1);PROBLEM;SPC ^a IRPT;MODEND" => "S13 ";
-        "MODULE;SYSTEM;a:^FOO(1);PROBLEM;SPC ^a IRPT;MODEND" => "S11 S13 ";
-        "MODULE;SYSTEM;a:^FOO(1);PROBLEM;SPC a DATION IN ALPHIC;MODEND" => "S11 ";
-        "MODULE;SYSTEM;a:IRPT(1);PROBLEM;SPC ^a DATION IN ALPHIC;MODEND" => "S13 ";
-        "MODULE;SYSTEM;a:TERMINAL(1);PROBLEM;SPC ^a DATION IN BASIC BIT;MODEND" => "S14 ";
-        "MODULE;SYSTEM;a:INPUT(1);PROBLEM;SPC ^a DATION OUT BASIC BIT;MODEND" => "S14 ";
-        "MODULE;SYSTEM;a:INPUT(1);PROBLEM;SPC ^a DATION IN ALPHIC;MODEND" => "S14 ";
-        "MODULE;SYSTEM;a:OUTPUT(1);PROBLEM;SPC ^a DATION INOUT BASIC BIT;MODEND" => "S14 ";
-        "MODULE;SYSTEM;a:OUTPUT(1);PROBLEM;SPC ^a DATION OUT ALPHIC;MODEND" => "S14 ";
-        "MODULE;SYSTEM;a:IRPT(3);PROBLEM;SPC a IRPT;MODEND" => "a=I3 ";
-        "MODULE;SYSTEM;b:OUTPUT(2);a:OUTPUT(1);t:TERMINAL(9);i:INPUT(5);q:IRPT(8);PROBLEM;\
-            SPC (b,a) DATION OUT BASIC FIXED(15),t DATION INOUT ALPHIC;\
-            SPC i DATION IN BASIC CLOCK,q INTERRUPT;MODEND"
-            => "q=I8 t=T9+ i=R5clock a=W1fixed15 b=W2fixed15 ";
-        "MODULE;SYSTEM;a:IRPT(3);^b:IRPT(3);PROBLEM;SPC (b,a) IRPT;MODEND" => "S12 b=I3 ";
-        "MODULE;SYSTEM;a:IRPT(3);^a:TERMINAL(4);PROBLEM;SPC a IRPT;MODEND" => "S10 a=I3 ";
-        "MODULE;SYSTEM;t:TERMINAL(1);PROBLEM;SPC (t,^u) DATION OUT ALPHIC,^v IRPT;MODEND"
-            => "S13 S13 t=T1> ";
-    ]
-}
+static MODULES: [(&str, &str); 26] = table![
+    "MODULE;PROBLEM;MODEND" => "";
+    "MODULE;SYSTEM;a:^FOO(1);PROBLEM;MODEND" => "S11 ";
+    "MODULE;SYSTEM;a:^INPUT(0);PROBLEM;MODEND" => "S11 ";
+    "MODULE;SYSTEM;a:^OUTPUT(100);PROBLEM;MODEND" => "S11 ";
+    "MODULE;SYSTEM;a:IRPT(1);b:OUTPUT(99);PROBLEM;MODEND" => "";
+    "MODULE;SYSTEM;a:INPUT(1);^a:INPUT(2);PROBLEM;MODEND" => "S10 ";
+    "MODULE;SYSTEM;a:INPUT(1);^b:INPUT(1);PROBLEM;MODEND" => "S12 ";
+    "MODULE;SYSTEM;a:INPUT(1);^b:INPUT(01);PROBLEM;MODEND" => "S12 ";
+    "MODULE;SYSTEM;a:^FOO(1);^^a:^FOO(1);PROBLEM;MODEND" => "S11 S10 S12 S11 ";
+    "MODULE;SYSTEM;a:INTERRUPT(7);^b:IRPT(7);PROBLEM;MODEND" => "S12 ";
+    "MODULE;SYSTEM;a:INPUT(1);b:OUTPUT(1);PROBLEM;MODEND" => "";
+    "MODULE;PROBLEM;SPC ^a INTERRUPT;MODEND" => "S13 ";
+    "MODULE;SYSTEM;a:INPUT(1);PROBLEM;SPC ^a IRPT;MODEND" => "S13 ";
+    "MODULE;SYSTEM;a:^FOO(1);PROBLEM;SPC ^a IRPT;MODEND" => "S11 S13 ";
+    "MODULE;SYSTEM;a:^FOO(1);PROBLEM;SPC a DATION IN ALPHIC;MODEND" => "S11 ";
+    "MODULE;SYSTEM;a:IRPT(1);PROBLEM;SPC ^a DATION IN ALPHIC;MODEND" => "S13 ";
+    "MODULE;SYSTEM;a:TERMINAL(1);PROBLEM;SPC ^a DATION IN BASIC BIT;MODEND" => "S14 ";
+    "MODULE;SYSTEM;a:INPUT(1);PROBLEM;SPC ^a DATION OUT BASIC BIT;MODEND" => "S14 ";
+    "MODULE;SYSTEM;a:INPUT(1);PROBLEM;SPC ^a DATION IN ALPHIC;MODEND" => "S14 ";
+    "MODULE;SYSTEM;a:OUTPUT(1);PROBLEM;SPC ^a DATION INOUT BASIC BIT;MODEND" => "S14 ";
+    "MODULE;SYSTEM;a:OUTPUT(1);PROBLEM;SPC ^a DATION OUT ALPHIC;MODEND" => "S14 ";
+    "MODULE;SYSTEM;a:IRPT(3);PROBLEM;SPC a IRPT;MODEND" => "a=I3 ";
+    "MODULE;SYSTEM;b:OUTPUT(2);a:OUTPUT(1);t:TERMINAL(9);i:INPUT(5);q:IRPT(8);PROBLEM;\
+        SPC (b,a) DATION OUT BASIC FIXED(15),t DATION INOUT ALPHIC;\
+        SPC i DATION IN BASIC CLOCK,q INTERRUPT;MODEND"
+        => "q=I8 t=T9+ i=R5clock a=W1fixed15 b=W2fixed15 ";
+    "MODULE;SYSTEM;a:IRPT(3);^b:IRPT(3);PROBLEM;SPC (b,a) IRPT;MODEND" => "S12 b=I3 ";
+    "MODULE;SYSTEM;a:IRPT(3);^a:TERMINAL(4);PROBLEM;SPC a IRPT;MODEND" => "S10 a=I3 ";
+    "MODULE;SYSTEM;t:TERMINAL(1);PROBLEM;SPC (t,^u) DATION OUT ALPHIC,^v IRPT;MODEND"
+        => "S13 S13 t=T1> ";
+];
 
 // Writes a basic type.
 fn show_basic(into: &mut String, basic: Basic) -> Result<(), AllocError> {
@@ -110,7 +108,7 @@ fn shown(alloc: Global, case: &[u8]) -> Result<String, AllocError> {
 
 #[test]
 fn modules_have_their_devices_and_faults(rt: HostRuntime) -> Result<(), Fail> {
-    for &(case, expected) in modules() {
+    for &(case, expected) in &MODULES {
         let found = shown(rt.alloc(), case.as_bytes())?;
         expect(&rt, found.as_str() == expected, case);
     }

@@ -15,54 +15,50 @@ const NO_PLACE: u32 = u32::MAX;
 
 // Each source with a bracket round each dyadic operator that is read, up to `|`. It is read no further because of the
 // token at `^`, where that isn't the one at `|`.
-fn read() -> &'static [(&'static str, &'static str)] {
-    table![
-        "a - b - c ** d|" => "((a-b)-(c^d))";
-        "a ** b ** c|" => "((a^b)^c)";
-        "a OR b AND c EQ d LT e + f * g ** h|" => "(a|(b&(c=(d<(e+(f*(g^h)))))))";
-        "a ** b * c + d > e /= f AND g EXOR h|" => "(((((((a^b)*c)+d)>e)#f)&g)?h)";
-        "a // b REM c >< d|" => "(((a/b)%c)~d)";
-        "a <> b SHIFT c|" => "((a@b)$c)";
-        "a <= b >= c|" => "((a{b)}c)";
-        "(a - (b - c)) * d|" => "([(a-[(b-c)])]*d)";
-        "- a ** b|" => "(-a^b)";
-        "NOT ABS SIGN + a|" => "!AS+a";
-        "a.b(1, c + d)(e).f|" => "a.b(n,(c+d))(e).f";
-        "f(a)|(b^" => "f(a)";
-        "f|(a, ^)" => "f";
-        "f|(a ^b)" => "f";
-        "f|(^) + 1" => "f";
-        "f|(a^" => "f";
-        "a|.^5" => "a";
-        "a|.^" => "a";
-        "a.b|.^1" => "a.b";
-        "1 HRS 2 MIN 3.5 SEC - 4 HRS 5 SEC|" => "(d-d)";
-        "6 MIN 7 SEC + 8.9 SEC|" => "(d+d)";
-        "1 HRS| 2 ^x" => "d";
-        "1 HRS| 2.5 ^MIN" => "d";
-        "1 MIN| 2.5^" => "d";
-        "1 SEC| 2 SEC" => "d";
-        "2 UPB a(1) - LWB b.c|" => "(nUa(n)-Lb.c)";
-        "1| LWB ^5" => "n";
-        "1 + 2| UPB^" => "(n+n)";
-        "NOW - TRY s|" => "(N-Ts)";
-        "'1'B >< 'ab' CAT 1:2:3|" => "((b~t)~c)";
-        "a| b" => "a";
-        "a| + ^;" => "a";
-        "a + b| * ^" => "(a+b)";
-        "a| + NOT ^)" => "a";
-        "a| + (b^" => "a";
-        "x| := y" => "x";
-    ]
-}
+static EXPRESSIONS: [(&str, &str); 36] = table![
+    "a - b - c ** d|" => "((a-b)-(c^d))";
+    "a ** b ** c|" => "((a^b)^c)";
+    "a OR b AND c EQ d LT e + f * g ** h|" => "(a|(b&(c=(d<(e+(f*(g^h)))))))";
+    "a ** b * c + d > e /= f AND g EXOR h|" => "(((((((a^b)*c)+d)>e)#f)&g)?h)";
+    "a // b REM c >< d|" => "(((a/b)%c)~d)";
+    "a <> b SHIFT c|" => "((a@b)$c)";
+    "a <= b >= c|" => "((a{b)}c)";
+    "(a - (b - c)) * d|" => "([(a-[(b-c)])]*d)";
+    "- a ** b|" => "(-a^b)";
+    "NOT ABS SIGN + a|" => "!AS+a";
+    "a.b(1, c + d)(e).f|" => "a.b(n,(c+d))(e).f";
+    "f(a)|(b^" => "f(a)";
+    "f|(a, ^)" => "f";
+    "f|(a ^b)" => "f";
+    "f|(^) + 1" => "f";
+    "f|(a^" => "f";
+    "a|.^5" => "a";
+    "a|.^" => "a";
+    "a.b|.^1" => "a.b";
+    "1 HRS 2 MIN 3.5 SEC - 4 HRS 5 SEC|" => "(d-d)";
+    "6 MIN 7 SEC + 8.9 SEC|" => "(d+d)";
+    "1 HRS| 2 ^x" => "d";
+    "1 HRS| 2.5 ^MIN" => "d";
+    "1 MIN| 2.5^" => "d";
+    "1 SEC| 2 SEC" => "d";
+    "2 UPB a(1) - LWB b.c|" => "(nUa(n)-Lb.c)";
+    "1| LWB ^5" => "n";
+    "1 + 2| UPB^" => "(n+n)";
+    "NOW - TRY s|" => "(N-Ts)";
+    "'1'B >< 'ab' CAT 1:2:3|" => "((b~t)~c)";
+    "a| b" => "a";
+    "a| + ^;" => "a";
+    "a + b| * ^" => "(a+b)";
+    "a| + NOT ^)" => "a";
+    "a| + (b^" => "a";
+    "x| := y" => "x";
+];
 
 // Sources with which no expression begins.
-fn refused() -> &'static [&'static str] {
-    &[
-        "^", "^)", "^* a", "(a^", "(a^, b)", "(^)", "((a)^", "(a + ^)", "1.5 ^x", "TRY ^1", "TRY^",
-        "UPB ^5", "- +^", "NOT ^;", "^IF a",
-    ]
-}
+static NO_EXPRESSIONS: [&str; 15] = [
+    "^", "^)", "^* a", "(a^", "(a^, b)", "(^)", "((a)^", "(a + ^)", "1.5 ^x", "TRY ^1", "TRY^",
+    "UPB ^5", "- +^", "NOT ^;", "^IF a",
+];
 
 fn dyad_mark(operator: Dyad) -> u8 {
     match operator {
@@ -266,7 +262,7 @@ fn repeated(alloc: Global, parts: &[(&str, usize)]) -> Result<Vec<u8>, AllocErro
 
 #[test]
 fn expressions_are_read_to_their_end(rt: HostRuntime) -> Result<(), fmt::Error> {
-    for &(case, text) in read() {
+    for &(case, text) in &EXPRESSIONS {
         expect(
             &rt,
             reads(rt.alloc(), case.as_bytes(), text.as_bytes()),
@@ -278,7 +274,7 @@ fn expressions_are_read_to_their_end(rt: HostRuntime) -> Result<(), fmt::Error> 
 
 #[test]
 fn what_begins_no_expression_is_refused(rt: HostRuntime) -> Result<(), fmt::Error> {
-    for &case in refused() {
+    for &case in &NO_EXPRESSIONS {
         expect(&rt, refuses(rt.alloc(), case.as_bytes()), case);
     }
     Ok(())

@@ -11,24 +11,22 @@ use std::test::Fail;
 
 // Each module with the rules that are broken in its first procedure. What breaks a rule is mostly followed by what stands at
 // its edge.
-fn modules() -> &'static [(&'static str, &'static str)] {
-    table![
-        "DCL a FIXED,c CHAR(2);p:PROC;a:=a ^+ c;a:=a + 1;END;" => "S15 ";
-        "DCL c CHAR(200),d CHAR(55);p:PROC;c:=c><d;c:=c><d^><'x';END;" => "S15 ";
-        "DCL a FIXED;p:PROC;a:=^t;END;t:TASK;END;" => "S16 ";
-        "DCL a FIXED;p:PROC;^a(1);q;END;q:PROC;END;" => "S16 ";
-        "DCL b BIT,s SEMA;p:PROC;b:=TRY ^b;b:=TRY s;END;" => "S16 ";
-        "DCL a FIXED,b(2) FIXED;p:PROC;a:=^b(1,1);a:=b(1);a:=^b('1'B1);END;" => "S17 S17 ";
-        "DCL a FIXED,b(2) FIXED;p:PROC;a:=LWB ^a;a:=LWB b;a:=2 UPB ^b;END;" => "S17 S17 ";
-        "TYPE u STRUCT[k FIXED];DCL a FIXED,s u,r(2) u;p:PROC;a:=s.k;a:=s.^j;a:=a.^k;a:=^r.k;END;" => "S18 S18 S17 ";
-        "DCL a FIXED,b(2) FIXED;p:PROC;a:=^b;^b:=a;b(1):=a;END;" => "S19 S19 ";
-        "DCL a FIXED;p:PROC;^q;q('abc');q('ab');q(^'abcd');^q('abc',a);END;q:PROC(x CHAR(3));END;" => "S20 S20 S20 ";
-        "DCL a FIXED,i INV FIXED INIT(1),b FIXED(15);p:PROC;q(a);q(^i);q(^b);q(^(a));q(^1);END;q:PROC(x FIXED IDENT);END;"
-            => "S21 S21 S21 S21 ";
-        "DCL a FIXED;p:PROC;a:=^q;q;a:=r;END;q:PROC;END;r:PROC RETURNS(FIXED);END;" => "S22 ";
-        "DCL a FIXED;p:PROC;a:=^r(1)(2);a:=r(1).^k;END;r:PROC(x FIXED) RETURNS(FIXED);END;" => "S17 S18 ";
-    ]
-}
+static MODULES: [(&str, &str); 13] = table![
+    "DCL a FIXED,c CHAR(2);p:PROC;a:=a ^+ c;a:=a + 1;END;" => "S15 ";
+    "DCL c CHAR(200),d CHAR(55);p:PROC;c:=c><d;c:=c><d^><'x';END;" => "S15 ";
+    "DCL a FIXED;p:PROC;a:=^t;END;t:TASK;END;" => "S16 ";
+    "DCL a FIXED;p:PROC;^a(1);q;END;q:PROC;END;" => "S16 ";
+    "DCL b BIT,s SEMA;p:PROC;b:=TRY ^b;b:=TRY s;END;" => "S16 ";
+    "DCL a FIXED,b(2) FIXED;p:PROC;a:=^b(1,1);a:=b(1);a:=^b('1'B1);END;" => "S17 S17 ";
+    "DCL a FIXED,b(2) FIXED;p:PROC;a:=LWB ^a;a:=LWB b;a:=2 UPB ^b;END;" => "S17 S17 ";
+    "TYPE u STRUCT[k FIXED];DCL a FIXED,s u,r(2) u;p:PROC;a:=s.k;a:=s.^j;a:=a.^k;a:=^r.k;END;" => "S18 S18 S17 ";
+    "DCL a FIXED,b(2) FIXED;p:PROC;a:=^b;^b:=a;b(1):=a;END;" => "S19 S19 ";
+    "DCL a FIXED;p:PROC;^q;q('abc');q('ab');q(^'abcd');^q('abc',a);END;q:PROC(x CHAR(3));END;" => "S20 S20 S20 ";
+    "DCL a FIXED,i INV FIXED INIT(1),b FIXED(15);p:PROC;q(a);q(^i);q(^b);q(^(a));q(^1);END;q:PROC(x FIXED IDENT);END;"
+        => "S21 S21 S21 S21 ";
+    "DCL a FIXED;p:PROC;a:=^q;q;a:=r;END;q:PROC;END;r:PROC RETURNS(FIXED);END;" => "S22 ";
+    "DCL a FIXED;p:PROC;a:=^r(1)(2);a:=r(1).^k;END;r:PROC(x FIXED) RETURNS(FIXED);END;" => "S17 S18 ";
+];
 
 // Asks a statement's parts. The first procedure's scope is that of number 1.
 fn ask(
@@ -86,7 +84,7 @@ fn shown(alloc: Global, case: &str) -> Result<String, AllocError> {
 
 #[test]
 fn expressions_break_the_rules_at_their_marks(rt: HostRuntime) -> Result<(), Fail> {
-    for &(case, expected) in modules() {
+    for &(case, expected) in &MODULES {
         let found = shown(rt.alloc(), case)?;
         expect(&rt, found.as_str() == expected, case);
     }

@@ -4,7 +4,7 @@
 
 // A table with a case in each line: what is given, and what is expected.
 macro_rules! table {
-    ($($given:literal => $expected:literal;)*) => { &[$(($given, $expected)),*] };
+    ($($given:literal => $expected:literal;)*) => { [$(($given, $expected)),*] };
 }
 
 #[cfg(test)]

@@ -12,117 +12,109 @@ use std::fmt;
 
 // Each source, its MODEND marked, with the form of its name, a mark for each device behind that of its system part, one for each
 // declaration, and its last semicolon.
-fn read() -> &'static [(&'static str, &'static str)] {
-    table![
-        "MODULE;PROBLEM;^MODEND" => "-/";
-        "MODULE;PROBLEM;^MODEND;" => "-/;";
-        "MODULE m;PROBLEM;^MODEND;" => "n/;";
-        "MODULE(m);PROBLEM;^MODEND;" => "(/;";
-        "MODULE;SYSTEM;PROBLEM;^MODEND" => "-s/";
-        "MODULE(m); SYSTEM; tty: TERMINAL(1); irq: INTERRUPT(3); PROBLEM; ^MODEND;" => "(sdd/;";
-        "MODULE m; PROBLEM; LENGTH FIXED(31); LENGTH BIT(8); ^MODEND" => "n/LL";
-        "MODULE m; PROBLEM; TYPE t STRUCT [a FIXED, b CHAR]; DCL (a, b) t, s SEMA; ^MODEND" => "n/YD";
-        "MODULE m; PROBLEM; SPC tty DATION INOUT ALPHIC, irq INTERRUPT; DCL a FIXED INIT(1); \
-            ^MODEND;" => "n/SD;";
-        "MODULE m;PROBLEM;t:TASK;END;^MODEND;" => "n/T;";
-        "MODULE m; PROBLEM; t: TASK PRIO 5 MAIN; DCL a FIXED; a := 1; END; \
-            u: TASK MAIN PRIO 2; END; v: TASK MAIN;;; END; ^MODEND" => "n/TTT";
-        "MODULE m; PROBLEM; p: PROC; END; \
-            q: PROC(a FIXED, (b, c) FIXED IDENT) RETURNS(FIXED); RETURN (a + b); END; \
-            ^MODEND;" => "n/PP;";
-        "MODULE(m); SYSTEM; tty: TERMINAL(1); PROBLEM; SPC tty DATION INOUT ALPHIC; DCL a FIXED; \
-            t: TASK MAIN; a := a + 40 - 3; PUT a TO tty BY F(5), SKIP; END; \
-            ^MODEND;" => "(sd/SDT;";
-    ]
-}
+static READ: [(&str, &str); 13] = table![
+    "MODULE;PROBLEM;^MODEND" => "-/";
+    "MODULE;PROBLEM;^MODEND;" => "-/;";
+    "MODULE m;PROBLEM;^MODEND;" => "n/;";
+    "MODULE(m);PROBLEM;^MODEND;" => "(/;";
+    "MODULE;SYSTEM;PROBLEM;^MODEND" => "-s/";
+    "MODULE(m); SYSTEM; tty: TERMINAL(1); irq: INTERRUPT(3); PROBLEM; ^MODEND;" => "(sdd/;";
+    "MODULE m; PROBLEM; LENGTH FIXED(31); LENGTH BIT(8); ^MODEND" => "n/LL";
+    "MODULE m; PROBLEM; TYPE t STRUCT [a FIXED, b CHAR]; DCL (a, b) t, s SEMA; ^MODEND" => "n/YD";
+    "MODULE m; PROBLEM; SPC tty DATION INOUT ALPHIC, irq INTERRUPT; DCL a FIXED INIT(1); \
+        ^MODEND;" => "n/SD;";
+    "MODULE m;PROBLEM;t:TASK;END;^MODEND;" => "n/T;";
+    "MODULE m; PROBLEM; t: TASK PRIO 5 MAIN; DCL a FIXED; a := 1; END; \
+        u: TASK MAIN PRIO 2; END; v: TASK MAIN;;; END; ^MODEND" => "n/TTT";
+    "MODULE m; PROBLEM; p: PROC; END; \
+        q: PROC(a FIXED, (b, c) FIXED IDENT) RETURNS(FIXED); RETURN (a + b); END; \
+        ^MODEND;" => "n/PP;";
+    "MODULE(m); SYSTEM; tty: TERMINAL(1); PROBLEM; SPC tty DATION INOUT ALPHIC; DCL a FIXED; \
+        t: TASK MAIN; a := a + 40 - 3; PUT a TO tty BY F(5), SKIP; END; \
+        ^MODEND;" => "(sd/SDT;";
+];
 
 // Each source that is no module, with the refused token.
-fn refused() -> &'static [&'static str] {
-    &[
-        "^",
-        "^PROBLEM;MODEND;",
-        "MODULE^",
-        "MODULE ^5;",
-        "MODULE(^);",
-        "MODULE(m^;",
-        "MODULE m ^n;",
-        "MODULE m;^MODEND;",
-        "MODULE m;SYSTEM ^PROBLEM;",
-        "MODULE m;SYSTEM;^5;PROBLEM;",
-        "MODULE m;SYSTEM;a ^b(1);PROBLEM;",
-        "MODULE m;SYSTEM;a:b(1)^PROBLEM;",
-        "MODULE m;SYSTEM;a:b(1);a:c(^x);PROBLEM;",
-        "MODULE m;SYSTEM;a:b(1);^MODEND;",
-        "MODULE m;PROBLEM ^MODEND;",
-        "MODULE m;PROBLEM;^",
-        "MODULE m;PROBLEM;^EXIT;",
-        "MODULE m;PROBLEM;^;MODEND;",
-        "MODULE m;PROBLEM;t ^MODEND;",
-        "MODULE m;PROBLEM;t:^FIXED;MODEND;",
-        "MODULE m;PROBLEM;LENGTH FIXED(31)^MODEND;",
-        "MODULE m;PROBLEM;DCL a FIXED,^;MODEND;",
-        "MODULE m;PROBLEM;t:TASK PRIO ^x;END;MODEND;",
-        "MODULE m;PROBLEM;p:PROC(a FIXED,^);END;MODEND;",
-        "MODULE m;PROBLEM;p:PROC(^);END;MODEND;",
-        "MODULE(m);PROBLEM;t:TASK;END;^",
-        "MODULE m;PROBLEM;t:TASK;^MODEND;",
-        "MODULE m;PROBLEM;t:TASK ^END;MODEND;",
-        "MODULE m;PROBLEM;t:TASK;END ^MODEND;",
-        "MODULE m;PROBLEM;t:TASK;a:=^;END;MODEND;",
-        "MODULE m;PROBLEM;t:TASK;BEGIN END;^MODEND;",
-        "MODULE m;PROBLEM;t:TASK;END;x^;MODEND;",
-        "MODULE m;PROBLEM;t:TASK;DCL s ^SEMA;END;MODEND;",
-        "MODULE m;PROBLEM;p:PROC RETURNS ^FIXED;END;MODEND;",
-        "MODULE m;PROBLEM;p:PROC;IF a THEN b;^END;MODEND;",
-        "MODULE m;PROBLEM;MODEND ^x",
-        "MODULE m;PROBLEM;MODEND;^;",
-        "MODULE m;PROBLEM;MODEND; ^DCL a FIXED;",
-    ]
-}
+static REFUSED: [&str; 38] = [
+    "^",
+    "^PROBLEM;MODEND;",
+    "MODULE^",
+    "MODULE ^5;",
+    "MODULE(^);",
+    "MODULE(m^;",
+    "MODULE m ^n;",
+    "MODULE m;^MODEND;",
+    "MODULE m;SYSTEM ^PROBLEM;",
+    "MODULE m;SYSTEM;^5;PROBLEM;",
+    "MODULE m;SYSTEM;a ^b(1);PROBLEM;",
+    "MODULE m;SYSTEM;a:b(1)^PROBLEM;",
+    "MODULE m;SYSTEM;a:b(1);a:c(^x);PROBLEM;",
+    "MODULE m;SYSTEM;a:b(1);^MODEND;",
+    "MODULE m;PROBLEM ^MODEND;",
+    "MODULE m;PROBLEM;^",
+    "MODULE m;PROBLEM;^EXIT;",
+    "MODULE m;PROBLEM;^;MODEND;",
+    "MODULE m;PROBLEM;t ^MODEND;",
+    "MODULE m;PROBLEM;t:^FIXED;MODEND;",
+    "MODULE m;PROBLEM;LENGTH FIXED(31)^MODEND;",
+    "MODULE m;PROBLEM;DCL a FIXED,^;MODEND;",
+    "MODULE m;PROBLEM;t:TASK PRIO ^x;END;MODEND;",
+    "MODULE m;PROBLEM;p:PROC(a FIXED,^);END;MODEND;",
+    "MODULE m;PROBLEM;p:PROC(^);END;MODEND;",
+    "MODULE(m);PROBLEM;t:TASK;END;^",
+    "MODULE m;PROBLEM;t:TASK;^MODEND;",
+    "MODULE m;PROBLEM;t:TASK ^END;MODEND;",
+    "MODULE m;PROBLEM;t:TASK;END ^MODEND;",
+    "MODULE m;PROBLEM;t:TASK;a:=^;END;MODEND;",
+    "MODULE m;PROBLEM;t:TASK;BEGIN END;^MODEND;",
+    "MODULE m;PROBLEM;t:TASK;END;x^;MODEND;",
+    "MODULE m;PROBLEM;t:TASK;DCL s ^SEMA;END;MODEND;",
+    "MODULE m;PROBLEM;p:PROC RETURNS ^FIXED;END;MODEND;",
+    "MODULE m;PROBLEM;p:PROC;IF a THEN b;^END;MODEND;",
+    "MODULE m;PROBLEM;MODEND ^x",
+    "MODULE m;PROBLEM;MODEND;^;",
+    "MODULE m;PROBLEM;MODEND; ^DCL a FIXED;",
+];
 
 // The place of the token with which each source is refused, as a number. Tokens before it begin a module.
-fn told() -> &'static [(&'static str, u32)] {
-    table![
-        "MODULE(m);PROBLEM;" => 18;
-        "MODULE(m);PROBLEM;MODEND;;" => 25;
-        "MODULE(m);PROBLEM;t:TASK;IF a THEN END;MODEND;" => 35;
-        "MODULE(m);PROBLEM;t:TASK;x(1 2):=3;END;MODEND;" => 29;
-        "MODULE(m);PROBLEM;t:TASK;x := a + * b;END;MODEND;" => 34;
-        "MODULE(m);PROBLEM;t:TASK;x((((((((((((((((((((((((((((((((((1)))))))))))))))))))))))))))))))))):=3;END;MODEND;" => 59;
-    ]
-}
+static TOLD: [(&str, u32); 6] = table![
+    "MODULE(m);PROBLEM;" => 18;
+    "MODULE(m);PROBLEM;MODEND;;" => 25;
+    "MODULE(m);PROBLEM;t:TASK;IF a THEN END;MODEND;" => 35;
+    "MODULE(m);PROBLEM;t:TASK;x(1 2):=3;END;MODEND;" => 29;
+    "MODULE(m);PROBLEM;t:TASK;x := a + * b;END;MODEND;" => 34;
+    "MODULE(m);PROBLEM;t:TASK;x((((((((((((((((((((((((((((((((((1)))))))))))))))))))))))))))))))))):=3;END;MODEND;" => 59;
+];
 
 // Sources in which the refused token ends another alternative than the one that is read up to there.
-fn abandoned() -> &'static [&'static str] {
-    &[
-        "MODULE(m);PROBLEM;t:TASK;p(a).b^;END;MODEND;",
-        "MODULE(m);PROBLEM;t:TASK;p(a, b ^c);END;MODEND;",
-        "MODULE(m);PROBLEM;t:TASK;x(1, ^) := 3;END;MODEND;",
-        "MODULE(m);PROBLEM;t:TASK;x := 1 HRS 2^;END;MODEND;",
-        "MODULE(m);PROBLEM;t:TASK;x := 1 HRS 2 ^HRS;END;MODEND;",
-        "MODULE(m);PROBLEM;t:TASK;x := 1 MIN 2.5 ^+ y;END;MODEND;",
-        "MODULE(m);PROBLEM;t:TASK;x := 1 HRS 2 MIN 3^;END;MODEND;",
-        "MODULE(m);PROBLEM;t:TASK;x := 2 UPB ^;END;MODEND;",
-        "MODULE(m);PROBLEM;SPC d DATION IN ALPHIC ^c;MODEND;",
-        "MODULE(m);PROBLEM;SPC d DATION IN ALPHIC CONTROL^;MODEND;",
-        "MODULE(m);PROBLEM;SPC d DATION IN ALPHIC CONTROL(^c);MODEND;",
-        "MODULE(m);PROBLEM;SPC d DATION OUT BASIC CHAR(^c);MODEND;",
-        "MODULE(m);PROBLEM;t:TASK MAIN PRIO^;END;MODEND;",
-        "MODULE(m);PROBLEM;t:TASK PRIO 5 MAIN ^PRIO 5;END;MODEND;",
-        "MODULE(m);PROBLEM;t:TASK MAIN PRIO 5 ^MAIN;END;MODEND;",
-        "MODULE(m);PROBLEM;DCL a FIXED(^c);MODEND;",
-        "MODULE(m);PROBLEM;DCL a FIXED INIT(1 ^2);MODEND;",
-        "MODULE(m);PROBLEM;DCL s SEMA PRESET(1^;MODEND;",
-        "MODULE(m);PROBLEM;DCL a(1:^) FIXED;MODEND;",
-        "MODULE(m);PROBLEM;p:PROC(a FIXED ^INIT);END;MODEND;",
-        "MODULE(m);PROBLEM;p:PROC RETURNS(^t);END;MODEND;",
-        "MODULE(m);PROBLEM;t:TASK;RETURN ^a;END;MODEND;",
-        "MODULE(m);PROBLEM;t:TASK;CALL p(a)^(b);END;MODEND;",
-        "MODULE(m);PROBLEM;t:TASK;PUT a TO d BY SKIP(^c);END;MODEND;",
-        "MODULE(m);PROBLEM;t:TASK;PUT a TO d BY A(5^;END;MODEND;",
-        "MODULE(m);PROBLEM;t:TASK;ALL 1 SEC UNTIL 2:0:0 ^DURING;END;MODEND;",
-    ]
-}
+static ABANDONED: [&str; 26] = [
+    "MODULE(m);PROBLEM;t:TASK;p(a).b^;END;MODEND;",
+    "MODULE(m);PROBLEM;t:TASK;p(a, b ^c);END;MODEND;",
+    "MODULE(m);PROBLEM;t:TASK;x(1, ^) := 3;END;MODEND;",
+    "MODULE(m);PROBLEM;t:TASK;x := 1 HRS 2^;END;MODEND;",
+    "MODULE(m);PROBLEM;t:TASK;x := 1 HRS 2 ^HRS;END;MODEND;",
+    "MODULE(m);PROBLEM;t:TASK;x := 1 MIN 2.5 ^+ y;END;MODEND;",
+    "MODULE(m);PROBLEM;t:TASK;x := 1 HRS 2 MIN 3^;END;MODEND;",
+    "MODULE(m);PROBLEM;t:TASK;x := 2 UPB ^;END;MODEND;",
+    "MODULE(m);PROBLEM;SPC d DATION IN ALPHIC ^c;MODEND;",
+    "MODULE(m);PROBLEM;SPC d DATION IN ALPHIC CONTROL^;MODEND;",
+    "MODULE(m);PROBLEM;SPC d DATION IN ALPHIC CONTROL(^c);MODEND;",
+    "MODULE(m);PROBLEM;SPC d DATION OUT BASIC CHAR(^c);MODEND;",
+    "MODULE(m);PROBLEM;t:TASK MAIN PRIO^;END;MODEND;",
+    "MODULE(m);PROBLEM;t:TASK PRIO 5 MAIN ^PRIO 5;END;MODEND;",
+    "MODULE(m);PROBLEM;t:TASK MAIN PRIO 5 ^MAIN;END;MODEND;",
+    "MODULE(m);PROBLEM;DCL a FIXED(^c);MODEND;",
+    "MODULE(m);PROBLEM;DCL a FIXED INIT(1 ^2);MODEND;",
+    "MODULE(m);PROBLEM;DCL s SEMA PRESET(1^;MODEND;",
+    "MODULE(m);PROBLEM;DCL a(1:^) FIXED;MODEND;",
+    "MODULE(m);PROBLEM;p:PROC(a FIXED ^INIT);END;MODEND;",
+    "MODULE(m);PROBLEM;p:PROC RETURNS(^t);END;MODEND;",
+    "MODULE(m);PROBLEM;t:TASK;RETURN ^a;END;MODEND;",
+    "MODULE(m);PROBLEM;t:TASK;CALL p(a)^(b);END;MODEND;",
+    "MODULE(m);PROBLEM;t:TASK;PUT a TO d BY SKIP(^c);END;MODEND;",
+    "MODULE(m);PROBLEM;t:TASK;PUT a TO d BY A(5^;END;MODEND;",
+    "MODULE(m);PROBLEM;t:TASK;ALL 1 SEC UNTIL 2:0:0 ^DURING;END;MODEND;",
+];
 
 fn show_system(into: &mut Vec<u8>, system: &Option<Parts<Device>>) -> Result<(), AllocError> {
     if let Some(devices) = system {
@@ -199,7 +191,7 @@ pub fn refuses(alloc: Global, case: &[u8]) -> Option<bool> {
 
 #[test]
 fn modules_are_read_from_the_first_token_to_the_last(rt: HostRuntime) -> Result<(), fmt::Error> {
-    for &(case, text) in read() {
+    for &(case, text) in &READ {
         let found = reads(rt.alloc(), case.as_bytes(), text.as_bytes());
         expect(&rt, found == Some(true), case);
     }
@@ -208,7 +200,7 @@ fn modules_are_read_from_the_first_token_to_the_last(rt: HostRuntime) -> Result<
 
 #[test]
 fn what_is_no_module_is_refused_where_it_stops(rt: HostRuntime) -> Result<(), fmt::Error> {
-    for &case in refused() {
+    for &case in &REFUSED {
         expect(
             &rt,
             refuses(rt.alloc(), case.as_bytes()) == Some(true),
@@ -220,7 +212,7 @@ fn what_is_no_module_is_refused_where_it_stops(rt: HostRuntime) -> Result<(), fm
 
 #[test]
 fn the_first_token_with_which_no_module_begins_is_told(rt: HostRuntime) -> Result<(), fmt::Error> {
-    for &(source, place) in told() {
+    for &(source, place) in &TOLD {
         let found = tokens_of(rt.alloc(), source.as_bytes());
         let told = match &found {
             Some((tokens, end)) => is_refused(rt.alloc(), tokens.as_slice(), *end, place),
@@ -233,7 +225,7 @@ fn the_first_token_with_which_no_module_begins_is_told(rt: HostRuntime) -> Resul
 
 #[test]
 fn an_abandoned_alternative_is_told_where_it_stops(rt: HostRuntime) -> Result<(), fmt::Error> {
-    for &case in abandoned() {
+    for &case in &ABANDONED {
         expect(
             &rt,
             refuses(rt.alloc(), case.as_bytes()) == Some(true),

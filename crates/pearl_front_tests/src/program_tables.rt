@@ -12,7 +12,6 @@ use pearl_system::system;
 use pearl_tree::declaration::{Declared, Item};
 use pearl_tree::tree::{Decl, Tree};
 use std::alloc::Global;
-use std::test::Fail;
 
 // The first variables that a module declares.
 fn first_item(tree: &Tree) -> Option<&Item> {
@@ -66,36 +65,55 @@ fn devices_of(alloc: Global, source: &[u8]) -> Option<String> {
     Some(text)
 }
 
-#[test]
-fn leaves_are_filled_in_order(rt: HostRuntime) -> Result<(), Fail> {
-    let source = b"MODULE;PROBLEM;DCL w(2) STRUCT[m FIXED,n CHAR] INIT(5,6,'a');MODEND";
-    let found = leaves_of(rt.alloc(), source).ok_or("no leaves")?;
-    assert!(rt; found.as_str() == "w.m F31*2=F31:5=F31:6;w.n C1*2='a';4 slots, 1 left");
-    Ok(())
+// What is asked of a module.
+#[derive(Clone, Copy)]
+enum Of {
+    Leaves,
+    Presets,
+    Formats,
+    Devices,
+}
+
+// Leaves are filled in order, presets go by name, each transfer has a format, and devices are in order.
+static ROWS: [(Of, &[u8], &str); 4] = [
+    (
+        Of::Leaves,
+        b"MODULE;PROBLEM;DCL w(2) STRUCT[m FIXED,n CHAR] INIT(5,6,'a');MODEND",
+        "w.m F31*2=F31:5=F31:6;w.n C1*2='a';4 slots, 1 left",
+    ),
+    (
+        Of::Presets,
+        b"MODULE;PROBLEM;DCL (s,u) SEMA PRESET(2,5),v SEMA;DCL w SEMA PRESET(7);MODEND",
+        "sema 2;sema 5;sema 0;sema 7;",
+    ),
+    (
+        Of::Formats,
+        b"MODULE;PROBLEM;t:TASK;IF b THEN PUT a TO d BY F(3),B;ELSE GET a FROM d BY B4(2),SKIP(2);FIN;PUT TO d BY X;END;MODEND",
+        "format F(3),B1(0),;format B4(2),Skip(2),;format X(0),;",
+    ),
+    (
+        Of::Devices,
+        b"MODULE;SYSTEM;o:OUTPUT(5);i:INPUT(4);y:TERMINAL(8);x:TERMINAL(3);q:INTERRUPT(1);PROBLEM;LENGTH CHAR(9);SPC o DATION OUT BASIC CHAR,i DATION IN BASIC CLOCK,(x,y) DATION IN ALPHIC,q INTERRUPT;MODEND",
+        "interrupt 1;terminal 3 In;terminal 8 In;input 4 T;output 5 C9;",
+    ),
+];
+
+fn is_told(alloc: Global, of: Of, source: &[u8], expected: &str) -> bool {
+    let found = match of {
+        Of::Leaves => leaves_of(alloc, source),
+        Of::Presets => presets_of(alloc, source),
+        Of::Formats => formats_of(alloc, source),
+        Of::Devices => devices_of(alloc, source),
+    };
+    match found {
+        Some(text) => text.as_str() == expected,
+        None => false,
+    }
 }
 
 #[test]
-fn presets_go_by_name(rt: HostRuntime) -> Result<(), Fail> {
-    let source = b"MODULE;PROBLEM;DCL (s,u) SEMA PRESET(2,5),v SEMA;DCL w SEMA PRESET(7);MODEND";
-    let found = presets_of(rt.alloc(), source).ok_or("no presets")?;
-    assert!(rt; found.as_str() == "sema 2;sema 5;sema 0;sema 7;");
-    Ok(())
-}
-
-#[test]
-fn each_transfer_has_a_format(rt: HostRuntime) -> Result<(), Fail> {
-    let source =
-        b"MODULE;PROBLEM;t:TASK;IF b THEN PUT a TO d BY F(3),B;ELSE GET a FROM d BY B4(2),SKIP(2);FIN;PUT TO d BY X;END;MODEND";
-    let found = formats_of(rt.alloc(), source).ok_or("no formats")?;
-    assert!(rt; found.as_str() == "format F(3),B1(0),;format B4(2),Skip(2),;format X(0),;");
-    Ok(())
-}
-
-#[test]
-fn devices_are_in_order(rt: HostRuntime) -> Result<(), Fail> {
-    let source =
-        b"MODULE;SYSTEM;o:OUTPUT(5);i:INPUT(4);y:TERMINAL(8);x:TERMINAL(3);q:INTERRUPT(1);PROBLEM;LENGTH CHAR(9);SPC o DATION OUT BASIC CHAR,i DATION IN BASIC CLOCK,(x,y) DATION IN ALPHIC,q INTERRUPT;MODEND";
-    let found = devices_of(rt.alloc(), source).ok_or("no devices")?;
-    assert!(rt; found.as_str() == "interrupt 1;terminal 3 In;terminal 8 In;input 4 T;output 5 C9;");
-    Ok(())
+fn modules_have_these_tables(rt: HostRuntime) {
+    for (number, &(of, source, expected)) in ROWS.iter().enumerate() {
+        assert!(rt; is_told(rt.alloc(), of, source, expected), "row {number}");
+    }
 }

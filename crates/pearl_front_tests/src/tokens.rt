@@ -64,38 +64,32 @@ static SYMBOLS: [&str; 23] = [
     "<>", "+", "-", "*", "//", "**",
 ];
 
-fn sources() -> &'static [(&'static str, &'static [Want])] {
-    &SOURCES
-}
-
 // Sources that have no tokens, with the place at which they have none.
-fn refused() -> &'static [&'static str] {
-    &[
-        "a ^_",
-        "a ^/",
-        "a ^\x0b",
-        "a ^% b",
-        "a ^/* never closed *",
-        "a ^/*/",
-        "*^/",
-        "^9223372036854775808",
-        "^9223372036854775808.5",
-        "a ^1.2345",
-        "a ^24:00:00",
-        "a ^0:60:00",
-        "a ^0:0:60",
-        "a ^0:0:0.1234",
-        "a ^'never closed",
-        "a ^'line\nend'",
-        "a ^'byte\x7f'",
-        "a ^''",
-        "a ^''B",
-        "a ^'2'B",
-        "a ^'f'B4",
-        "a ^'1''1'B",
-        "a ^'FFFFFFFFFFFFFFFF0'B4",
-    ]
-}
+static REFUSED: [&str; 23] = [
+    "a ^_",
+    "a ^/",
+    "a ^\x0b",
+    "a ^% b",
+    "a ^/* never closed *",
+    "a ^/*/",
+    "*^/",
+    "^9223372036854775808",
+    "^9223372036854775808.5",
+    "a ^1.2345",
+    "a ^24:00:00",
+    "a ^0:60:00",
+    "a ^0:0:60",
+    "a ^0:0:0.1234",
+    "a ^'never closed",
+    "a ^'line\nend'",
+    "a ^'byte\x7f'",
+    "a ^''",
+    "a ^''B",
+    "a ^'2'B",
+    "a ^'f'B4",
+    "a ^'1''1'B",
+    "a ^'FFFFFFFFFFFFFFFF0'B4",
+];
 
 fn is_same(what: &What, want: Want) -> bool {
     match (what, want) {
@@ -160,7 +154,7 @@ fn has_only(alloc: Global, source: &[u8], want: Want, count: usize) -> bool {
 
 #[test]
 fn sources_have_their_tokens(rt: HostRuntime) -> Result<(), Fail> {
-    for &(case, wants) in sources() {
+    for &(case, wants) in &SOURCES {
         expect(&rt, has_tokens(rt.alloc(), case, wants)?, case);
     }
     Ok(())
@@ -168,7 +162,7 @@ fn sources_have_their_tokens(rt: HostRuntime) -> Result<(), Fail> {
 
 #[test]
 fn what_is_no_token_is_refused(rt: HostRuntime) -> Result<(), Fail> {
-    for &case in refused() {
+    for &case in &REFUSED {
         expect(&rt, refuses(rt.alloc(), case)?, case);
     }
     Ok(())

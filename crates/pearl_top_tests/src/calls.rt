@@ -75,14 +75,17 @@ fn may_fail(alloc: Global, words: &[&str], bytes: &[u8]) -> Result<bool, AllocEr
     Ok(first_other_fetch(alloc, of)?.is_none() && first_other_put(alloc, of)?.is_none())
 }
 
+fn listing_may_fail(alloc: Global) -> Result<bool, AllocError> {
+    let object = end_of(alloc, COMPILE, FIRST.as_bytes(), "", ROOM)?.bytes;
+    may_fail(alloc, LIST, object.as_slice())
+}
+
 #[test]
 fn each_call_of_a_command_on_one_file_may_fail(rt: HostRuntime) -> Result<(), Fail> {
-    let alloc = rt.alloc();
-    let object = end_of(alloc, COMPILE, FIRST.as_bytes(), "", ROOM)?.bytes;
-    assert!(rt; may_fail(alloc, CHECK, FIRST.as_bytes())?, "check");
-    assert!(rt; may_fail(alloc, PRINT, FIRST.as_bytes())?, "print");
-    assert!(rt; may_fail(alloc, COMPILE, FIRST.as_bytes())?, "compile");
-    assert!(rt; may_fail(alloc, LIST, object.as_slice())?, "list");
+    for (name, words) in [("check", CHECK), ("print", PRINT), ("compile", COMPILE)] {
+        assert!(rt; may_fail(rt.alloc(), words, FIRST.as_bytes())?, "{name}");
+    }
+    assert!(rt; listing_may_fail(rt.alloc())?, "list");
     Ok(())
 }
 

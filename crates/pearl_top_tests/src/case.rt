@@ -199,6 +199,59 @@ pub fn failed(
     })
 }
 
+/// A command over these bytes as s and over j, and how it ends.
+pub struct End {
+    pub words: &'static [&'static str],
+    pub bytes: &'static [u8],
+    pub journal: &'static str,
+    pub status: Status,
+    pub text: &'static [u8],
+}
+
+/// The number of the first of these that ends otherwise.
+pub fn first_other_end(alloc: Global, ends: &[End]) -> Result<Option<usize>, AllocError> {
+    for (number, end) in ends.iter().enumerate() {
+        let ended = end_of(alloc, end.words, end.bytes, end.journal, ROOM)?;
+        if !ended.is(end.status, end.text) {
+            return Ok(Some(number));
+        }
+    }
+    Ok(None)
+}
+
+/// A command where these calls fail, of the shelf and of the sink, and how it ends; of which what is written counts only
+/// where it is told.
+pub struct Failure {
+    pub words: &'static [&'static str],
+    pub fetches: &'static [u64],
+    pub puts: &'static [u64],
+    pub status: Status,
+    pub text: Option<&'static str>,
+}
+
+fn is_failure(ended: &Ended, failure: &Failure) -> bool {
+    match failure.text {
+        Some(text) => ended.is(failure.status, text.as_bytes()),
+        None => ended.status == failure.status,
+    }
+}
+
+/// The number of the first of these that ends otherwise over these bytes as s and over j.
+pub fn first_other_failure(
+    alloc: Global,
+    bytes: &[u8],
+    journal: &str,
+    failures: &[Failure],
+) -> Result<Option<usize>, AllocError> {
+    for (number, of) in failures.iter().enumerate() {
+        let ended = failed(alloc, of.words, bytes, journal, of.fetches, of.puts)?;
+        if !is_failure(&ended, of) {
+            return Ok(Some(number));
+        }
+    }
+    Ok(None)
+}
+
 // Whether the row's source is compiled, and the object then ends so that is executed over its journal.
 fn row_executes_so(alloc: Global, table: &Table, row: Row) -> Result<bool, AllocError> {
     let (part, journal, told) = row;

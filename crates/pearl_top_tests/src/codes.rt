@@ -43,11 +43,15 @@ fn told(alloc: Global, parts: &str) -> Result<String, AllocError> {
     }
 }
 
+fn is_told(alloc: Global, parts: &str, expected: &str) -> Result<bool, AllocError> {
+    let found = told(alloc, parts)?;
+    Ok(found.as_str() == expected)
+}
+
 #[test]
 fn small_modules_have_this_code(rt: HostRuntime) -> Result<(), Fail> {
     for &(parts, expected) in modules() {
-        let found = told(rt.alloc(), parts)?;
-        assert!(rt; found.as_str() == expected, "{parts}");
+        assert!(rt; is_told(rt.alloc(), parts, expected)?, "{parts}");
     }
     Ok(())
 }

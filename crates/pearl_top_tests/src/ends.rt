@@ -1,6 +1,9 @@
 // Each case ends as its table says.
 
-use crate::case::{Case, Fault, Long, RUN, Table, ends_so, fails_so, first_other, long_ends_so};
+use crate::case::{
+    Case, End, Fault, Long, RUN, Table, ends_so, fails_so, first_other, first_other_end,
+    long_ends_so,
+};
 use crate::mark::joined;
 use crate::{bench, check, kept, print, run, saved, tasks, timed, typed, watch, whole};
 use pearl_top::status::Status;
@@ -8,101 +11,57 @@ use std::alloc::{AllocError, Global};
 use std::process::Abort;
 use std::test::Fail;
 
-// Each row of this table ends as it says.
-fn rows_end_so(rt: &impl Abort, alloc: Global, table: &Table) -> Result<(), Fail> {
-    let other = first_other(alloc, table)?;
-    assert!(rt; other.is_none(), "row {}", other.unwrap_or(0));
+// All tables of short cases, with their names.
+fn tables() -> [(&'static str, &'static Table); 18] {
+    [
+        ("check, accepted", &check::ACCEPTED),
+        ("check, refused", &check::REFUSED),
+        ("print, modules", &print::MODULES),
+        ("print, declarations", &print::DECLARATIONS),
+        ("print, statements", &print::STATEMENTS),
+        ("print, expressions", &print::EXPRESSIONS),
+        ("print, refused", &print::REFUSED),
+        ("run, variables", &run::VARIABLES),
+        ("run, refused", &run::REFUSED),
+        ("bodies", &whole::BODIES),
+        ("tasks", &tasks::PLANTS),
+        ("turns, refused", &tasks::REFUSED),
+        ("time", &timed::PLANTS),
+        ("interrupts", &timed::INTERRUPTS),
+        ("lines on time, refused", &timed::REFUSED),
+        ("texts", &typed::TEXTS),
+        ("values", &typed::VALUES),
+        ("inputs, refused", &typed::REFUSED),
+    ]
+}
+
+#[test]
+fn rows_end_as_their_tables_say(rt: HostRuntime) -> Result<(), Fail> {
+    for (name, table) in tables() {
+        if let Some(number) = first_other(rt.alloc(), table)? {
+            assert!(rt; false, "row {number} of {name}");
+        }
+    }
     Ok(())
 }
 
-#[test]
-fn sources_are_accepted(rt: HostRuntime) -> Result<(), Fail> {
-    rows_end_so(&rt, rt.alloc(), &check::ACCEPTED)
+// Commands over objects and snapshots.
+fn ends() -> [(&'static str, &'static [End]); 3] {
+    [
+        ("objects", &kept::OBJECTS),
+        ("snapshots", &saved::SNAPSHOTS),
+        ("objects that are watched", &watch::OBJECTS),
+    ]
 }
 
 #[test]
-fn broken_rules_are_told_by_check(rt: HostRuntime) -> Result<(), Fail> {
-    rows_end_so(&rt, rt.alloc(), &check::REFUSED)
-}
-
-#[test]
-fn modules_are_printed(rt: HostRuntime) -> Result<(), Fail> {
-    rows_end_so(&rt, rt.alloc(), &print::MODULES)
-}
-
-#[test]
-fn declarations_are_printed(rt: HostRuntime) -> Result<(), Fail> {
-    rows_end_so(&rt, rt.alloc(), &print::DECLARATIONS)
-}
-
-#[test]
-fn statements_are_printed(rt: HostRuntime) -> Result<(), Fail> {
-    rows_end_so(&rt, rt.alloc(), &print::STATEMENTS)
-}
-
-#[test]
-fn expressions_are_printed(rt: HostRuntime) -> Result<(), Fail> {
-    rows_end_so(&rt, rt.alloc(), &print::EXPRESSIONS)
-}
-
-#[test]
-fn faults_are_told_by_print(rt: HostRuntime) -> Result<(), Fail> {
-    rows_end_so(&rt, rt.alloc(), &print::REFUSED)
-}
-
-#[test]
-fn variables_hold_what_is_written(rt: HostRuntime) -> Result<(), Fail> {
-    rows_end_so(&rt, rt.alloc(), &run::VARIABLES)
-}
-
-#[test]
-fn faults_are_told_by_run(rt: HostRuntime) -> Result<(), Fail> {
-    rows_end_so(&rt, rt.alloc(), &run::REFUSED)
-}
-
-#[test]
-fn bodies_are_carried_out(rt: HostRuntime) -> Result<(), Fail> {
-    rows_end_so(&rt, rt.alloc(), &whole::BODIES)
-}
-
-#[test]
-fn tasks_share_a_processor(rt: HostRuntime) -> Result<(), Fail> {
-    rows_end_so(&rt, rt.alloc(), &tasks::PLANTS)
-}
-
-#[test]
-fn turns_are_refused(rt: HostRuntime) -> Result<(), Fail> {
-    rows_end_so(&rt, rt.alloc(), &tasks::REFUSED)
-}
-
-#[test]
-fn time_passes(rt: HostRuntime) -> Result<(), Fail> {
-    rows_end_so(&rt, rt.alloc(), &timed::PLANTS)
-}
-
-#[test]
-fn interrupts_occur(rt: HostRuntime) -> Result<(), Fail> {
-    rows_end_so(&rt, rt.alloc(), &timed::INTERRUPTS)
-}
-
-#[test]
-fn lines_on_time_are_refused(rt: HostRuntime) -> Result<(), Fail> {
-    rows_end_so(&rt, rt.alloc(), &timed::REFUSED)
-}
-
-#[test]
-fn texts_come_in(rt: HostRuntime) -> Result<(), Fail> {
-    rows_end_so(&rt, rt.alloc(), &typed::TEXTS)
-}
-
-#[test]
-fn values_come_in(rt: HostRuntime) -> Result<(), Fail> {
-    rows_end_so(&rt, rt.alloc(), &typed::VALUES)
-}
-
-#[test]
-fn inputs_are_refused(rt: HostRuntime) -> Result<(), Fail> {
-    rows_end_so(&rt, rt.alloc(), &typed::REFUSED)
+fn commands_over_bytes_end_as_their_rows_say(rt: HostRuntime) -> Result<(), Fail> {
+    for (name, table) in ends() {
+        if let Some(number) = first_other_end(rt.alloc(), table)? {
+            assert!(rt; false, "row {number} of {name}");
+        }
+    }
+    Ok(())
 }
 
 // Each of these cases ends so.
@@ -212,21 +171,24 @@ fn first_other_line(
     Ok(None)
 }
 
-#[test]
-fn a_write_may_fail_at_each_line(rt: HostRuntime) -> Result<(), Fail> {
-    let alloc = rt.alloc();
-    let journal = "run 2\nstate\nrun 20";
-    let other = first_other_line(alloc, tasks::WATCHED, journal, &tasks::WATCHED_LINES)?;
-    assert!(rt; other.is_none(), "line {}", other.unwrap_or(0));
-    Ok(())
+// The same of a run with a line in each mark, or with several.
+fn first_other_line_of(alloc: Global, marks: bool) -> Result<Option<usize>, AllocError> {
+    if marks {
+        let journal = "run 20\ntick 1000\nrun 20\nirpt 3\nrun 9\n";
+        first_other_line(alloc, timed::MARKS, journal, &timed::MARKS_LINES)
+    } else {
+        let journal = "run 2\nstate\nrun 20";
+        first_other_line(alloc, tasks::WATCHED, journal, &tasks::WATCHED_LINES)
+    }
 }
 
 #[test]
-fn a_write_may_fail_at_each_line_of_a_mark(rt: HostRuntime) -> Result<(), Fail> {
-    let alloc = rt.alloc();
-    let journal = "run 20\ntick 1000\nrun 20\nirpt 3\nrun 9\n";
-    let other = first_other_line(alloc, timed::MARKS, journal, &timed::MARKS_LINES)?;
-    assert!(rt; other.is_none(), "line {}", other.unwrap_or(0));
+fn a_write_may_fail_at_each_line(rt: HostRuntime) -> Result<(), Fail> {
+    for marks in [false, true] {
+        if let Some(number) = first_other_line_of(rt.alloc(), marks)? {
+            assert!(rt; false, "line {number}, {marks}");
+        }
+    }
     Ok(())
 }
 
@@ -257,21 +219,36 @@ fn is_no_command(alloc: Global, words: &[&str]) -> Result<bool, AllocError> {
     ends_so(alloc, &case)
 }
 
-fn are_no_commands(rt: &impl Abort, alloc: Global, table: &[&[&str]]) -> Result<(), Fail> {
+// The number of the first of these words that are a command.
+fn first_command(alloc: Global, table: &[&[&str]]) -> Result<Option<usize>, AllocError> {
     for (number, words) in table.iter().enumerate() {
-        assert!(rt; is_no_command(alloc, words)?, "row {number}");
+        if !is_no_command(alloc, words)? {
+            return Ok(Some(number));
+        }
     }
-    Ok(())
+    Ok(None)
+}
+
+// Words that are no command, with their tables' names.
+fn other_words() -> [(&'static str, &'static [&'static [&'static str]]); 6] {
+    [
+        ("check", &check::OTHER_WORDS),
+        ("print", &print::OTHER_WORDS),
+        ("kept", &kept::OTHER_WORDS),
+        ("watch", &watch::OTHER_WORDS),
+        ("saved", &saved::OTHER_WORDS),
+        ("bench", &bench::OTHER_WORDS),
+    ]
 }
 
 #[test]
 fn other_words_are_no_command(rt: HostRuntime) -> Result<(), Fail> {
-    are_no_commands(&rt, rt.alloc(), &check::OTHER_WORDS)?;
-    are_no_commands(&rt, rt.alloc(), &print::OTHER_WORDS)?;
-    are_no_commands(&rt, rt.alloc(), &kept::OTHER_WORDS)?;
-    are_no_commands(&rt, rt.alloc(), &watch::OTHER_WORDS)?;
-    are_no_commands(&rt, rt.alloc(), &saved::OTHER_WORDS)?;
-    are_no_commands(&rt, rt.alloc(), &bench::OTHER_WORDS)
+    for (name, table) in other_words() {
+        if let Some(number) = first_command(rt.alloc(), table)? {
+            assert!(rt; false, "row {number} of {name}");
+        }
+    }
+    Ok(())
 }
 
 #[test]

@@ -1,15 +1,14 @@
 // Objects that are kept in files: what `compile`, `exec` and `list` write.
 
 use crate::case::{
-    COMPILE, EXEC, Ended, LIST, PRINT, ROOM, RUN, Table, WATCH, end_of, failed,
-    first_executed_otherwise,
+    COMPILE, EXEC, End, Ended, Failure, LIST, PRINT, ROOM, RUN, Table, WATCH, end_of, failed,
+    first_executed_otherwise, first_other_failure,
 };
 use crate::check::PLANT;
 use crate::run::FIRST;
 use crate::{run, tasks, timed, typed, whole};
 use pearl_top::status::Status;
 use std::alloc::{AllocError, Global};
-use std::process::Abort;
 use std::test::Fail;
 
 /// Words that are no command.
@@ -74,95 +73,85 @@ fn changed(alloc: Global, change: &Change) -> Result<Vec<u8>, AllocError> {
     Ok(bytes)
 }
 
-#[test]
-fn an_empty_module_has_ten_bytes(rt: HostRuntime) -> Result<(), Fail> {
-    let source = b"MODULE(m);PROBLEM;MODEND;";
-    let made = end_of(rt.alloc(), COMPILE, source.as_slice(), "", ROOM)?;
-    assert!(rt; made.is(Status::Done, EMPTY.as_slice()));
-    Ok(())
+/// Rows of commands over these bytes as s, without a journal.
+macro_rules! ends {
+    ($($words:expr, $bytes:expr => $status:ident $text:expr;)*) => {
+        [$(End { words: $words, bytes: $bytes, journal: "", status: Status::$status, text: $text }),*]
+    };
 }
 
-// Whether these bytes are refused with this line where they are executed.
-fn is_refused(alloc: Global, bytes: &[u8], line: &str) -> Result<bool, AllocError> {
-    let ended = end_of(alloc, EXEC, bytes, "", ROOM)?;
-    Ok(ended.is(Status::BadObject, line.as_bytes()))
-}
+/// An empty module has ten bytes, and they are an object. Bytes that are cut are refused at their length. An object is
+/// listed that isn't valid.
+pub static OBJECTS: [End; 16] = ends![
+    COMPILE, b"MODULE(m);PROBLEM;MODEND;" => Done &EMPTY;
+    EXEC, &EMPTY => Done b"0 close\n";
+    EXEC, &[] => BadObject b"error object 0\n";
+    EXEC, &[0x50] => BadObject b"error object 1\n";
+    EXEC, &[0x50, 0x52] => BadObject b"error object 2\n";
+    EXEC, &[0x50, 0x52, 0x4c] => BadObject b"error object 3\n";
+    EXEC, &[0x50, 0x52, 0x4c, 0x31] => BadObject b"error object 4\n";
+    EXEC, &[0x50, 0x52, 0x4c, 0x31, 0] => BadObject b"error object 5\n";
+    EXEC, &[0x50, 0x52, 0x4c, 0x31, 0, 0] => BadObject b"error object 6\n";
+    EXEC, &[0x50, 0x52, 0x4c, 0x31, 0, 0, 0] => BadObject b"error object 7\n";
+    EXEC, &[0x50, 0x52, 0x4c, 0x31, 0, 0, 0, 0] => BadObject b"error object 8\n";
+    EXEC, &[0x50, 0x52, 0x4c, 0x31, 0, 0, 0, 0, 0] => BadObject b"error object 9\n";
+    EXEC, &[0x50, 0x52, 0x4c, 0x31, 0, 0, 0, 0, 0, 0, 0] => BadObject b"error object 10\n";
+    LIST, &JUMP => Done b"task t prio 255 main cells 0 depth 1\n0 Const FIXED(31) 1\n1 Jump 2\n2 End\n";
+    LIST, &EMPTY => Done b"";
+    LIST, b"PRL2" => BadObject b"error object 0\n";
+];
 
-#[test]
-fn bytes_that_are_cut_are_refused_at_their_length(rt: HostRuntime) -> Result<(), Fail> {
-    let alloc = rt.alloc();
-    let mut front = Vec::new(alloc);
-    for (place, byte) in EMPTY.iter().enumerate() {
-        let line = format!(in alloc; "error object {place}\n")?;
-        assert!(rt;
-            is_refused(alloc, front.as_slice(), line.as_str())?,
-            "{place}"
-        );
-        front.push(*byte)?;
-    }
-    let done = end_of(alloc, EXEC, front.as_slice(), "", ROOM)?;
-    assert!(rt; done.is(Status::Done, b"0 close\n".as_slice()));
-    front.push(0)?;
-    assert!(rt; is_refused(alloc, front.as_slice(), "error object 10\n")?);
-    Ok(())
+// Whether the changed bytes are refused with the line where they are executed.
+fn is_refused(alloc: Global, change: &Change) -> Result<bool, AllocError> {
+    let bytes = changed(alloc, change)?;
+    let ended = end_of(alloc, EXEC, bytes.as_slice(), "", ROOM)?;
+    Ok(ended.is(Status::BadObject, change.line.as_bytes()))
 }
 
 #[test]
 fn bytes_that_are_changed_are_refused(rt: HostRuntime) -> Result<(), Fail> {
     for (number, change) in CHANGES.iter().enumerate() {
-        let bytes = changed(rt.alloc(), change)?;
-        assert!(rt;
-            is_refused(rt.alloc(), bytes.as_slice(), change.line)?,
-            "row {number}"
-        );
+        assert!(rt; is_refused(rt.alloc(), change)?, "row {number}");
     }
     Ok(())
 }
 
-#[test]
-fn an_object_is_listed_that_is_not_valid(rt: HostRuntime) -> Result<(), Fail> {
-    let listed = end_of(rt.alloc(), LIST, JUMP.as_slice(), "", ROOM)?;
-    let text = "task t prio 255 main cells 0 depth 1\n0 Const FIXED(31) 1\n1 Jump 2\n2 End\n";
-    assert!(rt; listed.is(Status::Done, text.as_bytes()));
-    let nothing = end_of(rt.alloc(), LIST, EMPTY.as_slice(), "", ROOM)?;
-    assert!(rt; nothing.is(Status::Done, b"".as_slice()));
-    let none = end_of(rt.alloc(), LIST, b"PRL2".as_slice(), "", ROOM)?;
-    assert!(rt; none.is(Status::BadObject, b"error object 0\n".as_slice()));
-    Ok(())
-}
-
-// What is compiled of a table's sources is executed as `run` runs them.
-fn rows_execute_so(rt: &impl Abort, alloc: Global, table: &Table) -> Result<(), Fail> {
-    let other = first_executed_otherwise(alloc, table)?;
-    assert!(rt; other.is_none(), "row {}", other.unwrap_or(0));
-    Ok(())
+// Tables whose sources are compiled, with their names: what is compiled is executed as `run` runs them.
+fn tables() -> [(&'static str, &'static Table); 10] {
+    [
+        ("variables", &run::VARIABLES),
+        ("bodies", &whole::BODIES),
+        ("tasks", &tasks::PLANTS),
+        ("turns", &tasks::REFUSED),
+        ("time", &timed::PLANTS),
+        ("interrupts", &timed::INTERRUPTS),
+        ("lines on time", &timed::REFUSED),
+        ("texts", &typed::TEXTS),
+        ("values", &typed::VALUES),
+        ("inputs", &typed::REFUSED),
+    ]
 }
 
 #[test]
 fn what_is_compiled_is_executed_as_it_runs(rt: HostRuntime) -> Result<(), Fail> {
-    rows_execute_so(&rt, rt.alloc(), &run::VARIABLES)?;
-    rows_execute_so(&rt, rt.alloc(), &whole::BODIES)?;
-    rows_execute_so(&rt, rt.alloc(), &tasks::PLANTS)?;
-    rows_execute_so(&rt, rt.alloc(), &tasks::REFUSED)
-}
-
-#[test]
-fn what_is_compiled_lets_time_pass(rt: HostRuntime) -> Result<(), Fail> {
-    rows_execute_so(&rt, rt.alloc(), &timed::PLANTS)?;
-    rows_execute_so(&rt, rt.alloc(), &timed::INTERRUPTS)?;
-    rows_execute_so(&rt, rt.alloc(), &timed::REFUSED)
-}
-
-#[test]
-fn what_is_compiled_takes_what_comes_in(rt: HostRuntime) -> Result<(), Fail> {
-    rows_execute_so(&rt, rt.alloc(), &typed::TEXTS)?;
-    rows_execute_so(&rt, rt.alloc(), &typed::VALUES)?;
-    rows_execute_so(&rt, rt.alloc(), &typed::REFUSED)
+    for (name, table) in tables() {
+        if let Some(number) = first_executed_otherwise(rt.alloc(), table)? {
+            assert!(rt; false, "row {number} of {name}");
+        }
+    }
+    Ok(())
 }
 
 // The object of a source.
 fn compiled(alloc: Global, source: &str) -> Result<Ended, AllocError> {
     end_of(alloc, COMPILE, source.as_bytes(), "", ROOM)
+}
+
+// Whether `compile` refuses the source as `run` does.
+fn is_refused_alike(alloc: Global, source: &str) -> Result<bool, AllocError> {
+    let made = compiled(alloc, source)?;
+    let run = end_of(alloc, RUN, source.as_bytes(), "", ROOM)?;
+    Ok(made.status == Status::Refused && made.is(run.status, run.bytes.as_slice()))
 }
 
 #[test]
@@ -172,36 +161,46 @@ fn sources_are_refused_alike(rt: HostRuntime) -> Result<(), Fail> {
         "MODULE;PROBLEM;t:TASK;EXIT;END;MODEND",
         "MODULE;PROBLEM;t:TASK;x:=%;END;MODEND",
     ] {
-        let made = compiled(rt.alloc(), source)?;
-        let run = end_of(rt.alloc(), RUN, source.as_bytes(), "", ROOM)?;
-        assert!(rt; made.status == Status::Refused, "{source}");
-        assert!(rt; made.is(run.status, run.bytes.as_slice()), "{source}");
+        assert!(rt; is_refused_alike(rt.alloc(), source)?, "{source}");
     }
     Ok(())
 }
 
+/// Rows of commands of which calls fail.
+macro_rules! failures {
+    ($($words:ident, $fetches:tt $puts:tt => $status:ident $text:expr;)*) => {
+        [$(Failure { words: $words, fetches: &$fetches, puts: &$puts, status: Status::$status, text: Some($text) }),*]
+    };
+}
+
+static OF_OBJECTS: [Failure; 7] = failures![
+    EXEC, [1] [] => ReadFault "error read\n";
+    EXEC, [] [1] => WriteFault "";
+    LIST, [1] [] => ReadFault "error read\n";
+    LIST, [] [1] => WriteFault "";
+    WATCH, [1] [] => ReadFault "error read\n";
+    WATCH, [] [1] => WriteFault "";
+    EXEC, [3] [] => ReadFault "0 start main 255\nerror read\n";
+];
+
+static OF_SOURCES: [Failure; 2] = failures![
+    COMPILE, [2] [] => ReadFault "error read\n";
+    COMPILE, [] [1] => WriteFault "";
+];
+
+fn first_other_on_an_object(alloc: Global) -> Result<Option<usize>, AllocError> {
+    let object = compiled(alloc, FIRST)?.bytes;
+    first_other_failure(alloc, object.as_slice(), "run 9\n", &OF_OBJECTS)
+}
+
 #[test]
 fn faults_outside_end_a_command_on_objects(rt: HostRuntime) -> Result<(), Fail> {
-    let alloc = rt.alloc();
-    let object = compiled(alloc, FIRST)?.bytes;
-    let read = b"error read\n".as_slice();
-    for words in [EXEC, LIST, WATCH] {
-        let fault = failed(alloc, words, object.as_slice(), "run 9\n", &[1], &[])?;
-        assert!(rt; fault.is(Status::ReadFault, read));
-        let fault = failed(alloc, words, object.as_slice(), "run 9\n", &[], &[1])?;
-        assert!(rt; fault.is(Status::WriteFault, b"".as_slice()));
+    if let Some(number) = first_other_on_an_object(rt.alloc())? {
+        assert!(rt; false, "row {number} of objects");
     }
-    let later = failed(alloc, EXEC, object.as_slice(), "run 9\n", &[3], &[])?;
-    assert!(rt;
-        later.is(
-            Status::ReadFault,
-            b"0 start main 255\nerror read\n".as_slice()
-        )
-    );
-    let fault = failed(alloc, COMPILE, FIRST.as_bytes(), "", &[2], &[])?;
-    assert!(rt; fault.is(Status::ReadFault, read));
-    let fault = failed(alloc, COMPILE, FIRST.as_bytes(), "", &[], &[1])?;
-    assert!(rt; fault.is(Status::WriteFault, b"".as_slice()));
+    if let Some(number) = first_other_failure(rt.alloc(), FIRST.as_bytes(), "", &OF_SOURCES)? {
+        assert!(rt; false, "row {number} of sources");
+    }
     Ok(())
 }
 
@@ -212,37 +211,55 @@ fn is_one_piece(alloc: Global, words: &[&str], bytes: &[u8]) -> Result<bool, All
     Ok(once.is(Status::Done, whole.bytes.as_slice()))
 }
 
+// Whether the plant's object is listed by one call.
+fn is_listed_in_one_piece(alloc: Global) -> Result<bool, AllocError> {
+    let object = compiled(alloc, PLANT)?.bytes;
+    is_one_piece(alloc, LIST, object.as_slice())
+}
+
 #[test]
 fn texts_objects_listings_and_summaries_are_one_piece(rt: HostRuntime) -> Result<(), Fail> {
-    let alloc = rt.alloc();
-    let object = compiled(alloc, PLANT)?.bytes;
-    assert!(rt; is_one_piece(alloc, COMPILE, PLANT.as_bytes())?);
-    assert!(rt; is_one_piece(alloc, PRINT, PLANT.as_bytes())?);
-    assert!(rt; is_one_piece(alloc, LIST, object.as_slice())?);
-    assert!(rt; is_one_piece(alloc, &["bench", "1"], b"".as_slice())?);
+    assert!(rt; is_one_piece(rt.alloc(), COMPILE, PLANT.as_bytes())?);
+    assert!(rt; is_one_piece(rt.alloc(), PRINT, PLANT.as_bytes())?);
+    assert!(rt; is_one_piece(rt.alloc(), &["bench", "1"], b"".as_slice())?);
+    assert!(rt; is_listed_in_one_piece(rt.alloc())?);
     Ok(())
+}
+
+// Whether each command over so many bytes of 0 as an object ends so.
+fn all_end_so(
+    alloc: Global,
+    count: usize,
+    status: Status,
+    text: &[u8],
+) -> Result<bool, AllocError> {
+    let bytes = vec![in alloc; 0; count]?;
+    for words in [EXEC, LIST, WATCH] {
+        let ended = end_of(alloc, words, bytes.as_slice(), "", ROOM)?;
+        if !ended.is(status, text) {
+            return Ok(false);
+        }
+    }
+    Ok(true)
 }
 
 #[test]
 fn an_object_has_at_most_16777216_bytes(rt: HostRuntime) -> Result<(), Fail> {
-    let alloc = rt.alloc();
-    let mut bytes = vec![in alloc; 0; 16_777_216]?;
-    for words in [EXEC, LIST, WATCH] {
-        let ended = end_of(alloc, words, bytes.as_slice(), "", ROOM)?;
-        assert!(rt; ended.is(Status::BadObject, b"error object 0\n".as_slice()));
-    }
-    bytes.push(0)?;
-    for words in [EXEC, LIST, WATCH] {
-        let ended = end_of(alloc, words, bytes.as_slice(), "", ROOM)?;
-        assert!(rt; ended.is(Status::TooLong, b"error too long 16777217\n".as_slice()));
-    }
+    let no_object = b"error object 0\n".as_slice();
+    assert!(rt; all_end_so(rt.alloc(), 16_777_216, Status::BadObject, no_object)?);
+    let too_long = b"error too long 16777217\n".as_slice();
+    assert!(rt; all_end_so(rt.alloc(), 16_777_217, Status::TooLong, too_long)?);
     Ok(())
+}
+
+fn is_compiled_alike(alloc: Global, source: &str) -> Result<bool, AllocError> {
+    let one = compiled(alloc, source)?;
+    let two = compiled(alloc, source)?;
+    Ok(one.is(Status::Done, two.bytes.as_slice()))
 }
 
 #[test]
 fn a_plant_is_compiled_again_to_the_same_bytes(rt: HostRuntime) -> Result<(), Fail> {
-    let one = compiled(rt.alloc(), PLANT)?;
-    let two = compiled(rt.alloc(), PLANT)?;
-    assert!(rt; one.is(Status::Done, two.bytes.as_slice()));
+    assert!(rt; is_compiled_alike(rt.alloc(), PLANT)?);
     Ok(())
 }

@@ -490,7 +490,8 @@ fn sources_keep_their_limits(rt: HostRuntime) -> Result<(), Fail> {
 
 #[test]
 fn statements_keep_their_limits(rt: HostRuntime) -> Result<(), Fail> {
-    let other = first_other(rt.alloc(), &NESTED)?;
-    assert!(rt; other.is_none(), "row {}", other.unwrap_or(0));
+    if let Some(number) = first_other(rt.alloc(), &NESTED)? {
+        assert!(rt; false, "row {number}");
+    }
     Ok(())
 }

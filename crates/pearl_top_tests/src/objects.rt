@@ -2,6 +2,7 @@
 // module, own ones and parameters, with subscripts and without.
 
 use crate::source::judged;
+use std::alloc::{AllocError, Global};
 use std::test::Fail;
 
 const ASSIGNMENTS: &str = "MODULE;PROBLEM;
@@ -125,24 +126,27 @@ MODEND";
 
 const EMPTY: &str = "MODULE;PROBLEM;MODEND";
 
+fn is_valid(alloc: Global, source: &str) -> Result<bool, AllocError> {
+    let found = judged(alloc, source.as_bytes())?;
+    Ok(found.as_str() == "valid")
+}
+
 #[test]
 fn each_form_has_valid_code(rt: HostRuntime) -> Result<(), Fail> {
-    let sources = [
-        ASSIGNMENTS,
-        CALLS,
-        BRANCHES,
-        LOOPS,
-        TEXTS,
-        VALUES,
-        SCHEDULES,
-        SIGNALS,
-        OPERATORS,
-        DECLARATIONS,
-        EMPTY,
-    ];
-    for source in sources {
-        let found = judged(rt.alloc(), source.as_bytes())?;
-        assert!(rt; found.as_str() == "valid", "{found}: {source}");
+    for (name, source) in [
+        ("assignments", ASSIGNMENTS),
+        ("calls", CALLS),
+        ("branches", BRANCHES),
+        ("loops", LOOPS),
+        ("texts", TEXTS),
+        ("values", VALUES),
+        ("schedules", SCHEDULES),
+        ("signals", SIGNALS),
+        ("operators", OPERATORS),
+        ("declarations", DECLARATIONS),
+        ("empty", EMPTY),
+    ] {
+        assert!(rt; is_valid(rt.alloc(), source)?, "{name}");
     }
     Ok(())
 }

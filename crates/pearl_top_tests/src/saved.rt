@@ -1,6 +1,8 @@
 // What `save` writes of a run, and how `resume` goes on from it.
 
-use crate::case::{COMPILE, EXEC, Ended, RESUME, ROOM, SAVE, end_of, failed};
+use crate::case::{
+    COMPILE, EXEC, End, Ended, Failure, RESUME, ROOM, SAVE, end_of, failed, first_other_failure,
+};
 use crate::kept::{EMPTY, JUMP};
 use crate::whole::{HEAD, TAIL};
 use pearl_top::status::Status;
@@ -25,40 +27,35 @@ const NOTHING: [u8; 24] = [
     0,
 ];
 
-#[test]
-fn an_empty_run_has_24_bytes(rt: HostRuntime) -> Result<(), Fail> {
-    let saved = end_of(rt.alloc(), SAVE, EMPTY.as_slice(), "", ROOM)?;
-    assert!(rt; saved.is(Status::Done, NOTHING.as_slice()));
-    let resumed = end_of(rt.alloc(), RESUME, NOTHING.as_slice(), "", ROOM)?;
-    assert!(rt; resumed.is(Status::Done, b"0 close\n".as_slice()));
-    Ok(())
+/// Rows of commands over these bytes as s and over a journal.
+macro_rules! ends {
+    ($($words:expr, $bytes:expr, $journal:literal => $status:ident $text:expr;)*) => {
+        [$(End { words: $words, bytes: $bytes, journal: $journal, status: Status::$status, text: $text }),*]
+    };
 }
 
-// Whether these bytes are refused with this line where a run is to go on from them.
-fn is_refused(alloc: Global, bytes: &[u8], line: &str) -> Result<bool, AllocError> {
-    let ended = end_of(alloc, RESUME, bytes, "run 9", ROOM)?;
-    Ok(ended.is(Status::BadObject, line.as_bytes()))
-}
-
-#[test]
-fn snapshots_that_are_cut_are_refused(rt: HostRuntime) -> Result<(), Fail> {
-    let alloc = rt.alloc();
-    let mut front = Vec::new(alloc);
-    for (place, byte) in NOTHING.iter().enumerate() {
-        if place < 4 || place == 23 {
-            let line = format!(in alloc; "error snapshot {place}\n")?;
-            assert!(rt;
-                is_refused(alloc, front.as_slice(), line.as_str())?,
-                "{place}"
-            );
-        }
-        front.push(*byte)?;
-    }
-    front.push(0)?;
-    assert!(rt; is_refused(alloc, front.as_slice(), "error snapshot 24\n")?);
-    assert!(rt; is_refused(alloc, EMPTY.as_slice(), "error snapshot 0\n")?);
-    Ok(())
-}
+/// An empty run has 24 bytes. Snapshots that are cut are refused, and a refusal is all that is written for `save`.
+pub static SNAPSHOTS: [End; 14] = ends![
+    SAVE, &EMPTY, "" => Done &NOTHING;
+    RESUME, &NOTHING, "" => Done b"0 close\n";
+    RESUME, &[], "run 9" => BadObject b"error snapshot 0\n";
+    RESUME, &[0x50], "run 9" => BadObject b"error snapshot 1\n";
+    RESUME, &[0x50, 0x52], "run 9" => BadObject b"error snapshot 2\n";
+    RESUME, &[0x50, 0x52, 0x53], "run 9" => BadObject b"error snapshot 3\n";
+    RESUME, &[
+        0x50, 0x52, 0x53, 0x31, 0x0a, 0x50, 0x52, 0x4c, 0x31, 0, 0, 0, 0, 0, 0, 0, 0, 0, 0, 0, 0, 0, 0,
+    ], "run 9" => BadObject b"error snapshot 23\n";
+    RESUME, &[
+        0x50, 0x52, 0x53, 0x31, 0x0a, 0x50, 0x52, 0x4c, 0x31, 0, 0, 0, 0, 0, 0, 0, 0, 0, 0, 0, 0, 0, 0,
+        0, 0,
+    ], "run 9" => BadObject b"error snapshot 24\n";
+    RESUME, &EMPTY, "run 9" => BadObject b"error snapshot 0\n";
+    SAVE, &EMPTY, "tick 1\nrun x\ntick 1\n" => BadJournal b"error journal 2 1\n";
+    SAVE, &EMPTY, "tick 1\nturn a" => BadJournal b"error journal 2 2\n";
+    SAVE, &JUMP, "run x" => BadObject b"error object routine 0 instruction 1 V6\n";
+    SAVE, &[], "" => BadObject b"error object 0\n";
+    SAVE, &NOTHING, "" => BadObject b"error object 0\n";
+];
 
 // An object's length and bytes in a snapshot, what stands behind them, and the line with which that is refused.
 struct Broken {
@@ -100,7 +97,8 @@ fn is_broken_so(alloc: Global, broken: &Broken) -> Result<bool, AllocError> {
     bytes.push(broken.length)?;
     bytes.extend_from_slice(broken.object)?;
     bytes.extend_from_slice(broken.state)?;
-    is_refused(alloc, bytes.as_slice(), broken.line)
+    let ended = end_of(alloc, RESUME, bytes.as_slice(), "run 9", ROOM)?;
+    Ok(ended.is(Status::BadObject, broken.line.as_bytes()))
 }
 
 #[test]
@@ -264,10 +262,9 @@ fn a_run_may_be_saved_behind_each_mark(rt: HostRuntime) -> Result<(), Fail> {
     Ok(())
 }
 
-// The lines of the second journal count anew.
-#[test]
-fn a_refused_line_has_its_number_in_its_own_journal(rt: HostRuntime) -> Result<(), Fail> {
-    let alloc = rt.alloc();
+// Whether a refused line has its number in the second journal where the run goes on, and in both as one. The lines of the
+// second journal count anew.
+fn is_numbered_so(alloc: Global) -> Result<bool, AllocError> {
     let second = "tick 1000\nrun 99\nline 1 '2'\nrun 99\nrun x\n";
     let Cut { front, rest, whole } = written(alloc, "run 99\nchars 1 '1'\n", second, 4)?;
     let lines = without_last(rest.bytes.as_slice(), 1);
@@ -276,111 +273,95 @@ fn a_refused_line_has_its_number_in_its_own_journal(rt: HostRuntime) -> Result<(
     let mut text = front;
     text.extend_from_slice(lines)?;
     text.extend_from_slice(b"error journal 7 1\n".as_slice())?;
-    assert!(rt; rest.is(Status::BadJournal, told.as_slice()));
-    assert!(rt; whole.is(Status::BadJournal, text.as_slice()));
-    Ok(())
-}
-
-// The bytes of an object, a journal, and the line that is written in place of a snapshot.
-struct Unsaved {
-    object: &'static [u8],
-    journal: &'static str,
-    status: Status,
-    line: &'static str,
-}
-
-static REFUSED: [Unsaved; 5] = [
-    Unsaved {
-        object: &EMPTY,
-        journal: "tick 1\nrun x\ntick 1\n",
-        status: Status::BadJournal,
-        line: "error journal 2 1\n",
-    },
-    Unsaved {
-        object: &EMPTY,
-        journal: "tick 1\nturn a",
-        status: Status::BadJournal,
-        line: "error journal 2 2\n",
-    },
-    Unsaved {
-        object: &JUMP,
-        journal: "run x",
-        status: Status::BadObject,
-        line: "error object routine 0 instruction 1 V6\n",
-    },
-    Unsaved {
-        object: &[],
-        journal: "",
-        status: Status::BadObject,
-        line: "error object 0\n",
-    },
-    Unsaved {
-        object: &NOTHING,
-        journal: "",
-        status: Status::BadObject,
-        line: "error object 0\n",
-    },
-];
-
-fn is_unsaved_so(alloc: Global, unsaved: &Unsaved) -> Result<bool, AllocError> {
-    let ended = end_of(alloc, SAVE, unsaved.object, unsaved.journal, ROOM)?;
-    Ok(ended.is(unsaved.status, unsaved.line.as_bytes()))
+    Ok(
+        rest.is(Status::BadJournal, told.as_slice())
+            && whole.is(Status::BadJournal, text.as_slice()),
+    )
 }
 
 #[test]
-fn a_refusal_is_all_that_is_written_for_save(rt: HostRuntime) -> Result<(), Fail> {
-    for (number, unsaved) in REFUSED.iter().enumerate() {
-        assert!(rt; is_unsaved_so(rt.alloc(), unsaved)?, "row {number}");
-    }
+fn a_refused_line_has_its_number_in_its_own_journal(rt: HostRuntime) -> Result<(), Fail> {
+    assert!(rt; is_numbered_so(rt.alloc())?);
     Ok(())
+}
+
+/// Rows of commands of which calls fail.
+macro_rules! failures {
+    ($($words:ident, $fetches:tt $puts:tt => $status:ident $text:expr;)*) => {
+        [$(Failure { words: $words, fetches: &$fetches, puts: &$puts, status: Status::$status, text: $text }),*]
+    };
 }
 
 // Where a read fails, nothing but the line of that is written for `save`; and nothing at all, where the write does.
+static SAVING: [Failure; 6] = failures![
+    SAVE, [1] [] => ReadFault Some("error read\n");
+    SAVE, [2] [] => ReadFault Some("error read\n");
+    SAVE, [3] [] => ReadFault Some("error read\n");
+    SAVE, [4] [] => ReadFault Some("error read\n");
+    SAVE, [] [1] => WriteFault Some("");
+    SAVE, [5] [2] => Done None;
+];
+
+// The lines of a run that goes on, as far as the journal that was read.
+static READING: [Failure; 4] = failures![
+    RESUME, [1] [] => ReadFault Some("error read\n");
+    RESUME, [2] [] => ReadFault Some("error read\n");
+    RESUME, [3] [] => ReadFault Some("error read\n");
+    RESUME, [4] []
+        => ReadFault Some("6000 state a suspended 1\n6000 state b running 2\n6000 end b\nerror read\n");
+];
+
+const WAITED: &str = "run 10\ntick 6000\n";
+
+fn first_other_while_saved(alloc: Global) -> Result<Option<usize>, AllocError> {
+    let object = object_of(alloc, WAITING)?;
+    first_other_failure(alloc, object.as_slice(), WAITED, &SAVING)
+}
+
 #[test]
 fn each_call_may_fail_while_a_run_is_saved(rt: HostRuntime) -> Result<(), Fail> {
-    let alloc = rt.alloc();
-    let object = object_of(alloc, WAITING)?;
-    let bytes = object.as_slice();
-    let journal = "run 10\ntick 6000\n";
-    for call in 1..=4 {
-        let ended = failed(alloc, SAVE, bytes, journal, &[call], &[])?;
-        assert!(rt;
-            ended.is(Status::ReadFault, b"error read\n".as_slice()),
-            "{call}"
-        );
+    if let Some(number) = first_other_while_saved(rt.alloc())? {
+        assert!(rt; false, "row {number}");
     }
-    let ended = failed(alloc, SAVE, bytes, journal, &[], &[1])?;
-    assert!(rt; ended.is(Status::WriteFault, b"".as_slice()));
-    let done = failed(alloc, SAVE, bytes, journal, &[5], &[2])?;
-    assert!(rt; done.status == Status::Done);
     Ok(())
 }
 
-// The lines of a run that goes on, as far as the journal that was read, and so many of them as were taken.
-#[test]
-fn each_call_may_fail_while_a_run_goes_on(rt: HostRuntime) -> Result<(), Fail> {
-    let alloc = rt.alloc();
+// The snapshot of the run that waits.
+fn snapshot(alloc: Global) -> Result<Vec<u8>, AllocError> {
     let object = object_of(alloc, WAITING)?;
-    let saved = end_of(alloc, SAVE, object.as_slice(), "run 10\ntick 6000\n", ROOM)?;
-    let bytes = saved.bytes.as_slice();
-    let row = &GOING_ON[0];
-    for call in 1..=3 {
-        let ended = failed(alloc, RESUME, bytes, row.second, &[call], &[])?;
-        assert!(rt;
-            ended.is(Status::ReadFault, b"error read\n".as_slice()),
-            "{call}"
-        );
-    }
-    let ended = failed(alloc, RESUME, bytes, row.second, &[4], &[])?;
-    let read = "6000 state a suspended 1\n6000 state b running 2\n6000 end b\nerror read\n";
-    assert!(rt; ended.is(Status::ReadFault, read.as_bytes()));
+    Ok(end_of(alloc, SAVE, object.as_slice(), WAITED, ROOM)?.bytes)
+}
+
+fn first_other_while_read(alloc: Global, second: &str) -> Result<Option<usize>, AllocError> {
+    let saved = snapshot(alloc)?;
+    first_other_failure(alloc, saved.as_slice(), second, &READING)
+}
+
+// The number of the first call for a line of a run that goes on that may fail with another end than that those before it
+// are taken.
+fn first_other_line(alloc: Global, second: &str, text: &str) -> Result<Option<u64>, AllocError> {
+    let saved = snapshot(alloc)?;
     let mut taken = String::new(alloc);
     let mut call: u64 = 1;
-    for line in row.text.split_inclusive('\n') {
-        let ended = failed(alloc, RESUME, bytes, row.second, &[], &[call])?;
-        assert!(rt; ended.is(Status::WriteFault, taken.as_bytes()), "{call}");
+    for line in text.split_inclusive('\n') {
+        let ended = failed(alloc, RESUME, saved.as_slice(), second, &[], &[call])?;
+        if !ended.is(Status::WriteFault, taken.as_bytes()) {
+            return Ok(Some(call));
+        }
         taken.push_str(line)?;
         call = call.saturating_add(1);
+    }
+    Ok(None)
+}
+
+#[test]
+fn each_call_may_fail_while_a_run_goes_on(rt: HostRuntime) -> Result<(), Fail> {
+    let row = &GOING_ON[0];
+    if let Some(number) = first_other_while_read(rt.alloc(), row.second)? {
+        assert!(rt; false, "row {number}");
+    }
+    if let Some(call) = first_other_line(rt.alloc(), row.second, row.text)? {
+        assert!(rt; false, "call {call}");
     }
     Ok(())
 }

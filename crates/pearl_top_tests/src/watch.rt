@@ -1,12 +1,11 @@
 // What `watch` writes: how the leaves that are named change, mark by mark.
 
-use crate::case::{COMPILE, Ended, Parts, ROOM, WATCH, end_of, failed};
+use crate::case::{COMPILE, End, Ended, Parts, ROOM, WATCH, end_of, failed};
 use crate::kept::{EMPTY, JUMP};
 use crate::mark::joined;
 use crate::whole::{HEAD, TAIL};
 use pearl_top::status::Status;
 use std::alloc::{AllocError, Global};
-use std::process::Abort;
 use std::test::Fail;
 
 /// Words that are no command.
@@ -145,44 +144,40 @@ fn is_watched_so(alloc: Global, status: Status, row: &Row) -> Result<bool, Alloc
     Ok(ended.is(status, text.as_bytes()))
 }
 
-fn are_watched_so(
-    rt: &impl Abort,
-    alloc: Global,
-    status: Status,
-    rows: &[Row],
-) -> Result<(), Fail> {
+fn first_other(alloc: Global, status: Status, rows: &[Row]) -> Result<Option<usize>, AllocError> {
     for (number, row) in rows.iter().enumerate() {
-        assert!(rt; is_watched_so(alloc, status, row)?, "row {number}");
+        if !is_watched_so(alloc, status, row)? {
+            return Ok(Some(number));
+        }
+    }
+    Ok(None)
+}
+
+// Values are told mark by mark; names are refused; a refused line stands in place of the last.
+#[test]
+fn objects_are_watched_as_their_rows_say(rt: HostRuntime) -> Result<(), Fail> {
+    for (name, status, rows) in [
+        ("values", Status::Done, VALUES.as_slice()),
+        ("names", Status::BadName, NAMES.as_slice()),
+        ("lines", Status::BadJournal, LINES.as_slice()),
+    ] {
+        if let Some(number) = first_other(rt.alloc(), status, rows)? {
+            assert!(rt; false, "row {number} of {name}");
+        }
     }
     Ok(())
 }
 
-#[test]
-fn values_are_told_mark_by_mark(rt: HostRuntime) -> Result<(), Fail> {
-    are_watched_so(&rt, rt.alloc(), Status::Done, &VALUES)
-}
-
-#[test]
-fn names_are_refused(rt: HostRuntime) -> Result<(), Fail> {
-    are_watched_so(&rt, rt.alloc(), Status::BadName, &NAMES)
-}
-
-#[test]
-fn a_refused_line_stands_in_place_of_the_last(rt: HostRuntime) -> Result<(), Fail> {
-    are_watched_so(&rt, rt.alloc(), Status::BadJournal, &LINES)
-}
-
-// An object's bytes, the names that are watched, how the monitor ends over a journal of one line, and what is written.
-struct Given {
-    bytes: &'static [u8],
-    words: &'static [&'static str],
-    status: Status,
-    text: &'static str,
-}
-
+// Rows of an object's bytes, the names that are watched, how the monitor ends, and what is written.
 macro_rules! objects {
     ($($bytes:expr, [$($name:literal),*] => $status:ident $told:literal;)*) => {
-        [$(Given { bytes: $bytes, words: &["watch", "s", "j", $($name),*], status: Status::$status, text: $told }),*]
+        [$(End {
+            words: &["watch", "s", "j", $($name),*],
+            bytes: $bytes,
+            journal: "run 9",
+            status: Status::$status,
+            text: $told,
+        }),*]
     };
 }
 
@@ -199,29 +194,17 @@ const UNNAMED: &[u8] = &[
     4, 0, 0, 1, 1, 0x74, 0xff, 1, 1, 0, 2, 5, 9, 0, 0, 0, 0x1f, 8, 0x28, 0x0a, 1, 0x19, 0,
 ];
 
-// An object is refused before a name, and a name before a line of the journal. A name means the first leaf that has it.
-static OBJECTS: [Given; 8] = objects![
-    ALIKE, ["x"] => Done "0 0 value x 0 1\n3 0 close\n";
-    ALIKE, ["y"] => BadName "error name 1\n";
-    UNNAMED, ["", "x"] => Done "0 0 value  0 2\n0 0 value x 0 1\n2 0 value  0 5\n3 0 close\n";
-    &EMPTY, ["x"] => BadName "error name 1\n";
-    &JUMP, ["x"] => BadObject "error object routine 0 instruction 1 V6\n";
-    &[], ["x"] => BadObject "error object 0\n";
-    &[0x50, 0x52, 0x4c, 0x31], ["x"] => BadObject "error object 4\n";
-    &[0x50, 0x52, 0x4c, 0x32], ["x"] => BadObject "error object 0\n";
+/// An object is refused before a name, and a name before a line of the journal. A name means the first leaf that has it.
+pub static OBJECTS: [End; 8] = objects![
+    ALIKE, ["x"] => Done b"0 0 value x 0 1\n3 0 close\n";
+    ALIKE, ["y"] => BadName b"error name 1\n";
+    UNNAMED, ["", "x"] => Done b"0 0 value  0 2\n0 0 value x 0 1\n2 0 value  0 5\n3 0 close\n";
+    &EMPTY, ["x"] => BadName b"error name 1\n";
+    &JUMP, ["x"] => BadObject b"error object routine 0 instruction 1 V6\n";
+    &[], ["x"] => BadObject b"error object 0\n";
+    &[0x50, 0x52, 0x4c, 0x31], ["x"] => BadObject b"error object 4\n";
+    &[0x50, 0x52, 0x4c, 0x32], ["x"] => BadObject b"error object 0\n";
 ];
-
-#[test]
-fn objects_come_before_names(rt: HostRuntime) -> Result<(), Fail> {
-    for (number, given) in OBJECTS.iter().enumerate() {
-        let ended = end_of(rt.alloc(), given.words, given.bytes, "run 9", ROOM)?;
-        assert!(rt;
-            ended.is(given.status, given.text.as_bytes()),
-            "row {number}"
-        );
-    }
-    Ok(())
-}
 
 // Words, a source, how their monitor ends over a journal of one line, and what is written.
 struct Many {
@@ -299,9 +282,7 @@ fn there_are_64_names_and_1024_slots(rt: HostRuntime) -> Result<(), Fail> {
 }
 
 // A line that doesn't end within the limit isn't carried out.
-#[test]
-fn a_monitor_reads_at_most_67108864_bytes(rt: HostRuntime) -> Result<(), Fail> {
-    let alloc = rt.alloc();
+fn longest_ends_so(alloc: Global) -> Result<bool, AllocError> {
     let source = format!(in alloc; "{HEAD}{TWO}{TAIL}")?;
     let object = end_of(alloc, COMPILE, source.as_bytes(), "", ROOM)?.bytes;
     let comment = joined(alloc, &[("#", 1), ("x", 1022), ("\n", 1)])?;
@@ -309,6 +290,11 @@ fn a_monitor_reads_at_most_67108864_bytes(rt: HostRuntime) -> Result<(), Fail> {
     journal.push_str(joined(alloc, &[(" ", 1018), ("run 9\n", 2)])?.as_str())?;
     let ended = failed(alloc, WATCH, object.as_slice(), journal.as_str(), &[], &[])?;
     let text = "0 0 value x 0 0\n2 0 value x 0 1\n7 0 value x 0 2\nerror too long 67108865\n";
-    assert!(rt; ended.is(Status::TooLong, text.as_bytes()));
+    Ok(ended.is(Status::TooLong, text.as_bytes()))
+}
+
+#[test]
+fn a_monitor_reads_at_most_67108864_bytes(rt: HostRuntime) -> Result<(), Fail> {
+    assert!(rt; longest_ends_so(rt.alloc())?);
     Ok(())
 }
