@@ -148,9 +148,12 @@ def wide_struct(count):
     return module(f"DCL v STRUCT[{fields}];", "".join(f"v.f{i}:=1;" for i in range(count)))
 
 
-def callers(count):
-    """Procedures that each call the next; the 201st breaks a rule."""
-    return module("", "", "".join(f"p{i}:PROC;CALL p{i + 1};END;" for i in range(count)) + f"p{count}:PROC;END;")
+def callers(last):
+    """Procedures that each call the next, and what the last one does; the 201st breaks a rule."""
+    def text(count):
+        each_next = "".join(f"p{i}:PROC;CALL p{i + 1};END;" for i in range(count))
+        return module("", "", each_next + f"p{count}:PROC;{last(count)}END;")
+    return text
 
 
 def called_by_all(count):
@@ -353,7 +356,8 @@ CHECKED = [
     Form("`x:=a(a(a(..)));`, 32 deep", with_function("x:=" + "a(" * 32 + "x" + ")" * 32 + ";"), 560, 3),
     Form("`x:=((x+x)+x..);`, 32 deep", with_function("x:=" + "(" * 32 + "x" + "+x)" * 32 + ";"), 560, 3),
     Form("`RETURN(1);`", lambda count: module("", "", "f:PROC RETURNS(FIXED);" + "RETURN(1);" * count + "END;"), 560, 3),
-    Form("procedures that each call the next", callers, 560, 2, REFUSED),
+    Form("procedures that each call the next", callers(lambda count: ""), 560, 2, REFUSED),
+    Form("procedures that each call the next, and the last one itself", callers("CALL p{};".format), 560, 2, REFUSED),
     Form("200 procedures that call those which come later", called_by_all, 560, 2),
     Form("assignments of names that nothing declares", task_of("", "a:=1;", ""), 560, 2, REFUSED),
     Form("9,000 names of one hash, and assignments to some of them", hashed_names, 560, 2),

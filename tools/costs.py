@@ -2,6 +2,7 @@
 """What a command costs: peak memory and time over generated sources, one form a row.
 
 usage: tools/costs.py COMMAND [--program PROGRAM] [--runs N] [--only WORD].. [--seconds N] [--markdown] [--check]
+                      [--instructions]
        tools/costs.py COMMAND --names
 
 COMMAND is `print`, `check`, `compile` or `run`: each source is one module that is filled with one thing up to 256 KiB or
@@ -18,11 +19,17 @@ Behind a row stands what isn't as it should be: a run that ended with another st
 which the status is 1, and a figure above its bound, for which it is 1 with --check. The ratio may be up to 4.8, and is
 `noise` up to 6 where the shorter file takes less than 0.1 s; below 0.1 s for the longer one it isn't judged. With --markdown
 both are told on standard error.
+
+With --instructions it is instructions that are told and compared in place of seconds, in thousands of millions: valgrind
+counts them, some twenty times as slow and never broken off, and they are the same whatever else the machine does. What
+memory takes isn't in them.
 """
 
 import argparse
 import os
+import re
 import resource
+import shutil
 import signal
 import subprocess
 import sys
@@ -72,9 +79,23 @@ def run(words, most=None):
     return child.returncode, usage.ru_utime + usage.ru_stime, usage.ru_maxrss * KIB, said
 
 
+# Counts the instructions of a program, and tells them on standard error.
+COUNTER = ["valgrind", "--tool=cachegrind", "--cache-sim=no", "--cachegrind-out-file=/dev/null"]
+
+
+def instructions(words):
+    """How many thousands of millions of instructions a run takes, and its status."""
+    done = subprocess.run([*COUNTER, *words], stdout=subprocess.DEVNULL, stderr=subprocess.PIPE, check=False)
+    counted = re.search(rb"I *refs: +([\d,]+)", done.stderr)
+    if not counted:
+        sys.exit(f"{COUNTER[0]} counted nothing: {done.stderr[-200:]!r}")
+    return int(counted[1].replace(b",", b"")) / 1e9, done.returncode
+
+
 @dataclass
 class Cost:
-    """What the runs over one file took: the least seconds, the greatest peak in bytes, their statuses, and what they wrote."""
+    """What the runs over one file took: the least seconds, or the instructions, the greatest peak in bytes, their statuses,
+    and what they wrote."""
 
     seconds: float
     peak: int
@@ -106,17 +127,20 @@ def measured(args, folder, form, size):
             return cost
         cost.seconds, cost.said = min(cost.seconds, seconds), said
         cost.statuses.add(status)
+    if args.instructions:
+        cost.seconds, status = instructions(words)
+        cost.statuses.add(status)
     return cost
 
 
-def judged(form, small, large):
-    """What isn't as it should be: of how the runs ended, and of what they took."""
+def judged(form, small, large, counted=False):
+    """What isn't as it should be: of how the runs ended, and of what they took; instructions have no bound but the ratio."""
     ends = [f"ENDED WITH {sorted(it.statuses)}, NOT {form.status}" for it in (small, large) if it.statuses - {form.status}]
     ratio, above = ratio_of(small, large), []
-    if large.peak >= form.megabytes * 1e6 or large.seconds >= form.seconds:
+    if large.peak >= form.megabytes * 1e6 or large.seconds >= form.seconds and not counted:
         above.append("ABOVE ITS BOUND")
-    if ratio > RATIO and large.seconds >= SHORT:
-        above.append("noise" if small.seconds < SHORT and ratio <= NOISY else "NOT LINEAR")
+    if ratio > RATIO and (counted or large.seconds >= SHORT):
+        above.append("noise" if small.seconds < SHORT and ratio <= NOISY and not counted else "NOT LINEAR")
     return ends, above
 
 
@@ -126,12 +150,13 @@ def ratio_of(small, large):
 
 
 def told(args, name, small, large, notes):
-    """One row: peaks in MB (10^6 bytes), times in seconds, and their ratio; behind it the notes."""
+    """One row: peaks in MB (10^6 bytes), times in seconds or instructions, and their ratio; behind it the notes."""
     peaks, times = [it.peak / 1e6 for it in (small, large)], [it.seconds for it in (small, large)]
     ratio = ratio_of(small, large)
     if args.markdown:
         shown = [f"{peak:.0f} MB" for peak in peaks]
-        shown += [f"{time:.2f} s" if time < float("inf") else f"more than {args.seconds} s" for time in times]
+        unit = "" if args.instructions else " s"
+        shown += [f"{time:.2f}{unit}" if time < float("inf") else f"more than {args.seconds} s" for time in times]
         print(f"| {name} | {' | '.join(shown)} | {f'{ratio:.1f}' if ratio < float('inf') else ''} |", flush=True)
         if notes:
             print(f"{name}: {'; '.join(notes)}", file=sys.stderr, flush=True)
@@ -143,12 +168,13 @@ def told(args, name, small, large, notes):
 
 def head(args, sizes):
     """The line above the rows."""
+    what, unit = ("Instructions / 10^9", "10^9") if args.instructions else ("Time", "s")
     names = [f"{size // KIB // KIB} MiB" if size >= KIB * KIB else f"{size // KIB} KiB" for size in sizes]
     if args.markdown:
-        print(f"| Form | Peak, {names[0]} | Peak, {names[1]} | Time, {names[0]} | Time, {names[1]} | Ratio |")
+        print(f"| Form | Peak, {names[0]} | Peak, {names[1]} | {what}, {names[0]} | {what}, {names[1]} | Ratio |")
         print("|---|---|---|---|---|---|")
     else:
-        print(f"{'form':82}{f'MB {names[0]}':>9}{f'MB {names[1]}':>9}{f's {names[0]}':>9}{f's {names[1]}':>9}{'ratio':>8}")
+        print(f"{'form':82}{f'MB {names[0]}':>9}{f'MB {names[1]}':>9}{names[0]:>9}{names[1]:>9}{'ratio':>8}  ({unit})")
 
 
 def main():
@@ -162,6 +188,7 @@ def main():
     parser.add_argument("--seconds", type=int, default=100, help="a run is broken off after so many")
     parser.add_argument("--markdown", action="store_true", help="rows of a table for docs/evidence.md")
     parser.add_argument("--check", action="store_true", help="status 1 where a bound is passed")
+    parser.add_argument("--instructions", action="store_true", help="count instructions in place of seconds, by valgrind")
     args = parser.parse_args()
     forms = [form for form in FORMS[args.command] if not args.only or any(word in form.name for word in args.only)]
     if args.names:
@@ -169,6 +196,8 @@ def main():
         return
     if not os.access(args.program, os.X_OK):
         sys.exit(f"{args.program} is no program: build it first, or name one by --program")
+    if args.instructions and not shutil.which(COUNTER[0]):
+        sys.exit(f"--instructions asks for {COUNTER[0]}, which isn't there")
 
     sizes = SIZES.get(args.command, SOURCES)
     head(args, sizes)
@@ -176,7 +205,7 @@ def main():
     with tempfile.TemporaryDirectory() as folder:
         for form in forms:
             small, large = (measured(args, folder, form, size) for size in sizes)
-            ends, above = judged(form, small, large)
+            ends, above = judged(form, small, large, args.instructions)
             right = right and not ends and not (args.check and set(above) - {"noise"})
             told(args, form.name, small, large, [*ends, *above])
     sys.exit(0 if right else 1)

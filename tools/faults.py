@@ -2,14 +2,16 @@
 """Lets each call that the program makes outside itself fail in turn, and judges what it answers then.
 
 usage: tools/faults.py [--program PROGRAM] [--only WORD] [--kinds KIND,..] [--most N] [--part K/N] [--jobs N] [--minutes N]
+                       [--summary FILE]
+       tools/faults.py --sum FILE ..
        tools/faults.py --kit NUMBER,.. [--kinds alloc,io,short]
 
 PROGRAM (default: crates/pearl/out/pearl beside this folder; `./pearl` builds it) is run with every command over the plants
 of crates/pearl_examples/data, over refused sources, objects and journals, and over words that are no command; each time
 with a library before the system's own (tools/faults.c, which `cc` builds) that counts its calls and lets one fail, or one
-and all later ones. With --kit a checked build of the program's text is tried in its place, over one plant, by `rt try
---fail-alloc` for each of the numbers and, where the kit has them, `--fail-io` and `--short-io`; each number is a build of
-its own, which takes minutes.
+and all later ones. `watch`, which looks at each millisecond, has journals in which less time passes. With --kit a checked
+build of the program's text is tried in its place, over one plant, by `rt try --fail-alloc` for each of the numbers and,
+where the kit has them, `--fail-io` and `--short-io`; each number is a build of its own, which takes minutes.
 
 Kinds of calls: `alloc` an allocation, `open` and `read` those of files, `write`, `nothing` a write that takes no byte,
 `short` a read or a write of several bytes that moves one. With --most at most so many of each kind fail for one command,
@@ -20,12 +22,15 @@ So many workers as the machine has processors, or --jobs, deal with shares of a 
 first the first share of every command, so that what --minutes breaks off has tried some of all. Each share asks the command
 again without faults, which has to answer the same each time.
 
-Each difference is told with what reproduces it. At the end stands a table of what was tried. The status is 1 where an
-answer wasn't right.
+Each difference is told with what reproduces it. At the end stands a table of what was tried, with how many shares of how
+many. FILE has the same after each share, so that what is ended in any way is told as well; --sum adds up the files of parts.
+The status is 1 where an answer wasn't right.
 """
 
 import argparse
 import glob
+import hashlib
+import json
 import multiprocessing
 import os
 import shutil
@@ -37,6 +42,7 @@ import time
 from collections import Counter
 from dataclasses import dataclass, field
 
+from reading import damage
 from reading.answers import (FILES, MEMORY, NAMES, NO_MEMORY, READ, READ_FAULT, SLOTS, USAGE, WRITE_FAULT, Answer, asked,
                              by_try, has_journal, is_command, leaves, unlawful)
 
@@ -228,6 +234,16 @@ def halves_of(runner, made, journal):
     return path, rest
 
 
+def shortened(made, journal):
+    """Writes a journal in which less time passes, since a monitor looks at each millisecond."""
+    with open(journal, "rb") as file:
+        data = damage.bounded(file.read())
+    path = f"{made}.{os.path.basename(journal)}.shortened"
+    with open(path, "wb") as file:
+        file.write(data)
+    return path
+
+
 def names_of(runner, made):
     """As many leaves of an object as can be watched together."""
     slots, found = leaves(runner.plain(["list", made]).out), []
@@ -247,7 +263,7 @@ def plants(runner, folder):
         for journal in journals(plant):
             yield ["run", plant, journal]
             yield ["exec", made, journal]
-            yield ["watch", made, journal, *names_of(runner, made)]
+            yield ["watch", made, shortened(made, journal), *names_of(runner, made)]
             yield ["save", made, journal]
             yield ["resume", *halves_of(runner, made, journal)]
 
@@ -335,34 +351,122 @@ def shares(args, commands):
     return [(words, number, args.kinds, args.most) for number in range(SHARES) for words in chosen]
 
 
+def command_of(words):
+    """The name by which what was tried of these words is counted."""
+    return words[0] if is_command(words) else "no command"
+
+
+@dataclass
+class Sums:
+    """What was tried of each command, how many shares of how many, and what wasn't right; and which parts of the commands."""
+
+    counts: dict = field(default_factory=dict)
+    wrong: list = field(default_factory=list)
+    parts: list = field(default_factory=list)
+    lacking: int = 0
+
+    def is_all(self):
+        """Whether no share and no part is left."""
+        whole = self.whole()
+        return whole["tried"] == whole["shares"] and not self.lacking
+
+    def count(self, command, row):
+        self.counts.setdefault(command, Counter()).update(row)
+
+    def whole(self):
+        """The counts of all commands together."""
+        return sum(self.counts.values(), Counter())
+
+    def write(self, path, asked):
+        """Writes the file of a part, with what was asked for besides."""
+        counts = {command: dict(row) for command, row in self.counts.items()}
+        told = {"asked": asked, "parts": self.parts, "wrong": self.wrong, "counts": counts}
+        with open(path + ".part", "w", encoding="utf-8") as file:
+            json.dump(told, file, indent=1)
+            file.write("\n")
+        os.replace(path + ".part", path)
+
+    def add(self, path, asked):
+        """Adds the file of a part, for which the same was asked; raises ValueError where it isn't so, or the part was added."""
+        with open(path, encoding="utf-8") as file:
+            told = json.load(file)
+        if told["asked"] != asked:
+            raise ValueError(f"{path} is of other faults")
+        if any(it in self.parts for it in told["parts"]):
+            raise ValueError(f"{path} has a part again")
+        self.parts += told["parts"]
+        self.wrong += told["wrong"]
+        for command, row in told["counts"].items():
+            self.count(command, row)
+
+    def lines(self):
+        """The table of what was tried, a row for each command, and how many answers weren't right."""
+        columns = ("commands", "alloc", "went on", "open", "read", "write", "nothing", "short")
+        heads = ("Commands", "Allocations", "of which it went on", "Opens", "Reads", "Writes", "Writes of nothing", "Short")
+        yield f"| Command | {' | '.join(heads)} | Shares |"
+        yield "|---" * (len(heads) + 2) + "|"
+        rows = [(name, self.counts[name]) for name in (*FILES, "no command") if name in self.counts]
+        for name, row in [*rows, ("all", self.whole())]:
+            yield f"| {name} | " + " | ".join(f"{row[it]:,}" for it in columns) + f" | {row['tried']:,} of {row['shares']:,} |"
+        rest = "" if self.is_all() else ", and some weren't tried"
+        yield f"{sum(self.whole()[it] for it in KINDS):,} runs, {len(self.wrong)} not right{rest}"
+
+
+def asked_of(args):
+    """What a file of a part has to have in common with those of the others: the faults, how many parts there are, and the
+    program."""
+    with open(args.program, "rb") as file:
+        program = hashlib.sha256(file.read()).hexdigest()
+    return {"only": args.only, "kinds": list(args.kinds), "most": args.most, "parts": args.part[1], "program": program}
+
+
+def told(words, problems, sums):
+    """Tells what wasn't right of a share."""
+    for fault, why in problems:
+        sums.wrong.append(f"{name_of(words)}: {fault}: {why}\n    words: {' '.join(words)}")
+        print(sums.wrong[-1], flush=True)
+
+
+def kept(args, sums):
+    """Writes what was tried so far, where a file is named."""
+    if args.summary:
+        sums.write(args.summary, asked_of(args))
+
+
 def tried(runner, args, folder):
-    """Tries all faults of all commands: for each command and kind how many, how they ended, and what wasn't right."""
+    """Tries all faults of all commands of a part; what was tried."""
     part, parts = args.part
     work = shares(args, [*plants(runner, folder), *refused(folder)][part - 1::parts])
-    counts, wholes, wrong, done, ends = {}, {}, 0, 0, time.monotonic() + 60 * args.minutes
+    sums, wholes, ends = Sums(parts=[part]), {}, time.monotonic() + 60 * args.minutes
+    for words, *_ in work:
+        sums.count(command_of(words), {"shares": 1})
+    kept(args, sums)
     with multiprocessing.Pool(args.jobs, begun, (runner.program, runner.library)) as pool:
         for words, whole, row, problems in pool.imap_unordered(share, work):
-            done += 1
-            counts.setdefault(words[0] if is_command(words) else "no command", Counter()).update(row)
+            sums.count(command_of(words), {**row, "tried": 1})
             if whole and wholes.setdefault(tuple(words), whole) != whole:
                 problems.append(("nothing", "it isn't the same each time"))
-            for fault, why in problems:
-                wrong += 1
-                print(f"{name_of(words)}: {fault}: {why}\n    words: {' '.join(words)}", flush=True)
+            told(words, problems, sums)
+            kept(args, sums)
             if args.minutes and time.monotonic() > ends:
-                print(f"broken off: {done} of {len(work)} shares", flush=True)
+                print("broken off", flush=True)
                 break
-    return counts, wrong
+    return sums
 
 
-def table(counts):
-    """What was tried, a row for each command."""
-    print("| Command | Commands | Allocations | of which it went on | Opens | Reads | Writes | Writes of nothing | Short |")
-    print("|---|---|---|---|---|---|---|---|---|")
-    columns = ("commands", "alloc", "went on", "open", "read", "write", "nothing", "short")
-    rows = [(name, counts[name]) for name in (*FILES, "no command") if name in counts]
-    for name, row in [*rows, ("all", sum(counts.values(), Counter()))]:
-        print(f"| {name} | " + " | ".join(f"{row[it]:,}" for it in columns) + " |")
+def by_files(paths):
+    """Adds up what the files of parts have."""
+    sums = Sums()
+    try:
+        with open(paths[0], encoding="utf-8") as file:
+            asked_for = json.load(file)["asked"]
+        for path in paths:
+            sums.add(path, asked_for)
+    except ValueError as error:
+        sys.exit(str(error))
+    print("\n".join([*sums.wrong, f"parts {', '.join(map(str, sorted(sums.parts)))} of {asked_for['parts']}"]))
+    sums.lacking = asked_for["parts"] - len(sums.parts)
+    return sums
 
 
 def kit_judged(kind, whole, answer):
@@ -431,18 +535,19 @@ def main():
     parser.add_argument("--most", type=int, default=0, help="so many faults of a kind for a command; 0: all")
     parser.add_argument("--jobs", type=int, default=os.cpu_count(), help="so many workers")
     parser.add_argument("--minutes", type=float, default=0, help="broken off after so many; 0: never")
+    parser.add_argument("--summary", help="a file for what was tried")
+    parser.add_argument("--sum", nargs="+", help="files of parts, which are added up")
     args = parser.parse_args()
     args.kinds = args.kinds or (tuple(KIT) if args.kit else KINDS)
     if args.kit:
         with tempfile.TemporaryDirectory() as folder:
             sys.exit(1 if by_kits(args, folder) else 0)
-    if not os.access(args.program, os.X_OK) or not shutil.which("cc"):
+    if not args.sum and not (os.access(args.program, os.X_OK) and shutil.which("cc")):
         sys.exit(f"{args.program} is no program, or there is no cc: build it first, or name one by --program")
     with tempfile.TemporaryDirectory() as folder:
-        counts, wrong = tried(Runner(os.path.abspath(args.program), folder), args, folder)
-    table(counts)
-    print(f"{wrong} not right")
-    sys.exit(1 if wrong else 0)
+        sums = by_files(args.sum) if args.sum else tried(Runner(os.path.abspath(args.program), folder), args, folder)
+    print("\n".join(sums.lines()))
+    sys.exit(1 if sums.wrong or not sums.is_all() else 0)
 
 
 if __name__ == "__main__":

@@ -31,8 +31,8 @@ With --try it is the program's text that runs, by `rt try --cases`, which takes 
 begins: the answers are judged one by one.
 
 Each difference is told with its seed and number, behind the hundred inputs that it is one of, and kept in FOLDER. The
-status is 1 where there is one, or an input that is still to be tried again. Where it is ended by a signal, what was tried
-so far is told. FILE has the counts, after each hundred inputs; --sum adds such files up, and writes the runs as a table.
+status is 1 where there is one, or an input that is still to be tried again. Where it is ended by a signal, or one of its
+workers ends, what was tried so far is told. FILE has the counts, after each hundred inputs; --sum adds such files up, and writes the runs as a table.
 """
 
 import argparse
@@ -282,12 +282,14 @@ def by_workers(args, spans):
             workers.append((context.Process(target=work, args=(args, spans[place::args.jobs], sender)), receiver))
             workers[-1][0].start()
             sender.close()
-        for place in range(len(spans)):
-            yield workers[place % args.jobs][1].recv()
+        for place, span in enumerate(spans):
+            try:
+                tally = workers[place % args.jobs][1].recv()
+            except EOFError as ended:
+                raise ChildProcessError(f"a worker ended in the numbers {span[0]} to {span[-1]}") from ended
+            yield tally
         for process, _ in workers:
             process.join()
-    except EOFError:
-        sys.exit("a worker ended before its numbers were tried")
     finally:
         for process, receiver in workers:
             process.terminate()
@@ -340,7 +342,7 @@ def by_program(args):
     """Tries them with a program; how many answers weren't right."""
     end, size = args.begin + args.count, max(1, min(SPAN, -(-args.count // args.jobs)))
     spans = [range(begin, min(begin + size, end)) for begin in range(args.begin, end, size)]
-    whole, behind = Tally(), args.begin
+    whole, behind, ended = Tally(), args.begin, 0
     try:
         with limited():
             for tally in tallies(args, spans):
@@ -351,8 +353,11 @@ def by_program(args):
                 told(args, whole, again(args, late), behind)
     except KeyboardInterrupt:
         print(f"broken off behind number {behind - 1}")
+    except ChildProcessError as why:
+        print(f"broken off behind number {behind - 1}: {why}")
+        ended = 1
     print("\n".join(whole.lines()))
-    return len(whole.wrong) + len(whole.late)
+    return len(whole.wrong) + len(whole.late) + ended
 
 
 def forms_of(source, log):

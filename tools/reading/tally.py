@@ -53,7 +53,8 @@ class Tally:
         for command, ends in self.by_command().items():
             yield f"{command}: " + ", ".join(f"{count:,} with status {status}" for status, count in ends.items())
         if self.again or self.late:
-            yield f"{self.again} tried again alone, {len(self.late)} still to be"
+            numbers = f": {', '.join(map(str, self.late))}" if self.late else ""
+            yield f"{self.again} tried again alone, {len(self.late)} still to be{numbers}"
         yield (f"{self.inputs.total():,} inputs, {self.runs.total():,} runs, {self.compared:,} of them beside another "
                f"implementation: {len(self.wrong)} not right")
 

@@ -2,6 +2,7 @@
 
 import argparse
 import os
+import shutil
 import subprocess
 import tempfile
 import unittest
@@ -54,9 +55,9 @@ class Files(unittest.TestCase):
 class Judged(unittest.TestCase):
     """What is told of a form besides its figures."""
 
-    def told(self, small, large, statuses=(0, 0), form=cost_forms.Form("a", str, 560, 3)):
+    def told(self, small, large, statuses=(0, 0), form=cost_forms.Form("a", str, 560, 3), counted=False):
         costs_of = (costs.Cost(seconds, peak, {status}, b"") for (seconds, peak), status in zip((small, large), statuses))
-        return costs.judged(form, *costs_of)
+        return costs.judged(form, *costs_of, counted)
 
     def test_bounds(self):
         self.assertEqual(self.told((0.5, 1e8), (2.4, 5.5e8)), ([], []))
@@ -65,6 +66,9 @@ class Judged(unittest.TestCase):
                                     ((0.05, 1e8), (0.31, 1e8), "NOT LINEAR"), ((0.5, 1e8), (float("inf"), 1e8), "NOT LINEAR")):
             self.assertIn(above, self.told(small, large)[1], (small, large))
         self.assertEqual(self.told((0.01, 1e8), (0.09, 1e8)), ([], []))
+        for large, above in (((0.047, 1e8), []), ((0.049, 1e8), ["NOT LINEAR"]), ((0.047, 5.7e8), ["ABOVE ITS BOUND"])):
+            self.assertEqual(self.told((0.01, 1e8), large, counted=True)[1], above, large)
+        self.assertEqual(self.told((1, 1e8), (4.7, 1e8), counted=True)[1], [])
 
     def test_statuses(self):
         refused = cost_forms.Form("a", str, 560, 3, cost_forms.REFUSED)
@@ -80,9 +84,17 @@ class Judged(unittest.TestCase):
                 file.write(f"#!/bin/sh\nif [ -e {folder}/once ]; then while :; do :; done; fi\ntouch {folder}/once\nexit 7\n")
             os.chmod(program, 0o755)
             form = cost_forms.Form("a", lambda count: "a" * count, 560, 3)
-            args = argparse.Namespace(command="check", program=program, runs=2, seconds=1)
+            args = argparse.Namespace(command="check", program=program, runs=2, seconds=1, instructions=False)
             cost = costs.measured(args, folder, form, 100)
             self.assertEqual((cost.seconds, cost.statuses, cost.said), (float("inf"), {7}, b"broken off"))
+
+    @unittest.skipUnless(shutil.which(costs.COUNTER[0]), "needs valgrind")
+    def test_instructions(self):
+        """A program that does nothing takes few, and those of a longer loop are more."""
+        counts = [costs.instructions(["sh", "-c", f"i=0; while [ $i -lt {many} ]; do i=$((i+1)); done"])[0] for many in (0, 1000, 2000)]
+        self.assertEqual(costs.instructions(["sh", "-c", "exit 3"])[1], 3)
+        self.assertLess(counts[0], 0.1)
+        self.assertLess(abs((counts[2] - counts[1]) / (counts[1] - counts[0]) - 1), 0.2)
 
     def test_names_alone(self):
         status, out, _ = tool.run("costs.py", "check", "--names", "--only", "BEGINs", "--only", "one CASE")

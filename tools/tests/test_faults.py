@@ -11,6 +11,7 @@ from collections import Counter
 
 import tool
 import faults
+from reading import damage
 from reading.answers import Answer, disagreement, gone_on, is_command, leaves, refused_name, unlawful
 
 PLANT, JOURNAL = tool.data("crossing.pearl"), tool.data("crossing.journal")
@@ -79,6 +80,34 @@ class Faults(unittest.TestCase):
             if not does:
                 self.assertEqual({kind: tried[kind] for kind in faults.KINDS}, dict(all_of))
             self.assertEqual(len({repr(whole) for _, whole, _, _ in made}), 1)
+
+    def test_parts_are_added_up(self):
+        """What was tried and what wasn't right of parts together is that of the whole; no part is added twice, nor one of others."""
+        with tempfile.TemporaryDirectory() as folder:
+            files = [os.path.join(folder, str(number)) for number in range(4)]
+            words = ("--program", self.program, "--only", "check plant", "--jobs", "2")
+            for part, file in zip(("1/1", "1/2", "2/2", "2/3"), files):
+                status, out, _ = tool.run("faults.py", *words, "--part", part, "--summary", file, variables={"WRONG": "ends"})
+                self.assertEqual(status, int("\n| check |" in out), out)
+            whole, parts = (tool.run("faults.py", "--sum", *it) for it in (files[:1], files[1:3]))
+            self.assertEqual((whole[0], whole[2]), (1, ""))
+            told = parts[1].replace("parts 1, 2 of 2", "parts 1 of 1")
+            self.assertEqual((sorted(told.splitlines()), parts[2]), (sorted(whole[1].splitlines()), ""))
+            self.assertIn("\ncheck plant.pearl: ", "\n" + whole[1])
+            self.assertRegex(whole[1], r"\n\| check \| 1 \| 3 \| .* \| 16 of 16 \|\n\| all \| 1 \| .*\n\d+ runs, \d+ not right\n$")
+            self.assertRegex(tool.run("faults.py", "--sum", files[1])[1], r"\nparts 1 of 2\n(.*\n)+.* not right, and some weren't tried\n$")
+            for wrong, why in (([files[1], files[1]], "has a part again"), ([files[1], files[3]], "is of other faults")):
+                self.assertRegex(tool.run("faults.py", "--sum", *wrong)[0], why)
+
+    def test_journals_of_monitors(self):
+        """They have as many lines, and less time passes."""
+        with tempfile.TemporaryDirectory() as folder:
+            for log in glob.glob(tool.data("*.journal")):
+                with open(log, "rb") as file, open(faults.shortened(os.path.join(folder, "object"), log), "rb") as short:
+                    lines, shorter = file.read().splitlines(), short.read().splitlines()
+                self.assertEqual([line.split()[:1] for line in shorter], [line.split()[:1] for line in lines][:damage.MOST_LINES])
+                passing = [sum(int(line.split()[1]) for line in it if line.startswith(b"pass ")) for it in (lines, shorter)]
+                self.assertLessEqual(passing[1], min(passing[0], 11 * damage.MOST))
 
     def test_first_shares_come_first(self):
         args = argparse.Namespace(only="check", kinds=("read",), most=3)

@@ -97,6 +97,18 @@ class Hostile(unittest.TestCase):
         self.assertEqual(status, 1)
         self.assertIn("seed 1 number 1, snapshot: 'resume snapshot rest': it didn't end in time", out)
 
+    def test_a_worker_that_ends(self):
+        """The numbers in which it ended are told, and what was tried so far, with a status."""
+        with tempfile.TemporaryDirectory() as folder:
+            words = [sys.executable, os.path.join(tool.TOOLS, "hostile.py"), "--program", PROGRAM, "--count", "8", "--jobs", "2"]
+            done = subprocess.run(words, env={**os.environ, "WRONG": "parent", "TMPDIR": folder}, stdout=subprocess.PIPE, check=False)
+        self.assertEqual(done.returncode, 1)
+        self.assertRegex(done.stdout, rb"^broken off behind number 0: a worker ended in the numbers 1 to 4\ninputs: \n0 inputs, 0 runs, ")
+
+    def test_late_numbers_are_told(self):
+        late = tally.Tally(late=[5, 17])
+        self.assertIn("0 tried again alone, 2 still to be: 5, 17", list(late.lines()))
+
     def test_a_signal_breaks_off(self):
         """What was tried so far is told, and no file is left."""
         with tempfile.TemporaryDirectory() as folder:
